@@ -1,0 +1,36 @@
+# make demo      lists the Baudot codes of a line of text; another line: make demo TEXT='GA TO YOU'
+# make test      the gate: every proof and every test, from nothing
+# make lib       target/staticlib/libbaudot.a, for hosts in C
+# make bench     speed of the engine beside the reference
+# make vectors   rewrites the expected table listing from the reference
+#
+# Needs rt, gcc and cargo, and no network. No target needs another one first.
+
+TEXT = HELLO 73
+export TEXT
+
+export CARGO_TARGET_DIR = $(CURDIR)/target/cargo
+export CQ_LIB_DIR = $(CURDIR)/target/staticlib
+CARGO_BUILD = cd reference && cargo build --offline --release --locked
+
+.PHONY: demo test lib bench vectors
+
+demo:
+	rt check baudot_list
+	@printf 'Baudot codes of "%s":\n' "$$TEXT"
+	@printf '%s' "$$TEXT" | target/bin/baudot_list
+
+test:
+	.ci/run
+
+lib:
+	rt staticlib baudot
+
+bench: lib
+	$(CARGO_BUILD) --all-features --bin bench
+	target/cargo/release/bench
+
+vectors:
+	$(CARGO_BUILD) --bin tables
+	target/cargo/release/tables >target/tables
+	cp target/tables crates/alphabet_tables/stdout

@@ -1,0 +1,170 @@
+-- What the packed entries say.
+use mathlib.Core.Path.{_≡_, _∙_, refl, sym, ap, subst}
+use mathlib.Core.Bool.{Bool, true, false, cond, _&&_}
+use mathlib.Core.List.{List, [], _∷_, _++_}
+use Prim.Native.Nat.{ℕ, zero, suc, _+_, _*_, _-_, _/_, _%_, _<_, _≤_}
+use native.Mathlib.Omega.{arith}
+use lib.Dec.{T, eqb, ltb, ltb→lt}
+use lib.ListN.{length, getD}
+use borrow.Author.Tests.{ne-eqb, lt-ltb, le-ltb, eqb-true, eqb-false}
+use Rattle.lists.specs.Tables.{passes}
+use Rattle.lists.proofs.Tables.{both-left, both-right, passes-at}
+use Rattle.alphabet.specs.declared.Alphabet.{Alphabet}
+use Rattle.alphabet.specs.declared.Alphabet.the-variants.{Baudot, Dtmf, Edt}
+use Rattle.alphabet.specs.declared.LineCode.{LineCode}
+use Rattle.alphabet.specs.declared.Sends.{Sends}
+use Rattle.alphabet.specs.declared.Sends.the-variants.{Nothing, Code}
+use Rattle.alphabet.specs.declared.Reads.{Reads}
+use Rattle.alphabet.specs.declared.Reads.the-variants.{Character, Shift, NoRow}
+use Rattle.alphabet.specs.Print.{leftRows, rightRows, rows, bitsFrom, bits, keys}
+use Rattle.alphabet.specs.TableA1.{a1}
+use Rattle.alphabet.specs.TableB1.{b1}
+use Rattle.alphabet.specs.Baudot.{printedAt, readBaudot}
+use Rattle.alphabet.specs.Dtmf.{withMark, codeFrom, prefixes, keysOf, marksThenDigit, among, notStruck, remaining, names, firstSign, named, readIn, readDtmf}
+use Rattle.alphabet.specs.Normal.{sends}
+use Rattle.alphabet.specs.Packing.{base, packed, entryAt, column, packedRead, unpacked, baudotAt, dtmfAt, keyAt}
+use Rattle.alphabet.proofs.Rule.{leastShift, codes, ReadBack, entry-place, rule-of}
+
+-- the entry of a character
+pub entry-of : (a : Alphabet) (c : ℕ) → c < 128 → entryAt (base a + c) ≡ packed (sends a c)
+unfolding entryAt
+entry-of a c h = entry-place (λ b d. packed (sends b d)) a c h
+
+shifts-fit : (a : Alphabet) → 1 ≤ leastShift a
+shifts-fit Baudot = omega arith
+shifts-fit Dtmf = omega arith
+shifts-fit Edt = omega arith
+
+-- an entry below 256 sends nothing
+pub packed-nothing : (a : Alphabet) (c : ℕ) → c < 128 → packed (sends a c) < 256 → sends a c ≡ Nothing
+packed-nothing a c h g = go (sends a c) refl g
+  where
+    go : (x : Sends) → sends a c ≡ x → packed x < 256 → x ≡ Nothing
+    go Nothing e g = refl
+    go (Code s k) e g =
+        let f = shifts-fit a in
+        let b = rule-of a c h s k e .shift-least in
+        absurd (omega arith)
+
+codes-fit : (a : Alphabet) → codes a ≤ 256
+codes-fit Baudot = omega arith
+codes-fit Dtmf = omega arith
+codes-fit Edt = omega arith
+
+-- any other holds its shift and its code
+pub packed-code : (a : Alphabet) (c : ℕ) → c < 128 → 256 ≤ packed (sends a c)
+    → sends a c ≡ Code (packed (sends a c) / 256) (record { 0 = packed (sends a c) % 256 })
+packed-code a c h g = go (sends a c) refl g
+  where
+    go : (x : Sends) → sends a c ≡ x → 256 ≤ packed x → x ≡ Code (packed x / 256) (record { 0 = packed x % 256 })
+    go Nothing e g = absurd (omega arith)
+    go (Code s k) e g =
+        let f = codes-fit a in
+        let b = rule-of a c h s k e .code-in in
+        let p : s ≡ (256 * s + k .0) / 256 = omega arith in
+        let q : k .0 ≡ (256 * s + k .0) % 256 = omega arith in
+        λ i. Code (p i) (record { 0 = q i })
+
+-- what the lookup makes of an entry e, found at b + c
+module _ (a : Alphabet) (c b e : ℕ) (h : c < 128) (at-base : b ≡ base a) (found : e ≡ entryAt (b + c)) where
+  entry-is : e ≡ packed (sends a c)
+  entry-is = found ∙ ap (λ (n : ℕ). entryAt (n + c)) at-base ∙ entry-of a c h
+
+  pub lookup-nothing : e < 256 → Nothing ≡ sends a c
+  lookup-nothing g = sym (packed-nothing a c h (subst (λ (n : ℕ). n < 256) entry-is g))
+
+  pub lookup-code : 256 ≤ e → Code (e / 256) (record { 0 = e % 256 }) ≡ sends a c
+  lookup-code g = rw entry-is (sym (packed-code a c h (subst (λ (n : ℕ). 256 ≤ n) entry-is g)))
+
+-- a reading that can be packed: its character is below 128, its shift below 127
+abbrev pub packable : Reads → Bool
+packable (Character c) = ltb (c .0) 128
+packable (Shift s) = ltb s 127
+packable NoRow = true
+
+pub unpack-packed : (r : Reads) → T (packable r) → unpacked (packedRead r) ≡ r
+unpack-packed (Character c) t = simp (lt-ltb (c .0) 128 (ltb→lt (c .0) 128 t))
+unpack-packed (Shift s) t =
+    let h = ltb→lt s 127 t in
+    let a : ltb (128 + s) 128 ≡ false = le-ltb (128 + s) 128 (omega arith) in
+    let b : eqb (128 + s) 255 ≡ false = ne-eqb (128 + s) 255 (λ (e : 128 + s ≡ 255). omega arith) in
+    let d : 128 + s - 128 ≡ s = omega arith in
+    simp (a, b, d)
+unpack-packed NoRow t = refl
+
+baudot-test : T (passes (λ (i : ℕ). packable (readBaudot (1 + i / 32) (i % 32))) 64 0)
+unfolding passes bits bitsFrom leftRows rightRows a1 printedAt readBaudot
+baudot-test = tt
+
+dtmf-test : T (passes (λ (i : ℕ). packable (readDtmf i)) 256 0)
+unfolding passes leftRows rightRows rows b1 keys withMark codeFrom marksThenDigit among notStruck remaining names firstSign named readIn readDtmf
+dtmf-test = tt
+
+pub dtmf-read : (i : ℕ) → i < 256 → unpacked (dtmfAt i) ≡ readDtmf i
+unfolding dtmfAt
+dtmf-read i h = unpack-packed (readDtmf i) (passes-at (λ (k : ℕ). packable (readDtmf k)) 256 dtmf-test i h)
+
+-- a shift other than figures reads as letters
+pub reads-letters : (s k : ℕ) → (s ≡ 2 → ⊥) → readBaudot s k ≡ readBaudot 1 k
+unfolding readBaudot
+reads-letters s k n = simp (ne-eqb s 2 n)
+
+baudot-at : (i : ℕ) → i < 64 → unpacked (baudotAt i) ≡ readBaudot (1 + i / 32) (i % 32)
+unfolding baudotAt
+baudot-at i h =
+    unpack-packed (readBaudot (1 + i / 32) (i % 32)) (passes-at (λ (k : ℕ). packable (readBaudot (1 + k / 32) (k % 32))) 64 baudot-test i h)
+
+pub column-below : (s k : ℕ) → k < 32 → column s + k < 64
+column-below s k h = go (eqb s 2)
+  where
+    go : (b : Bool) → cond b 32 0 + k < 64
+    go true = omega arith
+    go false = omega arith
+
+pub baudot-read : (s k : ℕ) → k < 32 → unpacked (baudotAt (column s + k)) ≡ readBaudot s k
+baudot-read s k h = go (eqb s 2) refl
+  where
+    go : (b : Bool) → eqb s 2 ≡ b → unpacked (baudotAt (cond b 32 0 + k)) ≡ readBaudot s k
+    go true e =
+        let d : 1 + (32 + k) / 32 ≡ 2 = omega arith in
+        let m : (32 + k) % 32 ≡ k = omega arith in
+        baudot-at (32 + k) (omega arith) ∙ (simp (d, m, eqb-true s 2 e))
+    go false e =
+        let d : 1 + (0 + k) / 32 ≡ 1 = omega arith in
+        let m : (0 + k) % 32 ≡ k = omega arith in
+        baudot-at (0 + k) (omega arith) ∙ (simp (d, m)) ∙ sym (reads-letters s k (eqb-false s 2 e))
+
+unfoldable allMarks : List ℕ → Bool
+allMarks [] = true
+allMarks (k ∷ ks) = ltb k 255 && allMarks ks
+
+-- the digit stands where a prefix that ends in 255 has its 255
+digit-place : (ms : List ℕ) → T (allMarks ms) → (d j : ℕ)
+    → cond (eqb (getD (ms ++ 255 ∷ []) j 0) 255) d (getD (ms ++ 255 ∷ []) j 0) ≡ getD (ms ++ d ∷ []) j 0
+unfolding allMarks
+digit-place [] t d zero = refl
+digit-place [] t d (suc j) = refl
+digit-place (m ∷ ms) t d zero =
+    let h = ltb→lt m 255 (both-left (ltb m 255) (allMarks ms) t) in
+    simp (ne-eqb m 255 (λ (e : m ≡ 255). omega arith))
+digit-place (m ∷ ms) t d (suc j) = digit-place ms (both-right (ltb m 255) (allMarks ms) t) d j
+
+marks-test : T (passes (λ (p : ℕ). allMarks (keys (getD prefixes p ""))) 16 0)
+unfolding passes keys prefixes allMarks
+marks-test = tt
+
+pub key-of : (n j : ℕ) → n < 256 → j < 4 → cond (eqb (keyAt (n / 16 * 4 + j)) 255) (n % 16) (keyAt (n / 16 * 4 + j)) ≡ getD (keysOf n) j 0
+unfolding keyAt keysOf
+key-of n j h g =
+    let d : (n / 16 * 4 + j) / 4 ≡ n / 16 = omega arith in
+    let m : (n / 16 * 4 + j) % 4 ≡ j = omega arith in
+    simp (d, m)
+    (digit-place (keys (getD prefixes (n / 16) "")) (passes-at (λ (p : ℕ). allMarks (keys (getD prefixes p ""))) 16 marks-test (n / 16) (omega arith)) (n % 16) j)
+
+-- what the lookup of a key makes of an entry e
+module _ (n j e : ℕ) (h : n < 256) (g : j < 4) (found : e ≡ keyAt (n / 16 * 4 + j)) where
+  pub key-digit : e ≡ 255 → n % 16 ≡ getD (keysOf n) j 0
+  key-digit d = simp (sym found ∙ d) at (key-of n j h g)
+
+  pub key-mark : (e ≡ 255 → ⊥) → e ≡ getD (keysOf n) j 0
+  key-mark d = found ∙ simp (ne-eqb (keyAt (n / 16 * 4 + j)) 255 (λ (q : keyAt (n / 16 * 4 + j) ≡ 255). d (found ∙ q))) at (key-of n j h g)

@@ -1,0 +1,25 @@
+-- `table::baudot_entry` meets its contract: the table is what the definition gives at each place.
+use borrow.Author.Needs.{needs}
+use Rattle.alphabet.specs.Print.{leftRows, rightRows, rows, bitsFrom, bits, keys}
+use Rattle.alphabet.specs.TableA1.{a1}
+use Rattle.alphabet.specs.TableA2.{a2}
+use Rattle.alphabet.specs.TableB1.{b1}
+use Rattle.alphabet.specs.TableB2.{b2}
+use Rattle.alphabet.specs.Baudot.{printedAt, readBaudot, sendBaudot}
+use Rattle.alphabet.specs.Dtmf.{withMark, codeFrom, marksThenDigit, among, notStruck, remaining, names, firstSign, named, readIn, readDtmf, sendIn, hasRow, sendFrom, sendDtmf}
+use Rattle.alphabet.specs.Normal.{sends}
+use Rattle.lists.specs.Tables.{tabulate}
+use Rattle.lists.proofs.Tables.{tabulate-at}
+use Rattle.alphabet.specs.Packing.{baudotAt}
+use Rattle.alphabet.proofs.table.baudot_entry.Statement.{statement}
+use Rattle.alphabet.proofs.table.baudot_entry.Tie as tie
+
+array-read-result : tie.Need-array-read-result
+array-read-result c = search needs
+
+returns : tie.Need-returns
+unfolding tabulate baudotAt sends bits bitsFrom leftRows rightRows rows a1 a2 b1 b2 printedAt readBaudot sendBaudot keys withMark codeFrom marksThenDigit among notStruck remaining names firstSign named readIn readDtmf sendIn hasRow sendFrom sendDtmf
+returns c = tabulate-at baudotAt 0 64 (c .args .at) (c .pre)
+
+pub baudot-entry-spec : {M : Type 1} → statement M
+baudot-entry-spec = tie.close (tie.spec array-read-result returns)

@@ -1,0 +1,28 @@
+-- `table::entry` meets its contract: the table is what the definition gives at each place.
+use borrow.Author.Needs.{needs}
+use Rattle.alphabet.specs.Print.{leftRows, rightRows, rows, bitsFrom, bits, keys}
+use Rattle.alphabet.specs.TableA1.{a1}
+use Rattle.alphabet.specs.TableA2.{a2}
+use Rattle.alphabet.specs.TableB1.{b1}
+use Rattle.alphabet.specs.TableB2.{b2}
+use Rattle.alphabet.specs.Baudot.{printedAt, readBaudot, sendBaudot}
+use Rattle.alphabet.specs.Dtmf.{withMark, codeFrom, marksThenDigit, among, notStruck, remaining, names, firstSign, named, readIn, readDtmf, sendIn, hasRow, sendFrom, sendDtmf}
+use Rattle.alphabet.specs.Normal.{sends}
+use Rattle.lists.specs.Tables.{tabulate}
+use Rattle.lists.proofs.Tables.{tabulate-at}
+use Rattle.alphabet.specs.Packing.{entryAt}
+use Rattle.alphabet.proofs.table.entry.Statement.{statement}
+use Rattle.alphabet.proofs.table.entry.Tie as tie
+
+mul-result : tie.Need-mul-result
+mul-result c = search needs
+
+array-read-result : tie.Need-array-read-result
+array-read-result c = search needs
+
+returns : tie.Need-returns
+unfolding tabulate entryAt sends bits bitsFrom leftRows rightRows rows a1 a2 b1 b2 printedAt readBaudot sendBaudot keys withMark codeFrom marksThenDigit among notStruck remaining names firstSign named readIn readDtmf sendIn hasRow sendFrom sendDtmf
+returns c = tabulate-at entryAt 0 384 (c .args .at) (c .pre)
+
+pub entry-spec : {M : Type 1} → statement M
+entry-spec = tie.close (tie.spec mul-result array-read-result returns)

@@ -1,0 +1,10 @@
+pub mod Print
+pub mod TableA1
+pub mod TableA2
+pub mod TableB1
+pub mod TableB2
+pub mod Modes
+pub mod Baudot
+pub mod Dtmf
+pub mod Normal
+pub mod Packing

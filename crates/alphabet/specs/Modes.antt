@@ -1,0 +1,39 @@
+-- Document 01, "Four modes": each mode brings its element length, its preamble (there: lead) and its alphabet.
+use Prim.Native.Nat.{ℕ}
+use mathlib.Core.Bool.{cond}
+use lib.Dec.{eqb}
+use Rattle.alphabet.specs.declared.Mode.{Mode}
+use Rattle.alphabet.specs.declared.Mode.the-variants.{Baudot45, Baudot50, Dtmf, Edt}
+use Rattle.alphabet.specs.declared.Alphabet.{Alphabet}
+use Rattle.alphabet.specs.declared.Alphabet.the-variants.{Baudot as baudot, Dtmf as dtmf, Edt as edt}
+
+-- 1 Baudot at 45.45 bit/s, 2 Baudot at 50 bit/s, 3 DTMF, 4 EDT.
+abbrev pub modeNumber : Mode → ℕ
+modeNumber Baudot45 = 1
+modeNumber Baudot50 = 2
+modeNumber Dtmf = 3
+modeNumber Edt = 4
+
+-- The mode of a number; a number that is no mode's gives mode 1 (question 2).
+abbrev pub modeOf : ℕ → Mode
+modeOf n = cond (eqb n 2) Baudot50 (cond (eqb n 3) Dtmf (cond (eqb n 4) Edt Baudot45))
+
+-- "Line signal": a Baudot element in ms. DTMF has no elements, and those of EDT are no whole ms: 0.
+abbrev pub elementOf : Mode → ℕ
+elementOf Baudot45 = 22
+elementOf Baudot50 = 20
+elementOf Dtmf = 0
+elementOf Edt = 0
+
+-- "The station's turn": the ms of the preamble. EDT: C.1's figure.
+abbrev pub preambleOf : Mode → ℕ
+preambleOf Baudot45 = 150
+preambleOf Baudot50 = 150
+preambleOf Dtmf = 0
+preambleOf Edt = 300
+
+abbrev pub alphabetOf : Mode → Alphabet
+alphabetOf Baudot45 = baudot
+alphabetOf Baudot50 = baudot
+alphabetOf Dtmf = dtmf
+alphabetOf Edt = edt

@@ -1,0 +1,56 @@
+-- How the tables of this crate hold their entries. Nothing above the crate cites this file.
+use Prim.Native.Nat.{ℕ, _+_, _*_, _-_, _/_, _%_}
+use mathlib.Core.Bool.{cond}
+use mathlib.Core.List.{List, [], _∷_, _++_}
+use lib.Dec.{eqb, ltb}
+use lib.ListN.{getD}
+use Rattle.alphabet.specs.declared.Alphabet.{Alphabet}
+use Rattle.alphabet.specs.declared.Alphabet.the-variants.{Baudot, Dtmf, Edt}
+use Rattle.alphabet.specs.declared.Sends.{Sends}
+use Rattle.alphabet.specs.declared.Sends.the-variants.{Nothing, Code}
+use Rattle.alphabet.specs.declared.Reads.{Reads}
+use Rattle.alphabet.specs.declared.Reads.the-variants.{Character, Shift, NoRow}
+use Rattle.alphabet.specs.Baudot.{readBaudot}
+use Rattle.alphabet.specs.Dtmf.{readDtmf, prefixes}
+use Rattle.alphabet.specs.Print.{keys}
+use Rattle.alphabet.specs.Normal.{sends}
+
+-- where an alphabet's entries begin
+abbrev pub base : Alphabet → ℕ
+base Baudot = 0
+base Dtmf = 128
+base Edt = 256
+
+-- the alphabet that has the entries from 128 n on
+abbrev pub alphabetAt : ℕ → Alphabet
+alphabetAt n = cond (eqb n 0) Baudot (cond (eqb n 1) Dtmf Edt)
+
+abbrev pub packed : Sends → ℕ
+packed Nothing = 0
+packed (Code shift code) = 256 * shift + code .0
+
+-- the entry at a place
+unfoldable pub entryAt : ℕ → ℕ
+entryAt i = packed (sends (alphabetAt (i / 128)) (i % 128))
+
+-- where the codes of a shift begin
+abbrev pub column : ℕ → ℕ
+column shift = cond (eqb shift 2) 32 0
+
+abbrev pub packedRead : Reads → ℕ
+packedRead (Character c) = c .0
+packedRead (Shift s) = 128 + s
+packedRead NoRow = 255
+
+abbrev pub unpacked : ℕ → Reads
+unpacked e = cond (ltb e 128) (Character (record { 0 = e })) (cond (eqb e 255) NoRow (Shift (e - 128)))
+
+unfoldable pub baudotAt : ℕ → ℕ
+baudotAt i = packedRead (readBaudot (1 + i / 32) (i % 32))
+
+unfoldable pub dtmfAt : ℕ → ℕ
+dtmfAt i = packedRead (readDtmf i)
+
+-- the keys of a prefix, four places to each, with 255 for the digit
+unfoldable pub keyAt : ℕ → ℕ
+keyAt i = getD (keys (getD prefixes (i / 4) "") ++ 255 ∷ []) (i % 4) 0

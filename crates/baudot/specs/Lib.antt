@@ -1,0 +1,4 @@
+pub mod Sending
+pub mod Reading
+pub mod Entries
+pub mod Listing

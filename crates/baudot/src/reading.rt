@@ -1,0 +1,1 @@
+// Codes to text: reading by Table A.1.

@@ -1,0 +1,1 @@
+// Definitions and laws on tests, lists and tables that several crates cite. No function.

@@ -1,0 +1,156 @@
+/*
+ * cuyrapaq.h: the C interface of the Cuyrapaq textphone line engine.
+ *
+ * Two entries convert text to five-bit Baudot codes (ITU-T V.18, Annex A) and back. Each works on
+ * slices that the host lends for the call: a pointer and a number of elements. The engine uses no heap,
+ * keeps nothing between calls and calls nothing back. Several threads may call it at the same time, each
+ * with its own slice to be written.
+ *
+ * Link libbaudot.a (x86-64, System V calling convention).
+ */
+#ifndef CUYRAPAQ_H
+#define CUYRAPAQ_H
+
+#include <stddef.h>
+#include <stdint.h>
+
+#ifdef __cplusplus
+extern "C" {
+#endif
+
+/*
+ * The shift: which half of the code table is in force. The line carries codes alone, and the same code
+ * is another character in the other shift, so a host keeps the shift from call to call.
+ */
+#define CQ_SHIFT_FRESH   0 /* a sender that has sent nothing yet; for sending alone */
+#define CQ_SHIFT_LETTERS 1 /* letters (LTRS); a reader starts here */
+#define CQ_SHIFT_FIGURES 2 /* figures (FIGS) */
+
+/* After this many characters without a shift code the sender repeats the shift in force. */
+#define CQ_CHARACTERS_PER_SHIFT 72
+
+/*
+ * Answers. 0 is success, any other number is the reason of a refusal. The numbers are the same for all
+ * entries of the engine; the entries below give 0, 1, 3, 9 and 10.
+ */
+#define CQ_OK                       0
+#define CQ_REFUSED_STATE            1 /* a number of the state is out of range (here: shift or count) */
+#define CQ_REFUSED_MODE             2 /* the mode is not 1 to 4 */
+#define CQ_REFUSED_CHARACTER        3 /* a byte of the text is above 127 */
+#define CQ_REFUSED_FULL             4 /* no space for all characters that send something */
+#define CQ_REFUSED_DURATION         5 /* more than 4,096 ms in one call */
+#define CQ_REFUSED_HEARD            6 /* a heard ms is no value of the mode */
+#define CQ_REFUSED_SENT_SLICE       7 /* the slice for sent ms is shorter than the heard one */
+#define CQ_REFUSED_WORD_SLICE       8 /* the slice for output words is shorter than the heard one */
+#define CQ_REFUSED_RESULT_SLICE     9 /* the slice for the result is shorter than this result */
+#define CQ_REFUSED_CODE            10 /* a code is above 31 */
+#define CQ_REFUSED_TONE            11 /* a heard tone is above 11 */
+#define CQ_REFUSED_CALLING_STATE   12 /* a number of the calling set's state is out of range */
+
+/* What cq_baudot_send gives back. */
+typedef struct cq_baudot_sent {
+    uint8_t answer; /* CQ_OK or a refusal */
+    uint8_t shift;  /* the shift reached; after a refusal the shift given */
+    uint8_t count;  /* characters since the last shift code, 0 to 72; after a refusal the count given */
+    size_t length;  /* codes written; after a refusal 0 */
+} cq_baudot_sent;
+
+/* What cq_baudot_read gives back. */
+typedef struct cq_baudot_text {
+    uint8_t answer; /* CQ_OK or a refusal */
+    uint8_t shift;  /* the shift reached; after a refusal the shift given */
+    size_t length;  /* characters written; after a refusal 0 */
+} cq_baudot_text;
+
+/*
+ * The longest possible result of sending n characters: one shift code ahead of each, and one more
+ * from a fresh sender. The longest possible result of reading n codes: none is a shift code.
+ */
+#define CQ_BAUDOT_CODES_MAX(n) (2 * (size_t)(n) + 1)
+#define CQ_BAUDOT_TEXT_MAX(n)  ((size_t)(n))
+
+/*
+ * Both entries:
+ * - Each pointer leads to as many bytes as the length beside it says, or more.
+ * - The two slices must not overlap.
+ * - A slice of length 0 may have any pointer that is not a null pointer.
+ * - The slice read from is never written. Of the slice written to, the first `length` elements are the
+ *   result; everything behind them stays as it was.
+ * - Nothing is written unless the answer is CQ_OK.
+ */
+
+/*
+ * Converts text to codes.
+ *
+ * text, text_length    the characters, one T.50 character of seven bits (00 to 7F) in each byte
+ * shift                CQ_SHIFT_FRESH, or the shift that the last call gave back
+ * count                the count that the last call gave back, 0 to 72; with CQ_SHIFT_FRESH any number from
+ *                      0 to 72 will do, and it changes no code
+ * codes, codes_length  where the codes go, one five-bit code in each byte, 0 to 31; the rightmost digit of
+ *                      a code as V.18 prints it is bit 0
+ *
+ * A fresh sender sends 11111 (letters) ahead of the first character. Before each character the sender
+ * puts the shift code of that character if its shift differs from the one in force, or the shift code
+ * in force if 72 characters have gone since the last shift code. Shift codes are not counted.
+ * BACKSPACE, LF, SPACE and CR have one code in both shifts and never change it. Characters 00 to 07,
+ * 0E to 19, 1B and 7F send nothing. Capital and lower-case letters are sent alike, and some signs are
+ * sent as a similar one: see docs/ANNEXES.md.
+ *
+ * CQ_OK: `codes` begins with `length` codes; `shift` and `count` are those reached. Handing them to the
+ * next call continues the text, and the codes are the same as from one call on the whole text. A text
+ * that sends nothing gives back the shift and the count it came with, also CQ_SHIFT_FRESH.
+ *
+ * Refusals, asked in this order; the first that applies is the answer:
+ *   CQ_REFUSED_STATE         (1)  shift is above 2, or count is above 72
+ *   CQ_REFUSED_CHARACTER     (3)  a byte of text is above 127
+ *   CQ_REFUSED_RESULT_SLICE  (9)  codes_length is less than the number of codes of this very text;
+ *                                 CQ_BAUDOT_CODES_MAX(text_length) is always enough
+ * Each leaves `codes` as it was and gives back the shift and the count given, and length 0.
+ */
+cq_baudot_sent cq_baudot_send(const uint8_t *text, size_t text_length, uint8_t shift, uint8_t count,
+                              uint8_t *codes, size_t codes_length);
+
+/*
+ * Converts codes to text.
+ *
+ * codes, codes_length  the codes as heard, one five-bit code in each byte, 0 to 31
+ * shift                CQ_SHIFT_LETTERS at the start, then the shift that the last call gave back
+ * text, text_length    where the characters go, one T.50 character of seven bits in each byte
+ *
+ * The codes 11111 and 11011 select letters and figures and give no character; every other code gives
+ * one. In figures the code 00101 gives the character NULL (00), so the text is counted by `length` and
+ * not ended by a zero byte.
+ *
+ * CQ_OK: `text` begins with `length` characters; `shift` is the one reached. Handing it to the next
+ * call continues, and the text is the same as from one call on all codes.
+ *
+ * Refusals, asked in this order; the first that applies is the answer:
+ *   CQ_REFUSED_STATE         (1)  shift is neither 1 nor 2
+ *   CQ_REFUSED_CODE         (10)  a code is above 31
+ *   CQ_REFUSED_RESULT_SLICE  (9)  text_length is less than the number of characters of these very codes;
+ *                                 CQ_BAUDOT_TEXT_MAX(codes_length) is always enough
+ * Each leaves `text` as it was and gives back the shift given, and length 0.
+ */
+cq_baudot_text cq_baudot_read(const uint8_t *codes, size_t codes_length, uint8_t shift, uint8_t *text,
+                              size_t text_length);
+
+/* Checked when the host is compiled: the structs are laid out as in the library. */
+#if defined(__cplusplus) && __cplusplus >= 201103L
+static_assert(sizeof(size_t) == 8, "size_t has 8 bytes");
+static_assert(sizeof(cq_baudot_sent) == 16, "cq_baudot_sent has 16 bytes");
+static_assert(offsetof(cq_baudot_sent, length) == 8, "length stands at byte 8");
+static_assert(sizeof(cq_baudot_text) == 16, "cq_baudot_text has 16 bytes");
+static_assert(offsetof(cq_baudot_text, length) == 8, "length stands at byte 8");
+#else
+typedef char cq_check_size_t[sizeof(size_t) == 8 ? 1 : -1];
+typedef char cq_check_baudot_sent[sizeof(cq_baudot_sent) == 16 ? 1 : -1];
+typedef char cq_check_baudot_sent_length[offsetof(cq_baudot_sent, length) == 8 ? 1 : -1];
+typedef char cq_check_baudot_text[sizeof(cq_baudot_text) == 16 ? 1 : -1];
+typedef char cq_check_baudot_text_length[offsetof(cq_baudot_text, length) == 8 ? 1 : -1];
+#endif
+
+#ifdef __cplusplus
+}
+#endif
+
+#endif

@@ -1,0 +1,10 @@
+//! Tells the linker where the engine's libbaudot.a is. Only `differential` and `bench` link it.
+
+fn main() {
+    println!("cargo:rerun-if-changed=build.rs");
+    println!("cargo:rerun-if-env-changed=CQ_LIB_DIR");
+    if let Ok(folder) = std::env::var("CQ_LIB_DIR") {
+        println!("cargo:rustc-link-search=native={folder}");
+        println!("cargo:rerun-if-changed={folder}/libbaudot.a");
+    }
+}

@@ -1,0 +1,342 @@
+/*
+ * Calls both entries through the header: the worked examples, every refusal and what it leaves,
+ * empty slices, slices that fit exactly, and the bytes around the result. Prints what failed.
+ */
+#include "cuyrapaq.h"
+
+#include <stdio.h>
+#include <string.h>
+
+#define ROOM 12000  /* elements of the largest slice here */
+#define GUARD 16    /* bytes of the pattern ahead of a slice and behind it */
+#define PATTERN(i) ((uint8_t)(0xA5u ^ (unsigned)(i) * 37u))
+
+static unsigned long checks, failures;
+
+static void check(int holds, const char *what, const char *which)
+{
+    checks++;
+    if (!holds) {
+        failures++;
+        printf("header: %s: %s\n", which, what);
+    }
+}
+
+/* The slice that is written to stands in the middle of a pattern. */
+static uint8_t area[GUARD + ROOM + GUARD];
+static uint8_t *const slice = area + GUARD;
+
+static void fill(void)
+{
+    size_t i;
+    for (i = 0; i < sizeof area; i++) {
+        area[i] = PATTERN(i);
+    }
+}
+
+/* Whether only the first `length` elements of the slice can have been written. */
+static int stays(size_t length)
+{
+    size_t i;
+    for (i = 0; i < sizeof area; i++) {
+        if ((i < GUARD || i >= GUARD + length) && area[i] != PATTERN(i)) {
+            return 0;
+        }
+    }
+    return 1;
+}
+
+/* Sends, expects success, these codes, and this shift and count; nothing else is written. */
+static void sends(const char *which, const uint8_t *text, size_t length, uint8_t shift, uint8_t count, size_t room,
+                  const uint8_t *codes, size_t codes_length, uint8_t shift_reached, uint8_t count_reached)
+{
+    static uint8_t before[ROOM];
+    cq_baudot_sent r;
+    fill();
+    memcpy(before, text, length);
+    r = cq_baudot_send(text, length, shift, count, slice, room);
+    check(r.answer == CQ_OK, "sending is not refused", which);
+    check(r.length == codes_length, "number of codes", which);
+    check(memcmp(slice, codes, codes_length) == 0, "codes", which);
+    check(stays(codes_length), "bytes around the codes stay", which);
+    check(r.shift == shift_reached, "shift reached by sending", which);
+    check(r.count == count_reached, "count reached", which);
+    check(memcmp(before, text, length) == 0, "the text stays", which);
+}
+
+static void send_refused(const char *which, const uint8_t *text, size_t length, uint8_t shift, uint8_t count,
+                         size_t room, uint8_t answer)
+{
+    cq_baudot_sent r;
+    fill();
+    r = cq_baudot_send(text, length, shift, count, slice, room);
+    check(r.answer == answer, "refusal of sending", which);
+    check(stays(0), "a refusal leaves the codes", which);
+    check(r.shift == shift && r.count == count, "a refusal gives back shift and count", which);
+    check(r.length == 0, "a refusal has length 0", which);
+}
+
+static void reads(const char *which, const uint8_t *codes, size_t length, uint8_t shift, size_t room,
+                  const uint8_t *text, size_t text_length, uint8_t shift_reached)
+{
+    static uint8_t before[ROOM];
+    cq_baudot_text r;
+    fill();
+    memcpy(before, codes, length);
+    r = cq_baudot_read(codes, length, shift, slice, room);
+    check(r.answer == CQ_OK, "reading is not refused", which);
+    check(r.length == text_length, "number of characters", which);
+    check(memcmp(slice, text, text_length) == 0, "characters", which);
+    check(stays(text_length), "bytes around the text stay", which);
+    check(r.shift == shift_reached, "shift reached by reading", which);
+    check(memcmp(before, codes, length) == 0, "the codes stay", which);
+}
+
+static void read_refused(const char *which, const uint8_t *codes, size_t length, uint8_t shift, size_t room,
+                         uint8_t answer)
+{
+    cq_baudot_text r;
+    fill();
+    r = cq_baudot_read(codes, length, shift, slice, room);
+    check(r.answer == answer, "refusal of reading", which);
+    check(stays(0), "a refusal leaves the text", which);
+    check(r.shift == shift, "a refusal gives back the shift", which);
+    check(r.length == 0, "a refusal has length 0", which);
+}
+
+static void layout(void)
+{
+    check(sizeof(cq_baudot_sent) == 16, "size", "cq_baudot_sent");
+    check(offsetof(cq_baudot_sent, answer) == 0, "answer", "cq_baudot_sent");
+    check(offsetof(cq_baudot_sent, shift) == 1, "shift", "cq_baudot_sent");
+    check(offsetof(cq_baudot_sent, count) == 2, "count", "cq_baudot_sent");
+    check(offsetof(cq_baudot_sent, length) == 8, "length", "cq_baudot_sent");
+    check(sizeof(cq_baudot_text) == 16, "size", "cq_baudot_text");
+    check(offsetof(cq_baudot_text, answer) == 0, "answer", "cq_baudot_text");
+    check(offsetof(cq_baudot_text, shift) == 1, "shift", "cq_baudot_text");
+    check(offsetof(cq_baudot_text, length) == 8, "length", "cq_baudot_text");
+    check(CQ_BAUDOT_CODES_MAX(0) == 1 && CQ_BAUDOT_CODES_MAX(1) == 3 && CQ_BAUDOT_CODES_MAX(80 + 1) == 163,
+          "CQ_BAUDOT_CODES_MAX", "macros");
+    check(CQ_BAUDOT_TEXT_MAX(0) == 0 && CQ_BAUDOT_TEXT_MAX(80 + 1) == 81, "CQ_BAUDOT_TEXT_MAX", "macros");
+    check(CQ_OK == 0 && CQ_REFUSED_STATE == 1 && CQ_REFUSED_MODE == 2 && CQ_REFUSED_CHARACTER == 3 &&
+              CQ_REFUSED_FULL == 4 && CQ_REFUSED_DURATION == 5 && CQ_REFUSED_HEARD == 6 &&
+              CQ_REFUSED_SENT_SLICE == 7 && CQ_REFUSED_WORD_SLICE == 8 && CQ_REFUSED_RESULT_SLICE == 9 &&
+              CQ_REFUSED_CODE == 10 && CQ_REFUSED_TONE == 11 && CQ_REFUSED_CALLING_STATE == 12,
+          "numbers of the answers", "macros");
+}
+
+/* A text, its codes as binary digits with a space between two, and what is read from them. */
+struct example {
+    const char *name;
+    const char *text;
+    size_t length;
+    const char *codes;
+    const char *read;
+    uint8_t shift;
+    uint8_t count;
+};
+
+/* Document 01, worked examples, first group: fresh, Baudot. The 73 times E follow below. */
+static const struct example worked[] = {
+    {"a", "a", 1, "11111 00011", "A", CQ_SHIFT_LETTERS, 1},
+    {"A1", "A1", 2, "11111 00011 11011 10111", "A1", CQ_SHIFT_FIGURES, 1},
+    {"1", "1", 1, "11111 11011 10111", "1", CQ_SHIFT_FIGURES, 1},
+    {"1 A", "1 A", 3, "11111 11011 10111 00100 11111 00011", "1 A", CQ_SHIFT_LETTERS, 1},
+    {"star", "*", 1, "11111 11011 11100", ".", CQ_SHIFT_FIGURES, 1},
+    {"@", "@", 1, "11111 11101", "X", CQ_SHIFT_LETTERS, 1},
+    {"60", "\x60", 1, "11111 11011 01011", "'", CQ_SHIFT_FIGURES, 1},
+    {"NULL", "\0", 1, "", "", CQ_SHIFT_FRESH, 0},
+    {"HT", "\t", 1, "11111 00100", " ", CQ_SHIFT_LETTERS, 1},
+};
+
+static size_t codes_of(const char *digits, uint8_t *codes)
+{
+    size_t n = 0;
+    while (*digits != '\0') {
+        int bit;
+        codes[n] = 0;
+        for (bit = 0; bit < 5; bit++) {
+            codes[n] = (uint8_t)(codes[n] * 2 + (*digits++ - '0'));
+        }
+        n++;
+        if (*digits == ' ') {
+            digits++;
+        }
+    }
+    return n;
+}
+
+static void examples(void)
+{
+    static uint8_t text[80], codes[200];
+    size_t i, n;
+    for (i = 0; i < sizeof worked / sizeof worked[0]; i++) {
+        const struct example *e = &worked[i];
+        uint8_t reader = e->shift == CQ_SHIFT_FRESH ? CQ_SHIFT_LETTERS : e->shift;
+        size_t read_length = strlen(e->read);
+        n = codes_of(e->codes, codes);
+        memcpy(text, e->text, e->length);
+        sends(e->name, text, e->length, CQ_SHIFT_FRESH, 0, ROOM, codes, n, e->shift, e->count);
+        sends(e->name, text, e->length, CQ_SHIFT_FRESH, 0, n, codes, n, e->shift, e->count);
+        reads(e->name, codes, n, CQ_SHIFT_LETTERS, ROOM, (const uint8_t *)e->read, read_length, reader);
+        reads(e->name, codes, n, CQ_SHIFT_LETTERS, read_length, (const uint8_t *)e->read, read_length, reader);
+    }
+    memset(text, 'E', 73);
+    memset(codes, 1, 75);
+    codes[0] = 31;
+    codes[73] = 31;
+    sends("73 times E", text, 73, CQ_SHIFT_FRESH, 0, 75, codes, 75, CQ_SHIFT_LETTERS, 1);
+    sends("72 times E", text, 72, CQ_SHIFT_FRESH, 0, 73, codes, 73, CQ_SHIFT_LETTERS, 72);
+    reads("73 times E", codes, 75, CQ_SHIFT_LETTERS, 73, text, 73, CQ_SHIFT_LETTERS);
+}
+
+/* The shift and the count that a call starts from. */
+static void continued(void)
+{
+    static const uint8_t e[] = {'E'}, space[] = {' '}, three[] = {'3'}, text_too[] = {'T', 'O', 'O'};
+    static const uint8_t code_e[] = {1}, letters_e[] = {31, 1}, letters_space[] = {31, 4}, figures_space[] = {27, 4};
+    static const uint8_t just_space[] = {4}, figures_3[] = {27, 1}, too[] = {16, 24, 24};
+    sends("E in letters", e, 1, CQ_SHIFT_LETTERS, 0, ROOM, code_e, 1, CQ_SHIFT_LETTERS, 1);
+    sends("E as the 72nd", e, 1, CQ_SHIFT_LETTERS, 71, ROOM, code_e, 1, CQ_SHIFT_LETTERS, 72);
+    sends("E after 72", e, 1, CQ_SHIFT_LETTERS, 72, ROOM, letters_e, 2, CQ_SHIFT_LETTERS, 1);
+    sends("E in figures", e, 1, CQ_SHIFT_FIGURES, 5, ROOM, letters_e, 2, CQ_SHIFT_LETTERS, 1);
+    sends("E in figures after 72", e, 1, CQ_SHIFT_FIGURES, 72, ROOM, letters_e, 2, CQ_SHIFT_LETTERS, 1);
+    sends("3 in letters after 72", three, 1, CQ_SHIFT_LETTERS, 72, ROOM, figures_3, 2, CQ_SHIFT_FIGURES, 1);
+    sends("SPACE in letters", space, 1, CQ_SHIFT_LETTERS, 7, ROOM, just_space, 1, CQ_SHIFT_LETTERS, 8);
+    sends("SPACE in figures", space, 1, CQ_SHIFT_FIGURES, 7, ROOM, just_space, 1, CQ_SHIFT_FIGURES, 8);
+    sends("SPACE in figures after 72", space, 1, CQ_SHIFT_FIGURES, 72, ROOM, figures_space, 2, CQ_SHIFT_FIGURES, 1);
+    sends("SPACE, fresh", space, 1, CQ_SHIFT_FRESH, 0, ROOM, letters_space, 2, CQ_SHIFT_LETTERS, 1);
+    sends("E, fresh, count 72", e, 1, CQ_SHIFT_FRESH, 72, ROOM, letters_e, 2, CQ_SHIFT_LETTERS, 1);
+    reads("TOO in letters", too, 3, CQ_SHIFT_LETTERS, ROOM, text_too, 3, CQ_SHIFT_LETTERS);
+    reads("TOO in figures", too, 3, CQ_SHIFT_FIGURES, ROOM, (const uint8_t *)"599", 3, CQ_SHIFT_FIGURES);
+    reads("NULL in figures", (const uint8_t *)"\5", 1, CQ_SHIFT_FIGURES, ROOM, (const uint8_t *)"\0", 1,
+          CQ_SHIFT_FIGURES);
+}
+
+/* Characters 00 to 07, 0E to 19, 1B and 7F send nothing, all others something. */
+static void silent(void)
+{
+    uint8_t text[128];
+    char which[20];
+    unsigned c;
+    size_t n = 0;
+    for (c = 0; c < 128; c++) {
+        int none = c <= 0x07 || (c >= 0x0E && c <= 0x19) || c == 0x1B || c == 0x7F;
+        uint8_t one = (uint8_t)c;
+        cq_baudot_sent r = cq_baudot_send(&one, 1, CQ_SHIFT_FRESH, 3, slice, ROOM);
+        sprintf(which, "character %02X", c);
+        check(r.answer == CQ_OK && (r.length == 0) == none, "what sends nothing", which);
+        if (none) {
+            text[n++] = one;
+        }
+    }
+    sends("all that send nothing, fresh", text, n, CQ_SHIFT_FRESH, 5, 0, text, 0, CQ_SHIFT_FRESH, 5);
+    sends("all that send nothing, letters", text, n, CQ_SHIFT_LETTERS, 72, 0, text, 0, CQ_SHIFT_LETTERS, 72);
+    sends("all that send nothing, figures", text, n, CQ_SHIFT_FIGURES, 0, ROOM, text, 0, CQ_SHIFT_FIGURES, 0);
+}
+
+static void empty(void)
+{
+    static const uint8_t none[1] = {0xFF};
+    static const uint8_t shifts[] = {31, 27, 31, 27};
+    sends("no text, fresh", none, 0, CQ_SHIFT_FRESH, 0, ROOM, none, 0, CQ_SHIFT_FRESH, 0);
+    sends("no text, letters", none, 0, CQ_SHIFT_LETTERS, 72, ROOM, none, 0, CQ_SHIFT_LETTERS, 72);
+    sends("no text, no room", none, 0, CQ_SHIFT_FIGURES, 9, 0, none, 0, CQ_SHIFT_FIGURES, 9);
+    reads("no codes, letters", none, 0, CQ_SHIFT_LETTERS, ROOM, none, 0, CQ_SHIFT_LETTERS);
+    reads("no codes, no room", none, 0, CQ_SHIFT_FIGURES, 0, none, 0, CQ_SHIFT_FIGURES);
+    reads("shift codes alone, no room", shifts, 4, CQ_SHIFT_LETTERS, 0, none, 0, CQ_SHIFT_FIGURES);
+    reads("shift codes alone", shifts, 3, CQ_SHIFT_FIGURES, ROOM, none, 0, CQ_SHIFT_LETTERS);
+    send_refused("no text, shift 3", none, 0, 3, 0, 0, CQ_REFUSED_STATE);
+    read_refused("no codes, fresh", none, 0, CQ_SHIFT_FRESH, 0, CQ_REFUSED_STATE);
+}
+
+static void refusals(void)
+{
+    static const uint8_t text[] = "A1 is 1A", late[] = {'A', '1', 128}, high[] = {255, 'A'};
+    static const uint8_t codes[] = {31, 3, 27, 23, 4}, over[] = {31, 3, 32}, most[] = {255, 3};
+    static const uint8_t back[] = {'A', '1', ' '};
+    uint8_t sent[16];
+    size_t room, length = sizeof text - 1;
+    size_t n = codes_of("11111 00011 11011 10111 00100 11111 00110 00101 00100 11011 10111 11111 00011", sent);
+
+    send_refused("shift 3", text, length, 3, 0, ROOM, CQ_REFUSED_STATE);
+    send_refused("shift 255", text, length, 255, 72, ROOM, CQ_REFUSED_STATE);
+    send_refused("count 73", text, length, CQ_SHIFT_LETTERS, 73, ROOM, CQ_REFUSED_STATE);
+    send_refused("count 73, fresh", text, length, CQ_SHIFT_FRESH, 73, ROOM, CQ_REFUSED_STATE);
+    send_refused("count 255", text, length, CQ_SHIFT_FIGURES, 255, ROOM, CQ_REFUSED_STATE);
+    send_refused("shift 3 ahead of byte 128 and no room", late, 3, 3, 0, 0, CQ_REFUSED_STATE);
+    send_refused("byte 128", late, 3, CQ_SHIFT_LETTERS, 4, ROOM, CQ_REFUSED_CHARACTER);
+    send_refused("byte 255", high, 2, CQ_SHIFT_FRESH, 0, ROOM, CQ_REFUSED_CHARACTER);
+    send_refused("byte 128 ahead of no room", late, 3, CQ_SHIFT_FIGURES, 72, 0, CQ_REFUSED_CHARACTER);
+    for (room = 0; room < n; room++) {
+        send_refused("codes too short", text, length, CQ_SHIFT_FRESH, 2, room, CQ_REFUSED_RESULT_SLICE);
+    }
+    sends("codes fit exactly", text, length, CQ_SHIFT_FRESH, 2, n, sent, n, CQ_SHIFT_LETTERS, 1);
+    sends("codes fit, one over", text, length, CQ_SHIFT_FRESH, 2, n + 1, sent, n, CQ_SHIFT_LETTERS, 1);
+
+    read_refused("shift 0", codes, 5, CQ_SHIFT_FRESH, ROOM, CQ_REFUSED_STATE);
+    read_refused("shift 3", codes, 5, 3, ROOM, CQ_REFUSED_STATE);
+    read_refused("shift 255", codes, 5, 255, ROOM, CQ_REFUSED_STATE);
+    read_refused("shift 3 ahead of code 32 and no room", over, 3, 3, 0, CQ_REFUSED_STATE);
+    read_refused("code 32", over, 3, CQ_SHIFT_LETTERS, ROOM, CQ_REFUSED_CODE);
+    read_refused("code 255", most, 2, CQ_SHIFT_FIGURES, ROOM, CQ_REFUSED_CODE);
+    read_refused("code 32 ahead of no room", over, 3, CQ_SHIFT_FIGURES, 0, CQ_REFUSED_CODE);
+    for (room = 0; room < 3; room++) {
+        read_refused("text too short", codes, 5, CQ_SHIFT_LETTERS, room, CQ_REFUSED_RESULT_SLICE);
+    }
+    reads("text fits exactly", codes, 5, CQ_SHIFT_LETTERS, 3, back, 3, CQ_SHIFT_FIGURES);
+    reads("text fits, one over", codes, 5, CQ_SHIFT_LETTERS, 4, back, 3, CQ_SHIFT_FIGURES);
+}
+
+/* The longest result, and a text in two calls at every place. */
+static void whole_and_cut(void)
+{
+    static uint8_t text[5000], codes[ROOM], back[ROOM], part[ROOM];
+    static const uint8_t mixed[] = "The number is 5550199, or (02) 73-41; call before 6.\r\n";
+    size_t i, n = sizeof mixed - 1;
+    cq_baudot_sent whole, first, second;
+    cq_baudot_text read, head, tail;
+
+    for (i = 0; i < sizeof text; i++) {
+        text[i] = i % 2 == 0 ? '1' : 'A';
+    }
+    whole = cq_baudot_send(text, sizeof text, CQ_SHIFT_FRESH, 0, codes, CQ_BAUDOT_CODES_MAX(sizeof text));
+    check(whole.answer == CQ_OK && whole.length == CQ_BAUDOT_CODES_MAX(sizeof text), "longest result", "1A over and over");
+    read = cq_baudot_read(codes, whole.length, CQ_SHIFT_LETTERS, back, CQ_BAUDOT_TEXT_MAX(whole.length));
+    check(read.answer == CQ_OK && read.length == sizeof text, "length read back", "1A over and over");
+    check(memcmp(back, text, sizeof text) == 0, "text read back", "1A over and over");
+
+    whole = cq_baudot_send(mixed, n, CQ_SHIFT_FRESH, 0, codes, ROOM);
+    for (i = 0; i <= n; i++) {
+        first = cq_baudot_send(mixed, i, CQ_SHIFT_FRESH, 0, part, ROOM);
+        second = cq_baudot_send(mixed + i, n - i, first.shift, first.count, part + first.length, ROOM - first.length);
+        check(second.answer == CQ_OK && first.length + second.length == whole.length &&
+                  second.shift == whole.shift && second.count == whole.count && memcmp(part, codes, whole.length) == 0,
+              "a text in two calls", "sending");
+    }
+    read = cq_baudot_read(codes, whole.length, CQ_SHIFT_LETTERS, back, ROOM);
+    for (i = 0; i <= whole.length; i++) {
+        head = cq_baudot_read(codes, i, CQ_SHIFT_LETTERS, part, ROOM);
+        tail = cq_baudot_read(codes + i, whole.length - i, head.shift, part + head.length, ROOM - head.length);
+        check(tail.answer == CQ_OK && head.length + tail.length == read.length && tail.shift == read.shift &&
+                  memcmp(part, back, read.length) == 0,
+              "codes in two calls", "reading");
+    }
+}
+
+int main(void)
+{
+    layout();
+    examples();
+    continued();
+    silent();
+    empty();
+    refusals();
+    whole_and_cut();
+    if (failures != 0) {
+        printf("header: %lu of %lu checks failed\n", failures, checks);
+        return 1;
+    }
+    printf("header: %lu checks passed\n", checks);
+    return 0;
+}
