@@ -3,3 +3,4 @@ pub mod Rule
 pub mod Packing
 pub mod Normal
 pub mod Numbering
+pub mod Chars

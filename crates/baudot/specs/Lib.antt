@@ -1,4 +1,5 @@
 pub mod Sending
+pub mod Opening
 pub mod Reading
 pub mod Entries
 pub mod Listing

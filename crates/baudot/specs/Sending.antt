@@ -6,7 +6,7 @@ use lib.Dec.{eqb, leb}
 use Rattle.alphabet.specs.declared.Alphabet.the-variants.{Baudot}
 use Rattle.alphabet.specs.declared.Sends.{Sends}
 use Rattle.alphabet.specs.declared.Sends.the-variants.{Nothing, Code}
-use Rattle.alphabet.specs.Baudot.{letters, figures}
+use Rattle.alphabet.specs.Baudot.{letters, figures, anyShift}
 use Rattle.alphabet.specs.Normal.{sends}
 use Rattle.baudot.specs.declared.Sender.{Sender}
 
@@ -20,9 +20,9 @@ fresh = sender 0 0
 abbrev pub shiftCode : ℕ → ℕ
 shiftCode shift = cond (eqb shift figures) 0b11011 0b11111
 
--- A code of the shift `own` (0: of both) is not of this shift.
+-- A code of the shift `own` (3: of both) is not of this shift.
 abbrev pub differs : ℕ → ℕ → Bool
-differs own shift = not (eqb own 0) && not (eqb own shift)
+differs own shift = not (eqb own anyShift) && not (eqb own shift)
 
 -- The shift code that is wanted ahead of a code of the shift `own`, 0 for none: letters from a fresh sender; the code's
 -- shift if it differs; the shift in force if 72 characters have gone since the last shift code.
@@ -75,6 +75,8 @@ senderAfter s (c ∷ cs) = senderAfter (senderFor s (sends Baudot c)) cs
 abbrev pub inRange : Sender → Bool
 inRange s = leb (s .shift) 2 && leb (s .count) 72
 
-pub record InRange (s : Sender) : Type 0 where
+-- A sender that is in range and not fresh.
+pub record Running (s : Sender) : Type 0 where
+  pub shift-low : 1 ≤ s .shift
   pub shift-in : s .shift ≤ 2
   pub count-in : s .count ≤ 72

@@ -3,18 +3,18 @@ use crate::BaudotSent;
 use crate::Sender;
 use alphabet::Alphabet;
 use alphabet::Char;
-use alphabet::LineCode;
 use alphabet::Sends;
 ghost use mathlib.Core.Path.{_≡_};
 ghost use mathlib.Core.Bool.{true};
-ghost use Prim.Native.Nat.{_+_, _^_, _≤_, _<_};
 ghost use mathlib.Core.List.{[], _∷_, _++_};
+ghost use Prim.Native.Nat.{_+_, _≤_, _<_};
+ghost use lib.Dec.{leb};
 ghost use lib.ListN.{length, drop};
 ghost use lib.Seq.{sets};
 ghost use Rattle.alphabet.specs.declared.Alphabet.the-variants.{Baudot};
-ghost use Rattle.alphabet.specs.declared.Sends.the-variants.{Code};
 ghost use Rattle.alphabet.specs.Normal.{sends, allChars};
-ghost use Rattle.baudot.specs.Sending.{sender, shiftCode, shiftCodes, wanted, shifted, counted, codesFor, senderFor, codesOf, senderAfter, InRange};
+ghost use Rattle.baudot.specs.Sending.{sender, shiftCode, wanted, shifted, codesFor, senderFor, codesOf, senderAfter, Running};
+ghost use Rattle.baudot.specs.Opening.{Opened, openingCodes};
 ghost use Rattle.baudot.specs.Entries.{sentOf, codesAfter};
 
 // The most characters between two shift codes.
@@ -26,22 +26,11 @@ pub struct Placed {
     pub sender: Sender,
 }
 
-// The shift code that is wanted ahead of a code of the shift `own`: 1 letters, 2 figures, 0 none.
-pub fn wanted(s: Sender, own: u8) -> u8
-    ensures { λ r. ⌜ r ≡ wanted s own ⌝ }
-{
-    if s.shift == 0 {
-        return 1;
-    }
-    if own != 0 {
-        if own != s.shift {
-            return own;
-        }
-    }
-    if CHARACTERS_PER_SHIFT <= s.count {
-        return s.shift;
-    }
-    0
+// Where a text is taken up, with the sender and the place of its next code.
+pub struct Opening {
+    pub from: usize,
+    pub at: usize,
+    pub sender: Sender,
 }
 
 // The code that selects a shift.
@@ -54,32 +43,22 @@ pub fn shift_code(shift: u8) -> u8
     0b11111
 }
 
-// Is every byte a character?
-fn all_chars(text: &[u8]) -> bool
-    ensures { λ r. ⌜ r ≡ allChars (now (text .entry)) ⌝ }
+// The shift code that a running sender wants ahead of a code of the shift `own`: 1 letters, 2 figures, 0 none.
+pub fn wanted(s: Sender, own: u8) -> u8
+    requires { ⌜ Running s ⌝ }
+    requires { ⌜ (1 ≤ own) × (own ≤ 3) ⌝ }
+    ensures { λ r. ⌜ r ≡ wanted s own ⌝ }
 {
-    let mut ok = true;
-    let mut i: usize = 0;
-    while i < text.len() {
-        if 127 < text[i] {
-            ok = false;
-        }
-        i += 1;
+    if own & s.shift == 0 {
+        return own;
     }
-    ok
+    if CHARACTERS_PER_SHIFT <= s.count {
+        return s.shift;
+    }
+    0
 }
 
-// The place behind a shift code, if one is wanted.
-fn behind(at: usize, w: u8) -> usize
-    requires { ⌜ at < 2 ^ 63 ⌝ }
-    ensures { λ r. ⌜ r ≡ at + length (shiftCodes w) ⌝ }
-{
-    if w == 0 {
-        return at;
-    }
-    at + 1
-}
-
+// The sender after a wanted shift code.
 fn shifted(s: Sender, w: u8) -> Sender
     ensures { λ r. ⌜ r ≡ shifted s w ⌝ }
 {
@@ -89,33 +68,11 @@ fn shifted(s: Sender, w: u8) -> Sender
     Sender { shift: w, count: 0 }
 }
 
-// A code of the shift `own` with the shift code ahead of it, from a sender that is not fresh. The shift code is written in
-// any case: where none is wanted, the code takes its place.
-fn put_code(codes: &mut [u8], at: usize, s: Sender, own: u8, code: LineCode) -> Placed
-    requires { ⌜ at + length (shiftCodes (wanted s own)) < length (now codes) ⌝ }
-    requires { ⌜ s .count ≤ 72 ⌝ }
-    ensures { λ r. ⌜ r ≡ record { at = at + length (shiftCodes (wanted s own)) + 1; sender = counted (shifted s (wanted s own)) } ⌝ }
-    ensures { λ r. ⌜ now (codes .exit) ≡ sets (now (codes .entry)) at (shiftCodes (wanted s own) ++ code .0 ∷ []) ⌝ }
-{
-    let w = wanted(s, own);
-    let next = behind(at, w);
-    let t = shifted(s, w);
-    codes[at] = shift_code(w);
-    codes[next] = code.0;
-    Placed {
-        at: next + 1,
-        sender: Sender {
-            shift: t.shift,
-            count: t.count + 1,
-        },
-    }
-}
-
-// A character's codes, written at a place.
+// The codes of a character, written at a place by a running sender.
 fn put_char(codes: &mut [u8], at: usize, s: Sender, c: Char) -> Placed
     requires { ⌜ c .0 < 128 ⌝ }
+    requires { ⌜ Running s ⌝ }
     requires { ⌜ at + length (codesFor s (sends Baudot (c .0))) ≤ length (now codes) ⌝ }
-    requires { ⌜ InRange s ⌝ }
     ensures { λ r. ⌜ r ≡ record { at = at + length (codesFor s (sends Baudot (c .0))); sender = senderFor s (sends Baudot (c .0)) } ⌝ }
     ensures { λ r. ⌜ now (codes .exit) ≡ sets (now (codes .entry)) at (codesFor s (sends Baudot (c .0))) ⌝ }
 {
@@ -123,23 +80,35 @@ fn put_char(codes: &mut [u8], at: usize, s: Sender, c: Char) -> Placed
     let Sends::Code { shift: own, code } = e else {
         return Placed { at, sender: s };
     };
-    if s.shift == 0 {
-        codes[at] = shift_code(1);
-        return put_code(codes, at + 1, Sender { shift: 1, count: 0 }, own, code);
+    let w = wanted(s, own);
+    if w == 0 {
+        codes[at] = code.0;
+        return Placed {
+            at: at + 1,
+            sender: Sender {
+                shift: s.shift,
+                count: s.count + 1,
+            },
+        };
     }
-    put_code(codes, at, s, own, code)
+    codes[at] = shift_code(w);
+    codes[at + 1] = code.0;
+    Placed {
+        at: at + 2,
+        sender: Sender { shift: w, count: 1 },
+    }
 }
 
-// The codes of a text, written from the front.
-fn put_text(text: &[u8], s: Sender, codes: &mut [u8]) -> Placed
+// The codes of a text from a place of it on, written at a place by a running sender.
+fn put_from(text: &[u8], from: usize, codes: &mut [u8], at: usize, s: Sender) -> Placed
     requires { ⌜ allChars (now text) ≡ true ⌝ }
-    requires { ⌜ length (codesOf s (now text)) ≤ length (now codes) ⌝ }
-    requires { ⌜ InRange s ⌝ }
-    ensures { λ r. ⌜ r ≡ record { at = length (codesOf s (now (text .entry))); sender = senderAfter s (now (text .entry)) } ⌝ }
-    ensures { λ r. ⌜ now (codes .exit) ≡ sets (now (codes .entry)) 0 (codesOf s (now (text .entry))) ⌝ }
+    requires { ⌜ (from < length (now text) → Running s) ⌝ }
+    requires { ⌜ at + length (codesOf s (drop from (now text))) ≤ length (now codes) ⌝ }
+    ensures { λ r. ⌜ r ≡ record { at = at + length (codesOf s (drop from (now (text .entry)))); sender = senderAfter s (drop from (now (text .entry))) } ⌝ }
+    ensures { λ r. ⌜ now (codes .exit) ≡ sets (now (codes .entry)) at (codesOf s (drop from (now (text .entry)))) ⌝ }
 {
-    let mut p = Placed { at: 0, sender: s };
-    let mut i: usize = 0;
+    let mut p = Placed { at, sender: s };
+    let mut i = from;
     while i < text.len() {
         p = put_char(codes, p.at, p.sender, Char(text[i]));
         i += 1;

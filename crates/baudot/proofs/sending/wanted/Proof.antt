@@ -1,23 +1,23 @@
+-- `sending::wanted` meets its contract: the common bits of the two shifts say whether they differ.
+use mathlib.Core.Path.{sym}
+use Rattle.baudot.proofs.SendingRule.{wanted-change, wanted-again, wanted-none, apart, together}
 use Rattle.baudot.proofs.sending.wanted.Statement.{statement}
 use Rattle.baudot.proofs.sending.wanted.Tie as tie
-use Rattle.baudot.proofs.sending.wanted.Reads as reads
-use Rattle.baudot.proofs.sending.wanted.Lts as lts
 
--- src/sending.rt:34:9
 returns : tie.Need-returns
-returns c = ?
+returns c =
+    let k = c .before .before in
+    sym (wanted-change _ _ (k .pre .0) (apart _ _ (k .pre .0) (k .pre .1) (c .if1 .taken)))
 
--- src/sending.rt:38:13
 returns-2 : tie.Need-returns-2
-returns-2 c = ?
+returns-2 c =
+    let k = c .before .before .before .before in
+    sym (wanted-again _ _ (k .pre .0) (together _ _ (k .pre .0) (k .pre .1) (c .before .before .if1 .left)) (c .if2 .taken))
 
--- src/sending.rt:42:9
 returns-3 : tie.Need-returns-3
-returns-3 c = ?
-
--- src/sending.rt:30:1
-returns-4 : tie.Need-returns-4
-returns-4 c = ?
+returns-3 c =
+    let k = c .before .before .before .before in
+    sym (wanted-none _ _ (k .pre .0) (together _ _ (k .pre .0) (k .pre .1) (c .before .before .if1 .left)) (c .if2 .left))
 
 pub wanted-spec : {M : Type 1} → statement M
-wanted-spec = tie.close (tie.spec returns returns-2 returns-3 returns-4)
+wanted-spec = tie.close (tie.spec returns returns-2 returns-3)

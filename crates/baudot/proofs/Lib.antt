@@ -1,0 +1,2 @@
+pub mod SendingRule
+pub mod Left

@@ -1,0 +1,193 @@
+-- Laws of the sending rule.
+use mathlib.Core.Path.{_≡_, _∙_, refl, sym, ap, subst}
+use mathlib.Core.Bool.{Bool, true, false, cond, not, _&&_, false≢true}
+use mathlib.Core.List.{List, [], _∷_, _++_}
+use mathlib.Core.Logic.{_⊎_, inl, inr, ⊎-elim}
+use Prim.Native.Nat.{ℕ, zero, suc, _+_, _*_, _/_, _%_, _≤_, _<_}
+use native.Mathlib.Nat.{add-zero}
+use native.Mathlib.Numerals.{add-one}
+use native.Mathlib.Omega.{arith}
+use lib.Bits.{bitAnd}
+use lib.Dec.{T, eqb, leb}
+use lib.ListN.{length, set}
+use lib.Seq.{sets}
+use borrow.Author.Tests.{eq-eqb, ne-eqb, eqb-true, eqb-false, le-leb, lt-leb, leb-true, leb-false}
+use Rattle.lists.specs.Tables.{passes}
+use Rattle.lists.proofs.Tables.{both-left, both-right, passes-at}
+use Rattle.alphabet.specs.declared.Alphabet.the-variants.{Baudot}
+use Rattle.alphabet.specs.declared.LineCode.{LineCode}
+use Rattle.alphabet.specs.declared.Sends.{Sends}
+use Rattle.alphabet.specs.declared.Sends.the-variants.{Nothing, Code}
+use Rattle.alphabet.specs.Normal.{sends}
+use Rattle.alphabet.proofs.Rule.{ReadBack, rule-of}
+use Rattle.baudot.specs.declared.Sender.{Sender}
+use Rattle.baudot.specs.declared.sending.Placed.{Placed}
+use Rattle.baudot.specs.Sending.{sender, differs, wanted, shifted, shiftCodes, shiftCode, opened, counted, codesFor, senderFor, codesOf, senderAfter, Running}
+
+-- two Bools that a test finds equal
+same : Bool → Bool → Bool
+same true b = b
+same false b = not b
+
+same-is : (a b : Bool) → T (same a b) → a ≡ b
+unfolding same
+same-is true true t = refl
+same-is true false t = absurd t
+same-is false true t = absurd t
+same-is false false t = refl
+
+meetAt : ℕ → Bool
+meetAt i =
+    cond (leb 1 (i / 4) && (leb 1 (i % 4) && leb (i % 4) 2))
+    (same (eqb (bitAnd (i / 4) (i % 4)) 0) (differs (i / 4) (i % 4))) true
+
+meet-test : T (passes meetAt 16 0)
+unfolding passes meetAt same
+meet-test = tt
+
+-- a code's shift and the shift in force have no common bit exactly where they differ
+pub meet-differs : (own shift : ℕ) → 1 ≤ own → own ≤ 3 → 1 ≤ shift → shift ≤ 2 → eqb (bitAnd own shift) 0 ≡ differs own shift
+unfolding meetAt
+meet-differs own shift a b c d =
+    let q : (own * 4 + shift) / 4 ≡ own = omega arith in
+    let m : (own * 4 + shift) % 4 ≡ shift = omega arith in
+    let t = passes-at meetAt 16 meet-test (own * 4 + shift) (omega arith) in
+    same-is (eqb (bitAnd own shift) 0) (differs own shift) (simp (q, m, le-leb 1 own a, le-leb 1 shift c, le-leb shift 2 d) at t)
+
+module _ (s : Sender) (own : ℕ) (r : Running s) where
+  not-fresh : eqb (s .shift) 0 ≡ false
+  not-fresh = ne-eqb (s .shift) 0 (λ (e : s .shift ≡ 0). let l = r .shift-low in omega arith)
+
+  pub wanted-change : differs own (s .shift) ≡ true → wanted s own ≡ own
+  unfolding wanted
+  wanted-change d = simp (not-fresh, d)
+
+  pub wanted-again : differs own (s .shift) ≡ false → 72 ≤ s .count → wanted s own ≡ s .shift
+  unfolding wanted
+  wanted-again d l = simp (not-fresh, d, le-leb 72 (s .count) l)
+
+  pub wanted-none : differs own (s .shift) ≡ false → s .count < 72 → wanted s own ≡ 0
+  unfolding wanted
+  wanted-none d l = simp (not-fresh, d, lt-leb 72 (s .count) l)
+
+  module _ (range : (1 ≤ own) × (own ≤ 3)) where
+    meets : eqb (bitAnd own (s .shift)) 0 ≡ differs own (s .shift)
+    meets = meet-differs own (s .shift) (range .0) (range .1) (r .shift-low) (r .shift-in)
+
+    pub apart : bitAnd own (s .shift) ≡ 0 → differs own (s .shift) ≡ true
+    apart e = sym meets ∙ eq-eqb (bitAnd own (s .shift)) 0 e
+
+    pub together : (bitAnd own (s .shift) ≡ 0 → ⊥) → differs own (s .shift) ≡ false
+    together n = sym meets ∙ ne-eqb (bitAnd own (s .shift)) 0 n
+
+differs-self : (n : ℕ) → differs n n ≡ false
+differs-self n = simp (eq-eqb n n refl) (go (not (eqb n 3)))
+  where
+    go : (b : Bool) → (b && false) ≡ false
+    go true = refl
+    go false = refl
+
+module _ (s : Sender) (own : ℕ) (r : Running s) (lo : 1 ≤ own) (hi : own ≤ 3) where
+  -- a shift code that is wanted is of a shift, after which no other is wanted
+  pub record Ahead (w : ℕ) : Type 0 where
+    pub low : 1 ≤ w
+    pub high : w ≤ 2
+    pub then-none : wanted (sender w 0) own ≡ 0
+
+  pub record NoneAhead : Type 0 where
+    pub none : wanted s own ≡ 0
+    pub below : s .count < 72
+
+  unwanted : (w : ℕ) → 1 ≤ w → w ≤ 2 → differs own w ≡ false → Ahead w
+  unwanted w l h d =
+      record { low = l; high = h; then-none = wanted-none (sender w 0) own (record { shift-low = l; shift-in = h; count-in = omega arith }) d (omega arith) }
+
+  different : differs own (s .shift) ≡ true → own ≤ 2
+  different d = go (eqb own 3) refl
+    where
+      go : (b : Bool) → eqb own 3 ≡ b → own ≤ 2
+      go true e = absurd (false≢true (simp e at d))
+      go false e = let n = eqb-false own 3 e in omega arith
+
+  -- what is wanted: nothing, below 72 characters, or a shift code
+  pub ahead : NoneAhead ⊎ Ahead (wanted s own)
+  ahead = by-shift (differs own (s .shift)) refl
+    where
+      by-count : (b : Bool) → leb 72 (s .count) ≡ b → differs own (s .shift) ≡ false → NoneAhead ⊎ Ahead (wanted s own)
+      by-count true e d = inr (rw (wanted-again s own r d (leb-true 72 (s .count) e)) (unwanted (s .shift) (r .shift-low) (r .shift-in) d))
+      by-count false e d = let l = leb-false 72 (s .count) e in inl (record { none = wanted-none s own r d l; below = l })
+
+      by-shift : (b : Bool) → differs own (s .shift) ≡ b → NoneAhead ⊎ Ahead (wanted s own)
+      by-shift true d = inr (rw (wanted-change s own r d) (unwanted own lo (different d) (differs-self own)))
+      by-shift false d = by-count (leb 72 (s .count)) refl d
+
+  module _ (k : LineCode) where
+    -- no shift code is wanted: the code alone, and one more character
+    pub codes-none : wanted s own ≡ 0 → codesFor s (Code own k) ≡ k .0 ∷ []
+    unfolding codesFor
+    codes-none e = simp e
+
+    pub sender-none : wanted s own ≡ 0 → senderFor s (Code own k) ≡ counted s
+    unfolding senderFor
+    sender-none e = simp e
+
+    -- a shift code is wanted: it comes first, and the character is the first after it
+    pub codes-some : Ahead (wanted s own) → codesFor s (Code own k) ≡ shiftCode (wanted s own) ∷ k .0 ∷ []
+    unfolding codesFor
+    codes-some a = simp (ne-eqb (wanted s own) 0 (λ (e : wanted s own ≡ 0). let l = a .low in omega arith), a .then-none)
+
+    pub sender-some : Ahead (wanted s own) → senderFor s (Code own k) ≡ sender (wanted s own) 1
+    unfolding senderFor
+    sender-some a = simp (ne-eqb (wanted s own) 0 (λ (e : wanted s own ≡ 0). let l = a .low in omega arith), a .then-none)
+
+    -- a running sender stays so
+    running-code : Running (senderFor s (Code own k))
+    running-code = ⊎-elim by-none by-some ahead
+      where
+        by-none : NoneAhead → Running (senderFor s (Code own k))
+        by-none n = rw (sender-none (n .none)) (record { shift-low = r .shift-low; shift-in = r .shift-in; count-in = let b = n .below in omega arith })
+
+        by-some : Ahead (wanted s own) → Running (senderFor s (Code own k))
+        by-some a = rw (sender-some a) (record { shift-low = a .low; shift-in = a .high; count-in = omega arith })
+
+-- what a character sends is of a shift
+pub own-range : (c own : ℕ) (k : LineCode) → c < 128 → sends Baudot c ≡ Code own k → (1 ≤ own) × (own ≤ 3)
+own-range c own k h e = (rule-of Baudot c h own k e .shift-least, rule-of Baudot c h own k e .shift-most)
+
+pub running-for : (s : Sender) (c : ℕ) → c < 128 → Running s → Running (senderFor s (sends Baudot c))
+unfolding senderFor
+running-for s c h r = go (sends Baudot c) refl
+  where
+    go : (x : Sends) → sends Baudot c ≡ x → Running (senderFor s x)
+    go Nothing e = r
+    go (Code own k) e = running-code s own r (own-range c own k h e .0) (own-range c own k h e .1) k
+
+-- What a character's codes leave: the place and sender after them, and the slice.
+module _ (codes : List ℕ) (at : ℕ) (s : Sender) where
+  pub record Put (x : Sends) (p : Placed) (after : List ℕ) : Type 0 where
+    pub placed : p ≡ record { at = at + length (codesFor s x); sender = senderFor s x }
+    pub stored : after ≡ sets codes at (codesFor s x)
+
+  pub put-nothing : (x : Sends) → x ≡ Nothing → Put x (record { at = at; sender = s }) codes
+  unfolding codesFor senderFor
+  put-nothing x e = record { placed = simp (e, add-zero); stored = simp e }
+
+  module _ (x : Sends) (own : ℕ) (k : LineCode) (sent : x ≡ Code own k) (r : Running s) (lo : 1 ≤ own) (hi : own ≤ 3) where
+    pub put-none : wanted s own ≡ 0 → Put x (record { at = at + 1; sender = counted s }) (set codes at (k .0))
+    put-none e = record { placed = simp (sent, codes-none s own r lo hi k e, sender-none s own r lo hi k e); stored = simp (sent, codes-none s own r lo hi k e) }
+
+    pub ahead-of : (wanted s own ≡ 0 → ⊥) → Ahead s own r lo hi (wanted s own)
+    ahead-of n = ⊎-elim (λ o. absurd (n (o .none))) (λ a. a) (ahead s own r lo hi)
+
+    pub put-some : (wanted s own ≡ 0 → ⊥)
+        → Put x (record { at = at + 2; sender = sender (wanted s own) 1 }) (set (set codes at (shiftCode (wanted s own))) (at + 1) (k .0))
+    put-some n =
+        let a = ahead-of n in
+        record { placed = simp (sent, codes-some s own r lo hi k a, sender-some s own r lo hi k a); stored = simp (sent, codes-some s own r lo hi k a, add-one) }
+
+    -- the room that its codes need
+    pub room-none : wanted s own ≡ 0 → at + length (codesFor s x) ≤ length codes → at < length codes
+    room-none e h = let l : length (codesFor s x) ≡ 1 = simp (sent, codes-none s own r lo hi k e) in omega arith
+
+    pub room-some : (wanted s own ≡ 0 → ⊥) → at + length (codesFor s x) ≤ length codes → at + 1 < length codes
+    room-some n h = let l : length (codesFor s x) ≡ 2 = simp (sent, codes-some s own r lo hi k (ahead-of n)) in omega arith
