@@ -1,0 +1,5 @@
+pub mod Places
+pub mod OneMs
+pub mod AllTones
+pub mod Fold
+pub mod Answers

@@ -1,0 +1,59 @@
+-- Document 01, "The calling set (5.1)": one ms of a calling set, and any number of them.
+use Prim.Native.Nat.{ℕ}
+use mathlib.Core.Bool.{Bool, cond, _&&_, _||_}
+use mathlib.Core.List.{List, [], _∷_}
+use lib.Dec.{eqb, leb, ltb}
+use Rattle.calling.specs.declared.counting.Lasting.{Lasting}
+use Rattle.calling.specs.declared.Calling.{Calling}
+use Rattle.calling.specs.Timetable.{nothing, period, valueAt, placeAfter}
+use Rattle.calling.specs.Tones.{none, lengthOf}
+use Rattle.calling.specs.Counting.{lasting, most, counted}
+
+-- A calling set's state (there: the chooser's): what was heard last and for how many ms in a row, the place in the
+-- timetable, and the choice, which reads 0 until one is made.
+abbrev pub calling : Lasting → ℕ → ℕ → Calling
+calling heard place choice = record { heard = heard; place = place; choice = choice }
+
+-- 400 ms of none in a row after a tone make the next ms the timetable's first.
+abbrev pub pause : ℕ
+pause = 400
+
+-- A fresh set starts as after the pause.
+unfoldable pub fresh : Calling
+fresh = calling (lasting none pause) 0 0
+
+-- State in range: the choice and the tone are 0 to 11, the ms in a row 1 to 1,700, the place one of the timetable's.
+unfoldable pub inRange : Calling → Bool
+inRange s =
+    leb (s .choice) 11 && leb (s .heard .tone) 11 && leb 1 (s .heard .ms) && leb (s .heard .ms) most && ltb (s .place) period
+
+-- No tone was heard for so long that the timetable runs.
+abbrev pub pauseOver : Lasting → Bool
+pauseOver l = eqb (l .tone) none && leb pause (l .ms)
+
+-- In the ms of a tone and after it nothing is sent; a ms of none after the pause is one of the timetable's.
+abbrev pub sends : Calling → ℕ → Bool
+sends s heard = eqb heard none && pauseOver (s .heard)
+
+-- A tone that lasts its length in a row is the choice.
+abbrev pub chosen : Lasting → ℕ
+chosen l = cond (eqb (l .tone) none || ltb (l .ms) (lengthOf (l .tone))) 0 (l .tone)
+
+-- One ms, by what is heard in it: what is sent, and the state after it. The choice is for good, and nothing is sent any more.
+unfoldable pub sentIn : Calling → ℕ → ℕ
+sentIn s heard = cond (eqb (s .choice) 0 && sends s heard) (valueAt (s .place)) nothing
+
+unfoldable pub stateAfter : Calling → ℕ → Calling
+stateAfter s heard =
+    cond (eqb (s .choice) 0)
+    (calling (counted (s .heard) heard) (cond (sends s heard) (placeAfter (s .place)) 0) (chosen (counted (s .heard) heard)))
+    s
+
+-- The ms of a list, one after the other: the state after them, and one sent ms for each.
+unfoldable pub after : Calling → List ℕ → Calling
+after s [] = s
+after s (h ∷ hs) = after (stateAfter s h) hs
+
+unfoldable pub sentOf : Calling → List ℕ → List ℕ
+sentOf s [] = []
+sentOf s (h ∷ hs) = sentIn s h ∷ sentOf (stateAfter s h) hs

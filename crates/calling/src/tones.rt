@@ -1,0 +1,36 @@
+// The tones that are heard, and how long each must last.
+ghost use mathlib.Core.Path.{_≡_};
+ghost use Rattle.calling.specs.Tones.{lengthOf, allTones};
+
+pub const NONE: u8 = 0;
+
+// The last of the tones.
+pub const LAST: u8 = 11;
+
+// The ms that a tone must last in a row to be the choice.
+pub fn length(tone: u8) -> u16
+    ensures { λ r. ⌜ r ≡ lengthOf tone ⌝ }
+{
+    match tone {
+        3 => 500,
+        4 => 500,
+        5 => 1_700,
+        6 => 700,
+        7 => 1_500,
+        _ => 1,
+    }
+}
+
+// Is every heard ms none or a tone?
+pub fn valid(tones: &[u8]) -> bool
+    ensures { λ r. ⌜ r ≡ allTones (now (tones .entry)) ⌝ }
+{
+    let mut i: usize = 0;
+    while i < tones.len() {
+        if LAST < tones[i] {
+            return false;
+        }
+        i += 1;
+    }
+    true
+}
