@@ -197,8 +197,8 @@ pub extern "C" fn cq_calling_fresh() -> Calling
 
 // The choice, 0 until one is made.
 #[no_mangle]
-pub extern "C" fn cq_calling_choice(state: Calling) -> u8
-    ensures { λ r. ⌜ r ≡ state .choice ⌝ }
+pub extern "C" fn cq_calling_choice(state: &Calling) -> u8
+    ensures { λ r. ⌜ r ≡ now (state .entry) .choice ⌝ }
 {
     state.choice
 }
