@@ -1,11 +1,11 @@
 -- What a run answers: the questions in order, what a refusal leaves, and what success gives.
 use mathlib.Core.Path.{_≡_, _∙_, refl, sym, ap}
-use mathlib.Core.Bool.{true, false}
+use mathlib.Core.Bool.{Bool, true, false, cond}
 use mathlib.Core.List.{List, _++_}
 use Prim.Native.Nat.{ℕ, _≤_, _<_}
 use native.Mathlib.Omega.{arith}
-use borrow.Author.Tests.{ne-eqb, le-leb, lt-leb}
-use lib.Dec.{eqb}
+use borrow.Author.Tests.{ne-eqb, le-leb, lt-leb, leb-true}
+use lib.Dec.{eqb, leb}
 use lib.ListN.{length, drop}
 use lib.Seq.{sets}
 use Rattle.lists.proofs.Lists.{sets-front}
@@ -39,6 +39,26 @@ module _ (s : Calling) (ts : List ℕ) (room : ℕ) where
         pub answer-0 : length ts ≤ room → answerTo s ts room ≡ 0
         unfolding answerTo
         answer-0 g = simp (e, le-leb _ _ h, f, le-leb _ _ g)
+
+through : (b : Bool) (x k : ℕ) → (k ≡ 0 → ⊥) → cond b x k ≡ 0 → (b ≡ true) × (x ≡ 0)
+through true x k n e = (refl, e)
+through false x k n e = absurd (n e)
+
+-- What a run has been given that succeeds.
+pub record Given (s : Calling) (ts : List ℕ) (room : ℕ) : Type 0 where
+  pub range : inRange s ≡ true
+  pub short : length ts ≤ 4_096
+  pub tones : allTones ts ≡ true
+  pub fits : length ts ≤ room
+
+pub succeeds : (s : Calling) (ts : List ℕ) (room : ℕ) → answerTo s ts room ≡ 0 → Given s ts room
+unfolding answerTo
+succeeds s ts room e =
+    let a = through (inRange s) _ 12 (λ z. omega arith) e in
+    let b = through (leb (length ts) 4_096) _ 5 (λ z. omega arith) (a .1) in
+    let c = through (allTones ts) _ 11 (λ z. omega arith) (b .1) in
+    let d = through (leb (length ts) room) _ 7 (λ z. omega arith) (c .1) in
+    record { range = a .0; short = leb-true _ _ (b .0); tones = c .0; fits = leb-true _ _ (d .0) }
 
 module _ (s : Calling) (ts slice : List ℕ) where
   -- a refusal leaves the state and the slice

@@ -1,5 +1,9 @@
+pub mod Choices
 pub mod Places
 pub mod OneMs
 pub mod AllTones
 pub mod Fold
 pub mod Answers
+pub mod Range
+pub mod Cuts
+pub mod Periods

@@ -1,0 +1,110 @@
+-- Range is kept: a fresh state is in range, and so is the state after every run on one.
+use mathlib.Core.Path.{_≡_, _∙_, refl, sym}
+use mathlib.Core.Bool.{true, _&&_, _||_}
+use mathlib.Core.List.{List, [], _∷_}
+use Prim.Native.Nat.{ℕ, _+_, _≤_, _<_}
+use native.Mathlib.Omega.{arith}
+use borrow.Author.Tests.{le-leb, lt-ltb, leb-true, ltb-true, eqb-true, eqb-false}
+use lib.Dec.{eqb, leb, ltb, lit≤}
+use lib.ListN.{length}
+use Rattle.calling.specs.declared.counting.Lasting.{Lasting}
+use Rattle.calling.specs.declared.Calling.{Calling}
+use Rattle.calling.specs.declared.Ran.{Ran}
+use Rattle.calling.specs.Timetable.{timetable, total, period, placeAfter}
+use Rattle.calling.specs.Tones.{none, lengthOf, allTones}
+use Rattle.calling.specs.Counting.{most, counted}
+use Rattle.calling.specs.Set.{fresh, inRange, chosen, sends, stateAfter, after}
+use Rattle.calling.specs.Entry.{answerTo, ranOf}
+use Rattle.calling.proofs.Choices.{by-test, either, either-by, first-true, second-true}
+use Rattle.calling.proofs.OneMs.{counted-tone}
+use Rattle.calling.proofs.Answers.{succeeds}
+
+-- the period is 11,200 ms
+pub period-is : period ≡ 11_200
+unfolding timetable total period
+period-is = refl
+
+-- The bounds of a state in range.
+pub record Bounds (s : Calling) : Type 0 where
+  pub choice-in : s .choice ≤ 11
+  pub tone-in : s .heard .tone ≤ 11
+  pub ms-low : 1 ≤ s .heard .ms
+  pub ms-in : s .heard .ms ≤ most
+  pub place-in : s .place < period
+
+pub bounds-of : (s : Calling) → inRange s ≡ true → Bounds s
+unfolding inRange
+bounds-of s e =
+    let a = leb (s .choice) 11 in
+    let b = leb (s .heard .tone) 11 in
+    let c = leb 1 (s .heard .ms) in
+    let d = leb (s .heard .ms) most in
+    let f = ltb (s .place) period in
+    let e₁ = first-true (a && b && c && d) f e in
+    let e₂ = first-true (a && b && c) d e₁ in
+    let e₃ = first-true (a && b) c e₂ in
+    record {
+      choice-in = leb-true _ _ (first-true a b e₃);
+      tone-in = leb-true _ _ (second-true a b e₃);
+      ms-low = leb-true 1 _ (second-true (a && b) c e₂);
+      ms-in = leb-true _ _ (second-true (a && b && c) d e₁);
+      place-in = ltb-true _ _ (second-true (a && b && c && d) f e);
+    }
+
+pub in-range-by : (s : Calling) → Bounds s → inRange s ≡ true
+unfolding inRange
+in-range-by s r = simp (le-leb _ _ (r .choice-in), le-leb _ _ (r .tone-in), le-leb 1 _ (r .ms-low), le-leb _ _ (r .ms-in), lt-ltb _ _ (r .place-in))
+
+counted-ms : (l : Lasting) (h : ℕ) → 1 ≤ l .ms → l .ms ≤ most → (1 ≤ counted l h .ms) × (counted l h .ms ≤ most)
+unfolding counted
+counted-ms l h low high =
+    either (λ (k : Lasting). (1 ≤ k .ms) × (k .ms ≤ most)) (eqb h (l .tone))
+    (either-by (λ (n : ℕ). (1 ≤ n) × (n ≤ most)) (ltb (l .ms) most) (λ e. let g : l .ms < most = ltb-true _ _ e in (omega arith, omega arith)) (λ e. (low, high)))
+    (omega arith, omega arith)
+
+place-after-in : (k : ℕ) → placeAfter k < period
+unfolding placeAfter
+place-after-in k = either-by (λ (n : ℕ). n < period) (ltb (k + 1) period) (λ e. ltb-true _ _ e) (λ e. rw period-is (omega arith))
+
+chosen-in : (l : Lasting) → l .tone ≤ 11 → chosen l ≤ 11
+chosen-in l h = either (λ (n : ℕ). n ≤ 11) (eqb (l .tone) none || ltb (l .ms) (lengthOf (l .tone))) {x = 0} (omega arith) h
+
+-- a ms keeps range
+pub ms-in-range : (s : Calling) (h : ℕ) → h ≤ 11 → Bounds s → Bounds (stateAfter s h)
+unfolding stateAfter
+ms-in-range s h t r =
+    let n = counted-ms (s .heard) h (r .ms-low) (r .ms-in) in
+    let k : counted (s .heard) h .tone ≤ 11 = rw counted-tone t in
+    either Bounds (eqb (s .choice) 0)
+    (record {
+      choice-in = chosen-in (counted (s .heard) h) k;
+      tone-in = k;
+      ms-low = n .0;
+      ms-in = n .1;
+      place-in = either (λ (p : ℕ). p < period) (sends s h) (place-after-in (s .place)) (rw period-is (omega arith));
+    })
+    r
+
+all-in-range : (s : Calling) (hs : List ℕ) → allTones hs ≡ true → Bounds s → Bounds (after s hs)
+unfolding allTones after
+all-in-range s [] e r = r
+all-in-range s (h ∷ hs) e r =
+    all-in-range (stateAfter s h) hs (second-true (leb h 11) (allTones hs) e)
+    (ms-in-range s h (leb-true _ _ (first-true (leb h 11) (allTones hs) e)) r)
+
+-- a fresh state is in range
+pub fresh-in-range : inRange fresh ≡ true
+unfolding timetable total period fresh inRange
+fresh-in-range = refl
+
+-- the tones of a run that succeeds keep range
+pub after-in-range : (s : Calling) (hs : List ℕ) → allTones hs ≡ true → inRange s ≡ true → inRange (after s hs) ≡ true
+after-in-range s hs e r = in-range-by (after s hs) (all-in-range s hs e (bounds-of s r))
+
+-- every run keeps range, whatever it is given and whatever it answers
+pub run-in-range : (s : Calling) (ts : List ℕ) (room : ℕ) → inRange s ≡ true → inRange (ranOf s ts room .state) ≡ true
+unfolding ranOf
+run-in-range s ts room r =
+    either-by (λ (x : Ran). inRange (x .state) ≡ true) (eqb (answerTo s ts room) 0)
+    (λ e. after-in-range s ts (succeeds s ts room (eqb-true _ _ e) .tones) r)
+    (λ e. r)
