@@ -94,3 +94,8 @@ calls-sent s (c ∷ cs) =
     ∙ ap (λ (l : List ℕ). l ++ sentOf (left s c) (heardBy (left s c) cs)) (says-is s c)
     ∙ ap (λ (t : Calling). sentOf s (hears s c) ++ sentOf t (heardBy (left s c) cs)) (left-is s c)
     ∙ sym (sent-append s (hears s c) (heardBy (left s c) cs))
+
+-- Two lists of calls that hear the same, however it is cut, leave the same state and send the same.
+pub same-heard : (s : Calling) (cs ds : List Call) → heardBy s cs ≡ heardBy s ds → (leftBy s cs ≡ leftBy s ds) × (sentBy s cs ≡ sentBy s ds)
+same-heard s cs ds e =
+    (calls-left s cs ∙ ap (after s) e ∙ sym (calls-left s ds), calls-sent s cs ∙ ap (sentOf s) e ∙ sym (calls-sent s ds))

@@ -7,3 +7,5 @@ pub mod Answers
 pub mod Range
 pub mod Cuts
 pub mod Periods
+pub mod Pauses
+pub mod Choosing

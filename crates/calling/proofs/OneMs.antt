@@ -2,24 +2,30 @@
 use mathlib.Core.Path.{_≡_, _∙_, refl, sym, ap}
 use mathlib.Core.Bool.{Bool, true, false, cond}
 use Prim.Native.Nat.{ℕ}
-use borrow.Author.Tests.{eq-eqb, ne-eqb}
+use borrow.Author.Tests.{eq-eqb, ne-eqb, eqb-true, eqb-false}
 use lib.Dec.{eqb}
 use Rattle.calling.specs.declared.counting.Lasting.{Lasting}
 use Rattle.calling.specs.declared.Calling.{Calling}
 use Rattle.calling.specs.declared.Stepped.{Stepped}
 use Rattle.calling.specs.Timetable.{nothing, valueAt, placeAfter}
 use Rattle.calling.specs.Tones.{none}
-use Rattle.calling.specs.Counting.{counted}
+use Rattle.calling.specs.Counting.{lasting, oneMore, counted}
 use Rattle.calling.specs.Set.{calling, pauseOver, chosen, sentIn, stateAfter}
-
-either-tone : (b : Bool) (x y : Lasting) (h : ℕ) → x .tone ≡ h → y .tone ≡ h → cond b x y .tone ≡ h
-either-tone true x y h p q = p
-either-tone false x y h p q = q
+use Rattle.calling.proofs.Choices.{by-test, either}
 
 -- what was heard last is this ms
 pub counted-tone : (l : Lasting) (h : ℕ) → counted l h .tone ≡ h
 unfolding counted
-counted-tone l h = either-tone (eqb h (l .tone)) _ _ h refl refl
+counted-tone l h = either (λ (k : Lasting). k .tone ≡ h) (eqb h (l .tone)) refl refl
+
+-- the same tone is counted on, and another starts its own count at 1
+pub counted-same : (l : Lasting) (h : ℕ) → h ≡ l .tone → counted l h ≡ lasting h (oneMore (l .ms))
+unfolding counted
+counted-same l h e = simp (eq-eqb _ _ e)
+
+pub counted-other : (l : Lasting) (h : ℕ) → (h ≡ l .tone → ⊥) → counted l h ≡ lasting h 1
+unfolding counted
+counted-other l h n = simp (ne-eqb _ _ n)
 
 -- none is no choice
 pub none-chosen : (l : Lasting) → l .tone ≡ none → chosen l ≡ 0
@@ -36,7 +42,23 @@ module _ (s : Calling) (h : ℕ) where
   unfolding stateAfter sentIn
   does-chosen c = let e = ne-eqb _ _ c in record { leaves = simp e; says = simp e }
 
+  -- where none is made after a ms, none was made before it
+  pub no-choice-before : stateAfter s h .choice ≡ 0 → s .choice ≡ 0
+  no-choice-before c =
+      by-test (eqb (s .choice) 0) (λ e. eqb-true _ _ e)
+      (λ e. let z = eqb-false _ _ e in absurd (z (sym (ap (λ (t : Calling). t .choice) (does-chosen z .leaves)) ∙ c)))
+
   module _ (c : s .choice ≡ 0) where
+    -- until the choice is made, what is heard is counted
+    pub heard-after : stateAfter s h .heard ≡ counted (s .heard) h
+    unfolding stateAfter
+    heard-after = simp (eq-eqb _ _ c)
+
+    -- and makes the choice or not
+    pub choice-after : stateAfter s h .choice ≡ chosen (counted (s .heard) h)
+    unfolding stateAfter
+    choice-after = simp (eq-eqb _ _ c)
+
     -- a tone: nothing is sent, and the timetable goes back to its first place
     pub does-tone : (h ≡ none → ⊥) → Does s h (calling (counted (s .heard) h) 0 (chosen (counted (s .heard) h))) nothing
     unfolding stateAfter sentIn

@@ -1,0 +1,231 @@
+-- A tone shorter than its length is no choice; one that reaches it is, in that ms, and it is for good.
+use mathlib.Core.Path.{_≡_, _∙_, refl, sym, ap}
+use mathlib.Core.Bool.{Bool, true, false, cond, _&&_, _||_}
+use mathlib.Core.List.{List, [], _∷_, _++_}
+use Prim.Native.Nat.{ℕ, zero, suc, _+_, _≤_, _<_}
+use native.Mathlib.Omega.{arith}
+use borrow.Author.Tests.{eq-eqb, ne-eqb, lt-ltb, le-ltb, eqb-true, eqb-false, ltb-true, ltb-false}
+use lib.Dec.{eqb, ltb}
+use lib.ListN.{length, replicate}
+use Rattle.calling.specs.declared.counting.Lasting.{Lasting}
+use Rattle.calling.specs.declared.Calling.{Calling}
+use Rattle.calling.specs.Timetable.{nothing}
+use Rattle.calling.specs.Tones.{none, Lasts, lengths, lengthIn, lengthOf}
+use Rattle.calling.specs.Counting.{most, oneMore, counted}
+use Rattle.calling.specs.Set.{fresh, inRange, pause, chosen, sentIn, stateAfter, after, sentOf}
+use Rattle.calling.proofs.Choices.{by-test, either, either-by, first-true, second-true}
+use Rattle.calling.proofs.OneMs.{counted-same, counted-other, heard-after, choice-after, does-chosen}
+use Rattle.calling.proofs.Cuts.{after-append}
+use Rattle.calling.proofs.Range.{Bounds, bounds-of, fresh-in-range}
+
+-- a choice is for good: every later ms leaves the state as it is ..
+pub for-good : (s : Calling) (hs : List ℕ) → (s .choice ≡ 0 → ⊥) → after s hs ≡ s
+unfolding after
+for-good s [] c = refl
+for-good s (h ∷ hs) c = ap (λ (t : Calling). after t hs) (does-chosen s h c .leaves) ∙ for-good s hs c
+
+-- .. and sends nothing
+pub for-good-sent : (s : Calling) (hs : List ℕ) → (s .choice ≡ 0 → ⊥) → sentOf s hs ≡ replicate (length hs) nothing
+unfolding sentOf
+for-good-sent s [] c = refl
+for-good-sent s (h ∷ hs) c =
+    let now = does-chosen s h c .says in
+    let later = ap (λ (t : Calling). sentOf t hs) (does-chosen s h c .leaves) ∙ for-good-sent s hs c in
+    λ i. now i ∷ later i
+
+-- The ms of h in a row with this one, where n ms of t in a row came before it. Nothing bounds it.
+abbrev pub inARow : ℕ → ℕ → ℕ → ℕ
+inARow t n h = cond (eqb h t) (n + 1) 1
+
+-- This ms of h is not the one in which a tone reaches its length.
+abbrev pub tooShort : ℕ → ℕ → Bool
+tooShort h n = eqb h none || ltb n (lengthOf h)
+
+-- In none of the ms of hs a tone reaches its length, where n ms of t in a row came before them.
+unfoldable pub allShort : ℕ → ℕ → List ℕ → Bool
+allShort t n [] = true
+allShort t n (h ∷ hs) = tooShort h (inARow t n h) && allShort h (inARow t n h) hs
+
+-- no tone must last longer than the count goes
+length-in : (t : ℕ) → lengthOf t ≤ most
+unfolding lengths lengthIn lengthOf
+length-in t =
+    either (λ (n : ℕ). n ≤ most) (eqb t 3) (omega arith)
+    (either (λ (n : ℕ). n ≤ most) (eqb t 4) (omega arith)
+    (either (λ (n : ℕ). n ≤ most) (eqb t 5) (omega arith)
+    (either (λ (n : ℕ). n ≤ most) (eqb t 6) (omega arith)
+    (either (λ (n : ℕ). n ≤ most) (eqb t 7) (omega arith) (omega arith)))))
+
+neither-first : (a b : Bool) → a || b ≡ false → a ≡ false
+neither-first true b e = e
+neither-first false b e = refl
+
+only-first : (a : Bool) → a && true ≡ false → a ≡ false
+only-first true e = e
+only-first false e = refl
+
+and-false : (a : Bool) → a && false ≡ false
+and-false true = refl
+and-false false = refl
+
+either-true : (a : Bool) → (a || true) && true ≡ true
+either-true true = refl
+either-true false = refl
+
+-- A count of n ms that goes no further than the most.
+record Bounded (ms n : ℕ) : Type 0 where
+  below : n < most → ms ≡ n
+  above : most ≤ n → ms ≡ most
+
+bounded-on : (ms n : ℕ) → Bounded ms n → Bounded (oneMore ms) (n + 1)
+bounded-on ms n b =
+    by-test (ltb n most)
+    (λ e.
+      let h : n < most = ltb-true _ _ e in
+      let m = b .below h in
+      simp (lt-ltb ms most (omega arith)) (record { below = λ g. omega arith; above = λ g. omega arith }))
+    (λ e.
+      let h : most ≤ n = ltb-false _ _ e in
+      let m = b .above h in
+      simp (le-ltb ms most (omega arith)) (record { below = λ g. absurd (omega arith); above = λ _. m }))
+
+-- it tells whether n is below a length
+bounded-below : (ms n k : ℕ) → k ≤ most → Bounded ms n → ltb ms k ≡ ltb n k
+bounded-below ms n k h b =
+    by-test (ltb n most)
+    (λ e. let m = b .below (ltb-true _ _ e) in rw m)
+    (λ e.
+      let g : most ≤ n = ltb-false _ _ e in
+      let m = b .above g in
+      le-ltb ms k (omega arith) ∙ sym (le-ltb n k (omega arith)))
+
+-- What was heard last is t, for n ms in a row.
+record Counts (l : Lasting) (t n : ℕ) : Type 0 where
+  tone-is : l .tone ≡ t
+  ms-is : Bounded (l .ms) n
+
+-- one ms more
+counts-on : (l : Lasting) (t n h : ℕ) → Counts l t n → Counts (counted l h) h (inARow t n h)
+counts-on l t n h c =
+    by-test (eqb h t)
+    (λ e.
+      let s = counted-same l h (eqb-true _ _ e ∙ sym (c .tone-is)) in
+      rw s (simp e (record { tone-is = refl; ms-is = bounded-on (l .ms) n (c .ms-is) })))
+    (λ e.
+      let s = counted-other l h (λ q. eqb-false _ _ e (q ∙ c .tone-is)) in
+      rw s (simp e (record { tone-is = refl; ms-is = record { below = λ _. refl; above = λ g. absurd (omega arith) } })))
+
+-- the count tells whether this ms makes the choice
+counts-chosen : (l : Lasting) (t n : ℕ) → Counts l t n → chosen l ≡ cond (tooShort t n) 0 t
+counts-chosen l t n c = simp (c .tone-is, bounded-below (l .ms) n (lengthOf t) (length-in t) (c .ms-is))
+
+-- until the choice is made, a ms makes it or not by the ms in a row
+choice-by : (s : Calling) (h t n : ℕ) → s .choice ≡ 0 → Counts (s .heard) t n → stateAfter s h .choice ≡ cond (tooShort h (inARow t n h)) 0 h
+choice-by s h t n c k = choice-after s h c ∙ counts-chosen (counted (s .heard) h) h (inARow t n h) (counts-on (s .heard) t n h k)
+
+-- a ms in which no tone reaches its length makes no choice, and the count goes on
+short-ms : (s : Calling) (h t n : ℕ) → s .choice ≡ 0 → Counts (s .heard) t n → tooShort h (inARow t n h) ≡ true
+    → (stateAfter s h .choice ≡ 0) × Counts (stateAfter s h .heard) h (inARow t n h)
+short-ms s h t n c k e = (choice-by s h t n c k ∙ simp e, rw (heard-after s h c) (counts-on (s .heard) t n h k))
+
+-- the ms in which one does makes it, for good
+long-ms : (s : Calling) (h t n : ℕ) (ys : List ℕ) → s .choice ≡ 0 → Counts (s .heard) t n → tooShort h (inARow t n h) ≡ false
+    → after s (h ∷ ys) .choice ≡ h
+unfolding after
+long-ms s h t n ys c k e =
+    let d : stateAfter s h .choice ≡ h = choice-by s h t n c k ∙ simp e in
+    let z : h ≡ none → ⊥ = λ q. eqb-false h none (neither-first (eqb h none) (ltb (inARow t n h) (lengthOf h)) e) q in
+    ap (λ (r : Calling). r .choice) (for-good (stateAfter s h) ys (λ q. z (sym d ∙ q))) ∙ d
+
+none-made : (hs : List ℕ) (s : Calling) (t n : ℕ) → s .choice ≡ 0 → Counts (s .heard) t n → allShort t n hs ≡ true → after s hs .choice ≡ 0
+unfolding after allShort
+none-made [] s t n c k e = c
+none-made (h ∷ hs) s t n c k e =
+    let m = inARow t n h in
+    let d = short-ms s h t n c k (first-true (tooShort h m) (allShort h m hs) e) in
+    none-made hs (stateAfter s h) h m (d .0) (d .1) (second-true (tooShort h m) (allShort h m hs) e)
+
+made : (hs : List ℕ) (h : ℕ) (ys : List ℕ) (s : Calling) (t n : ℕ) → s .choice ≡ 0 → Counts (s .heard) t n
+    → allShort t n hs ≡ true → allShort t n (hs ++ (h ∷ [])) ≡ false → after s (hs ++ (h ∷ ys)) .choice ≡ h
+unfolding after allShort
+made [] h ys s t n c k e f = long-ms s h t n ys c k (only-first (tooShort h (inARow t n h)) f)
+made (x ∷ hs) h ys s t n c k e f =
+    let m = inARow t n x in
+    let b = first-true (tooShort x m) (allShort x m hs) e in
+    let d = short-ms s x t n c k b in
+    made hs h ys (stateAfter s x) x m (d .0) (d .1) (second-true (tooShort x m) (allShort x m hs) e) (simp b at f)
+
+-- in range, the count of what was heard last is that of its ms
+counts-own : (s : Calling) → inRange s ≡ true → Counts (s .heard) (s .heard .tone) (s .heard .ms)
+counts-own s r =
+    let b = bounds-of s r in
+    let m = b .ms-in in
+    record { tone-is = refl; ms-is = record { below = λ _. refl; above = λ g. omega arith } }
+
+module _ (s : Calling) (range : inRange s ≡ true) (unmade : s .choice ≡ 0) where
+  -- no choice is made while no tone reaches its length ..
+  pub no-choice : (hs : List ℕ) → allShort (s .heard .tone) (s .heard .ms) hs ≡ true → after s hs .choice ≡ 0
+  no-choice hs e = none-made hs s (s .heard .tone) (s .heard .ms) unmade (counts-own s range) e
+
+  -- .. and the tone that reaches it first is the choice, from that ms on, whatever is heard later
+  pub choice-made : (hs : List ℕ) (h : ℕ) (ys : List ℕ) → allShort (s .heard .tone) (s .heard .ms) hs ≡ true
+      → allShort (s .heard .tone) (s .heard .ms) (hs ++ (h ∷ [])) ≡ false → after s (hs ++ (h ∷ ys)) .choice ≡ h
+  choice-made hs h ys e f = made hs h ys s (s .heard .tone) (s .heard .ms) unmade (counts-own s range) e f
+
+-- how long none has lasted is of no account
+none-count : (hs : List ℕ) (m n : ℕ) → allShort none m hs ≡ allShort none n hs
+unfolding allShort
+none-count [] m n = refl
+none-count (h ∷ hs) m n =
+    by-test (eqb h none)
+    (λ e. simp e (rw (eqb-true h none e) (none-count hs (m + 1) (n + 1))))
+    (λ e. simp e)
+
+-- The same for a set that was fresh, by the ms that it heard alone: no tone reached its length ..
+pub fresh-no-choice : (hs : List ℕ) → allShort none 0 hs ≡ true → after fresh hs .choice ≡ 0
+unfolding fresh
+fresh-no-choice hs e = no-choice fresh fresh-in-range refl hs (none-count hs pause 0 ∙ e)
+
+-- .. or this was the first
+pub fresh-choice-made : (hs : List ℕ) (h : ℕ) (ys : List ℕ) → allShort none 0 hs ≡ true → allShort none 0 (hs ++ (h ∷ [])) ≡ false
+    → after fresh (hs ++ (h ∷ ys)) .choice ≡ h
+unfolding fresh
+fresh-choice-made hs h ys e f =
+    choice-made fresh fresh-in-range refl hs h ys (none-count hs pause 0 ∙ e) (none-count (hs ++ (h ∷ [])) pause 0 ∙ f)
+
+-- k ms of a tone and n more of it are too short
+row-short : (n k t : ℕ) → k + n < lengthOf t → allShort t k (replicate n t) ≡ true
+unfolding allShort
+row-short zero k t h = refl
+row-short (suc n) k t h =
+    simp (eq-eqb t t refl, lt-ltb (k + 1) (lengthOf t) (omega arith), row-short n (k + 1) t (omega arith)) (either-true (eqb t none))
+
+-- and one ms more is not, if they reach its length
+row-long : (n k t : ℕ) → (t ≡ none → ⊥) → suc (k + n) ≡ lengthOf t → allShort t k (replicate n t ++ (t ∷ [])) ≡ false
+unfolding allShort
+row-long zero k t z h = simp (ne-eqb t none z, eq-eqb t t refl, le-ltb (k + 1) (lengthOf t) (omega arith))
+row-long (suc n) k t z h =
+    simp (ne-eqb t none z, eq-eqb t t refl, row-long n (k + 1) t z (omega arith)) (and-false (ltb (k + 1) (lengthOf t)))
+
+-- the same of a tone that comes after something else
+first-short : (n u m t : ℕ) → (t ≡ u → ⊥) → n < lengthOf t → allShort u m (replicate n t) ≡ true
+unfolding allShort
+first-short zero u m t other h = refl
+first-short (suc n) u m t other h =
+    simp (ne-eqb t u other, lt-ltb 1 (lengthOf t) (omega arith), row-short n 1 t (omega arith)) (either-true (eqb t none))
+
+first-long : (n u m t : ℕ) → (t ≡ u → ⊥) → (t ≡ none → ⊥) → suc n ≡ lengthOf t → allShort u m (replicate n t ++ (t ∷ [])) ≡ false
+unfolding allShort
+first-long zero u m t other z h = simp (ne-eqb t none z, ne-eqb t u other, le-ltb 1 (lengthOf t) (omega arith))
+first-long (suc n) u m t other z h =
+    simp (ne-eqb t none z, ne-eqb t u other, row-long n 1 t z (omega arith)) (and-false (ltb 1 (lengthOf t)))
+
+module _ (s : Calling) (t n : ℕ) (range : inRange s ≡ true) (unmade : s .choice ≡ 0) (other : t ≡ s .heard .tone → ⊥) where
+  -- a tone that is shorter than its length is no choice
+  pub tone-too-short : n < lengthOf t → after s (replicate n t) .choice ≡ 0
+  tone-too-short h = no-choice s range unmade (replicate n t) (first-short n _ _ t other h)
+
+  -- one that reaches it is, in that ms, and for good
+  pub tone-reaches : (ys : List ℕ) → (t ≡ none → ⊥) → suc n ≡ lengthOf t → after s (replicate n t ++ (t ∷ ys)) .choice ≡ t
+  tone-reaches ys z h =
+      choice-made s range unmade (replicate n t) t ys (first-short n _ _ t other (omega arith)) (first-long n _ _ t other z h)

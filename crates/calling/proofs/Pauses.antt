@@ -1,0 +1,165 @@
+-- From the ms of a tone on nothing is sent until 400 ms of none in a row have passed, and the ms after them is the timetable's first.
+use mathlib.Core.Path.{_≡_, _∙_, refl, sym, ap}
+use mathlib.Core.Bool.{Bool, true, false, cond, _&&_}
+use mathlib.Core.List.{List, [], _∷_, _++_}
+use Prim.Native.Nat.{ℕ, zero, suc, _+_, _≤_, _<_}
+use native.Mathlib.Nat.{add-zero, zero-add, add-suc, suc-add}
+use native.Mathlib.Numerals.{add-one}
+use native.Mathlib.Omega.{arith}
+use borrow.Author.Tests.{eq-eqb, ne-eqb, lt-leb, le-leb, eqb-true, eqb-false, lt-ltb, ltb-true}
+use lib.Dec.{eqb, leb, ltb}
+use lib.ListN.{length, replicate, length-replicate}
+use Rattle.calling.specs.declared.counting.Lasting.{Lasting}
+use Rattle.calling.specs.declared.Calling.{Calling}
+use Rattle.calling.specs.Timetable.{nothing}
+use Rattle.calling.specs.Tones.{none}
+use Rattle.calling.specs.Counting.{most, counted}
+use Rattle.calling.specs.Set.{calling, pause, pauseOver, sentIn, stateAfter, after, sentOf}
+use Rattle.calling.proofs.Choices.{by-test, first-true, second-true}
+use Rattle.calling.proofs.OneMs.{counted-tone, no-choice-before, heard-after, does-chosen, does-tone, does-pause}
+use Rattle.calling.proofs.Cuts.{after-append, sent-append}
+use Rattle.calling.proofs.Periods.{periods, Runs, runs-sent-first}
+
+one-after : (s : Calling) (h : ℕ) → after s (h ∷ []) ≡ stateAfter s h
+unfolding after
+one-after s h = refl
+
+-- The ms of none in a row, by what was heard last.
+abbrev noneMs : Lasting → ℕ
+noneMs l = cond (eqb (l .tone) none) (l .ms) 0
+
+-- The same after one ms more, from n.
+abbrev pub noneAfter : ℕ → ℕ → ℕ
+noneAfter n h = cond (eqb h none) (n + 1) 0
+
+-- Before each ms of hs fewer than 400 ms of none in a row have passed; n have passed before the first.
+unfoldable pub waits : ℕ → List ℕ → Bool
+waits n [] = true
+waits n (h ∷ hs) = ltb n pause && waits (noneAfter n h) hs
+
+tone-counted : (l : Lasting) (h : ℕ) → eqb h none ≡ false → noneMs (counted l h) ≡ 0
+tone-counted l h e = simp (counted-tone l h, e)
+
+none-counted : (l : Lasting) (h : ℕ) → noneMs l < pause → noneMs (counted l h) ≡ noneAfter (noneMs l) h
+unfolding counted
+none-counted l h short =
+    by-test (eqb h none)
+    (λ e.
+      let z : h ≡ none = eqb-true _ _ e in
+      by-test (eqb (l .tone) none)
+      (λ f.
+        let t : h ≡ l .tone = z ∙ sym (eqb-true _ _ f) in
+        let m : l .ms < most = omega (arith, rw f at short) in
+        simp (f, e, eq-eqb h (l .tone) t, lt-ltb (l .ms) most m))
+      (λ f. simp (f, e, ne-eqb h (l .tone) (λ q. eqb-false (l .tone) none f (sym q ∙ z)))))
+    (λ e. tone-counted l h e ∙ simp e)
+
+-- the pause is not over
+not-over : (l : Lasting) → noneMs l < pause → pauseOver l ≡ false
+not-over l h =
+    by-test (eqb (l .tone) none)
+    (λ e. simp (e, lt-leb pause (l .ms) (rw e at h)))
+    (λ e. simp e)
+
+tone-none : (s : Calling) (h : ℕ) → (h ≡ none → ⊥) → stateAfter s h .choice ≡ 0 → noneMs (stateAfter s h .heard) ≡ 0
+tone-none s h t c = ap noneMs (heard-after s h (no-choice-before s h c)) ∙ tone-counted (s .heard) h (ne-eqb h none t)
+
+-- before the pause is over a ms sends nothing, and the ms of none are counted on
+module _ (s : Calling) (h n : ℕ) (w : s .choice ≡ 0 → noneMs (s .heard) ≡ n) (short : n < pause) where
+  waits-sent : sentIn s h ≡ nothing
+  waits-sent =
+      by-test (eqb (s .choice) 0)
+      (λ c.
+        let z : s .choice ≡ 0 = eqb-true _ _ c in
+        by-test (eqb h none)
+        (λ e. does-pause s h z (eqb-true _ _ e) (not-over (s .heard) (rw (w z) short)) .says)
+        (λ e. does-tone s h z (eqb-false _ _ e) .says))
+      (λ c. does-chosen s h (eqb-false _ _ c) .says)
+
+  waits-next : stateAfter s h .choice ≡ 0 → noneMs (stateAfter s h .heard) ≡ noneAfter n h
+  waits-next c =
+      let z = no-choice-before s h c in
+      ap noneMs (heard-after s h z) ∙ none-counted (s .heard) h (rw (w z) short) ∙ ap (λ (m : ℕ). noneAfter m h) (w z)
+
+-- nothing is sent while fewer than 400 ms of none in a row have passed
+waiting : (hs : List ℕ) (s : Calling) (n : ℕ) → (s .choice ≡ 0 → noneMs (s .heard) ≡ n) → waits n hs ≡ true → sentOf s hs ≡ replicate (length hs) nothing
+unfolding waits sentOf
+waiting [] s n w e = refl
+waiting (h ∷ hs) s n w e =
+    let short = ltb-true _ _ (first-true (ltb n pause) (waits (noneAfter n h) hs) e) in
+    let now = waits-sent s h n w short in
+    let later = waiting hs (stateAfter s h) (noneAfter n h) (waits-next s h n w short) (second-true (ltb n pause) (waits (noneAfter n h) hs) e) in
+    λ i. now i ∷ later i
+
+-- from the ms of a tone on nothing is sent until 400 ms of none in a row have passed
+pub tone-sent : (s : Calling) (h : ℕ) (hs : List ℕ) → (h ≡ none → ⊥) → waits 0 hs ≡ true → sentOf s (h ∷ hs) ≡ replicate (suc (length hs)) nothing
+unfolding sentOf
+tone-sent s h hs t e =
+    let now : sentIn s h ≡ nothing =
+      by-test (eqb (s .choice) 0) (λ c. does-tone s h (eqb-true _ _ c) t .says) (λ c. does-chosen s h (eqb-false _ _ c) .says)
+    in
+    let later = waiting hs (stateAfter s h) 0 (tone-none s h t) e in
+    λ i. now i ∷ later i
+
+-- A set in its pause: k ms of none in a row have passed, the timetable stands at its first place, and no choice is made.
+record Pausing (s : Calling) (k : ℕ) : Type 0 where
+  no-choice : s .choice ≡ 0
+  none-is : noneMs (s .heard) ≡ k
+  place-is : s .place ≡ 0
+
+pausing-on : (s : Calling) (k : ℕ) → k < pause → Pausing s k → Pausing (stateAfter s none) (suc k)
+pausing-on s k h p =
+    let short : noneMs (s .heard) < pause = rw (p .none-is) h in
+    let d = does-pause s none (p .no-choice) refl (not-over (s .heard) short) in
+    rw (d .leaves) (record { no-choice = refl; none-is = none-counted (s .heard) none short ∙ ap (λ (m : ℕ). m + 1) (p .none-is) ∙ add-one k; place-is = refl })
+
+pausing-all : (n k : ℕ) (s : Calling) → k + n ≤ pause → Pausing s k → Pausing (after s (replicate n none)) (k + n)
+unfolding after
+pausing-all zero k s h p = rw add-zero p
+pausing-all (suc n) k s h p =
+    let e : k + suc n ≡ suc k + n = add-suc k n ∙ sym (suc-add k n) in
+    rw e (pausing-all n (suc k) (stateAfter s none) (rw e at h) (pausing-on s k (omega arith) p))
+
+over-runs : (s : Calling) (k : ℕ) → k ≡ pause → Pausing s k → Runs s 0
+over-runs s k k-is p =
+    let m = p .none-is ∙ k-is in
+    let ready : pauseOver (s .heard) ≡ true =
+      by-test (eqb (s .heard .tone) none)
+      (λ e. simp (e, le-leb pause (s .heard .ms) (omega (arith, rw e at m))))
+      (λ e. let z : _≡_ {A = ℕ} 0 pause = rw e at m in absurd (omega arith))
+    in
+    record { no-choice = p .no-choice; ready = ready; place-is = p .place-is }
+
+tone-pausing : (s : Calling) (t : ℕ) → (t ≡ none → ⊥) → stateAfter s t .choice ≡ 0 → Pausing (stateAfter s t) 0
+tone-pausing s t n c =
+    let d = does-tone s t (no-choice-before s t c) n in
+    record { no-choice = c; none-is = tone-none s t n c; place-is = ap (λ (r : Calling). r .place) (d .leaves) }
+
+module _ (s : Calling) (t m : ℕ) (tone : t ≡ none → ⊥) (m-is : m ≡ pause) where
+  -- a tone that makes no choice, then 400 ms of none: the ms after them is the timetable's first
+  pub pause-runs : stateAfter s t .choice ≡ 0 → Runs (after s (t ∷ replicate m none)) 0
+  unfolding after
+  pause-runs c =
+      let p = pausing-all m 0 (stateAfter s t) (omega arith) (tone-pausing s t tone c) in
+      over-runs (after (stateAfter s t) (replicate m none)) (0 + m) (zero-add m ∙ m-is) p
+
+none-waits : (m n : ℕ) → n + m ≤ pause → waits n (replicate m none) ≡ true
+unfolding waits
+none-waits zero n h = refl
+none-waits (suc m) n h = simp (lt-ltb n pause (omega arith), none-waits m (n + 1) (omega arith))
+
+-- after any ms, a tone that makes no choice and then 400 ms of none: nothing in these, and then the timetable from its first ms on
+pub pause-sent : (s : Calling) (hs : List ℕ) (t m n : ℕ) → (t ≡ none → ⊥) → m ≡ pause → after s (hs ++ (t ∷ [])) .choice ≡ 0
+    → sentOf s (hs ++ ((t ∷ replicate m none) ++ replicate n none)) ≡ sentOf s hs ++ (replicate (suc m) nothing ++ periods n)
+pause-sent s hs t m n tone m-is c =
+    let r = after s hs in
+    let xs = t ∷ replicate m none in
+    let ys = replicate n none in
+    let d : stateAfter r t .choice ≡ 0 = rw (after-append, one-after) at c in
+    let e : sentOf r xs ≡ replicate (suc m) nothing =
+      tone-sent r t (replicate m none) tone (none-waits m 0 (omega arith)) ∙ ap (λ (k : ℕ). replicate (suc k) nothing) (length-replicate m none)
+    in
+    sent-append s hs (xs ++ ys)
+    ∙ ap (λ (l : List ℕ). sentOf s hs ++ l)
+    (sent-append r xs ys ∙ ap (λ (l : List ℕ). l ++ sentOf (after r xs) ys) e
+    ∙ ap (λ (l : List ℕ). replicate (suc m) nothing ++ l) (runs-sent-first n (after r xs) (pause-runs r t m tone m-is d)))
