@@ -10,13 +10,12 @@ use lib.ListN.{length, replicate}
 use Rattle.calling.specs.declared.counting.Lasting.{Lasting}
 use Rattle.calling.specs.declared.Calling.{Calling}
 use Rattle.calling.specs.Timetable.{nothing}
-use Rattle.calling.specs.Tones.{none, Lasts, lengths, lengthIn, lengthOf}
+use Rattle.calling.specs.Tones.{none, lengths, lengthIn, lengthOf}
 use Rattle.calling.specs.Counting.{most, oneMore, counted}
-use Rattle.calling.specs.Set.{fresh, inRange, pause, chosen, sentIn, stateAfter, after, sentOf}
-use Rattle.calling.proofs.Choices.{by-test, either, either-by, first-true, second-true}
+use Rattle.calling.specs.Set.{fresh, inRange, pause, chosen, stateAfter, after, sentOf}
+use Rattle.calling.proofs.Choices.{by-test, either, first-true, second-true}
 use Rattle.calling.proofs.OneMs.{counted-same, counted-other, heard-after, choice-after, does-chosen}
-use Rattle.calling.proofs.Cuts.{after-append}
-use Rattle.calling.proofs.Range.{Bounds, bounds-of, fresh-in-range}
+use Rattle.calling.proofs.Range.{bounds-of, fresh-in-range}
 
 -- a choice is for good: every later ms leaves the state as it is ..
 pub for-good : (s : Calling) (hs : List ℕ) → (s .choice ≡ 0 → ⊥) → after s hs ≡ s
@@ -81,13 +80,13 @@ bounded-on : (ms n : ℕ) → Bounded ms n → Bounded (oneMore ms) (n + 1)
 bounded-on ms n b =
     by-test (ltb n most)
     (λ e.
-      let h : n < most = ltb-true _ _ e in
-      let m = b .below h in
-      simp (lt-ltb ms most (omega arith)) (record { below = λ g. omega arith; above = λ g. omega arith }))
+    let h : n < most = ltb-true _ _ e in
+    let m = b .below h in
+    simp (lt-ltb ms most (omega arith)) (record { below = λ g. omega arith; above = λ g. omega arith }))
     (λ e.
-      let h : most ≤ n = ltb-false _ _ e in
-      let m = b .above h in
-      simp (le-ltb ms most (omega arith)) (record { below = λ g. absurd (omega arith); above = λ _. m }))
+    let h : most ≤ n = ltb-false _ _ e in
+    let m = b .above h in
+    simp (le-ltb ms most (omega arith)) (record { below = λ g. absurd (omega arith); above = λ _. m }))
 
 -- it tells whether n is below a length
 bounded-below : (ms n k : ℕ) → k ≤ most → Bounded ms n → ltb ms k ≡ ltb n k
@@ -95,9 +94,9 @@ bounded-below ms n k h b =
     by-test (ltb n most)
     (λ e. let m = b .below (ltb-true _ _ e) in rw m)
     (λ e.
-      let g : most ≤ n = ltb-false _ _ e in
-      let m = b .above g in
-      le-ltb ms k (omega arith) ∙ sym (le-ltb n k (omega arith)))
+    let g : most ≤ n = ltb-false _ _ e in
+    let m = b .above g in
+    le-ltb ms k (omega arith) ∙ sym (le-ltb n k (omega arith)))
 
 -- What was heard last is t, for n ms in a row.
 record Counts (l : Lasting) (t n : ℕ) : Type 0 where
@@ -109,11 +108,11 @@ counts-on : (l : Lasting) (t n h : ℕ) → Counts l t n → Counts (counted l h
 counts-on l t n h c =
     by-test (eqb h t)
     (λ e.
-      let s = counted-same l h (eqb-true _ _ e ∙ sym (c .tone-is)) in
-      rw s (simp e (record { tone-is = refl; ms-is = bounded-on (l .ms) n (c .ms-is) })))
+    let s = counted-same l h (eqb-true _ _ e ∙ sym (c .tone-is)) in
+    rw s (simp e (record { tone-is = refl; ms-is = bounded-on (l .ms) n (c .ms-is) })))
     (λ e.
-      let s = counted-other l h (λ q. eqb-false _ _ e (q ∙ c .tone-is)) in
-      rw s (simp e (record { tone-is = refl; ms-is = record { below = λ _. refl; above = λ g. absurd (omega arith) } })))
+    let s = counted-other l h (λ q. eqb-false _ _ e (q ∙ c .tone-is)) in
+    rw s (simp e (record { tone-is = refl; ms-is = record { below = λ _. refl; above = λ g. absurd (omega arith) } })))
 
 -- the count tells whether this ms makes the choice
 counts-chosen : (l : Lasting) (t n : ℕ) → Counts l t n → chosen l ≡ cond (tooShort t n) 0 t

@@ -2,13 +2,11 @@
 use mathlib.Core.Path.{_≡_, _∙_, refl, sym, ap}
 use mathlib.Core.Bool.{Bool, true, false, cond}
 use mathlib.Core.List.{List, [], _∷_, _++_}
-use Prim.Native.Nat.{ℕ, _≤_}
-use borrow.Author.Tests.{eqb-true}
+use Prim.Native.Nat.{ℕ}
 use lib.Dec.{eqb}
 use lib.ListN.{length, take, drop}
 use lib.Seq.{take-at}
 use Rattle.calling.specs.declared.Calling.{Calling}
-use Rattle.calling.specs.declared.Ran.{Ran}
 use Rattle.calling.specs.Set.{sentIn, stateAfter, after, sentOf}
 use Rattle.calling.specs.Entry.{answerTo, ran, ranOf, sentAfter}
 use Rattle.calling.proofs.Choices.{by-test}

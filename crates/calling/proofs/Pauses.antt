@@ -7,14 +7,14 @@ use native.Mathlib.Nat.{add-zero, zero-add, add-suc, suc-add}
 use native.Mathlib.Numerals.{add-one}
 use native.Mathlib.Omega.{arith}
 use borrow.Author.Tests.{eq-eqb, ne-eqb, lt-leb, le-leb, eqb-true, eqb-false, lt-ltb, ltb-true}
-use lib.Dec.{eqb, leb, ltb}
+use lib.Dec.{eqb, ltb}
 use lib.ListN.{length, replicate, length-replicate}
 use Rattle.calling.specs.declared.counting.Lasting.{Lasting}
 use Rattle.calling.specs.declared.Calling.{Calling}
 use Rattle.calling.specs.Timetable.{nothing}
 use Rattle.calling.specs.Tones.{none}
 use Rattle.calling.specs.Counting.{most, counted}
-use Rattle.calling.specs.Set.{calling, pause, pauseOver, sentIn, stateAfter, after, sentOf}
+use Rattle.calling.specs.Set.{pause, pauseOver, sentIn, stateAfter, after, sentOf}
 use Rattle.calling.proofs.Choices.{by-test, first-true, second-true}
 use Rattle.calling.proofs.OneMs.{counted-tone, no-choice-before, heard-after, does-chosen, does-tone, does-pause}
 use Rattle.calling.proofs.Cuts.{after-append, sent-append}
@@ -45,13 +45,13 @@ unfolding counted
 none-counted l h short =
     by-test (eqb h none)
     (λ e.
-      let z : h ≡ none = eqb-true _ _ e in
-      by-test (eqb (l .tone) none)
-      (λ f.
-        let t : h ≡ l .tone = z ∙ sym (eqb-true _ _ f) in
-        let m : l .ms < most = omega (arith, rw f at short) in
-        simp (f, e, eq-eqb h (l .tone) t, lt-ltb (l .ms) most m))
-      (λ f. simp (f, e, ne-eqb h (l .tone) (λ q. eqb-false (l .tone) none f (sym q ∙ z)))))
+    let z : h ≡ none = eqb-true _ _ e in
+    by-test (eqb (l .tone) none)
+    (λ f.
+    let t : h ≡ l .tone = z ∙ sym (eqb-true _ _ f) in
+    let m : l .ms < most = omega (arith, rw f at short) in
+    simp (f, e, eq-eqb h (l .tone) t, lt-ltb (l .ms) most m))
+    (λ f. simp (f, e, ne-eqb h (l .tone) (λ q. eqb-false (l .tone) none f (sym q ∙ z)))))
     (λ e. tone-counted l h e ∙ simp e)
 
 -- the pause is not over
@@ -70,10 +70,10 @@ module _ (s : Calling) (h n : ℕ) (w : s .choice ≡ 0 → noneMs (s .heard) �
   waits-sent =
       by-test (eqb (s .choice) 0)
       (λ c.
-        let z : s .choice ≡ 0 = eqb-true _ _ c in
-        by-test (eqb h none)
-        (λ e. does-pause s h z (eqb-true _ _ e) (not-over (s .heard) (rw (w z) short)) .says)
-        (λ e. does-tone s h z (eqb-false _ _ e) .says))
+      let z : s .choice ≡ 0 = eqb-true _ _ c in
+      by-test (eqb h none)
+      (λ e. does-pause s h z (eqb-true _ _ e) (not-over (s .heard) (rw (w z) short)) .says)
+      (λ e. does-tone s h z (eqb-false _ _ e) .says))
       (λ c. does-chosen s h (eqb-false _ _ c) .says)
 
   waits-next : stateAfter s h .choice ≡ 0 → noneMs (stateAfter s h .heard) ≡ noneAfter n h
@@ -96,7 +96,7 @@ pub tone-sent : (s : Calling) (h : ℕ) (hs : List ℕ) → (h ≡ none → ⊥)
 unfolding sentOf
 tone-sent s h hs t e =
     let now : sentIn s h ≡ nothing =
-      by-test (eqb (s .choice) 0) (λ c. does-tone s h (eqb-true _ _ c) t .says) (λ c. does-chosen s h (eqb-false _ _ c) .says)
+    by-test (eqb (s .choice) 0) (λ c. does-tone s h (eqb-true _ _ c) t .says) (λ c. does-chosen s h (eqb-false _ _ c) .says)
     in
     let later = waiting hs (stateAfter s h) 0 (tone-none s h t) e in
     λ i. now i ∷ later i
@@ -124,9 +124,9 @@ over-runs : (s : Calling) (k : ℕ) → k ≡ pause → Pausing s k → Runs s 0
 over-runs s k k-is p =
     let m = p .none-is ∙ k-is in
     let ready : pauseOver (s .heard) ≡ true =
-      by-test (eqb (s .heard .tone) none)
-      (λ e. simp (e, le-leb pause (s .heard .ms) (omega (arith, rw e at m))))
-      (λ e. let z : _≡_ {A = ℕ} 0 pause = rw e at m in absurd (omega arith))
+    by-test (eqb (s .heard .tone) none)
+    (λ e. simp (e, le-leb pause (s .heard .ms) (omega (arith, rw e at m))))
+    (λ e. let z : _≡_ {A = ℕ} 0 pause = rw e at m in absurd (omega arith))
     in
     record { no-choice = p .no-choice; ready = ready; place-is = p .place-is }
 
@@ -157,7 +157,7 @@ pause-sent s hs t m n tone m-is c =
     let ys = replicate n none in
     let d : stateAfter r t .choice ≡ 0 = rw (after-append, one-after) at c in
     let e : sentOf r xs ≡ replicate (suc m) nothing =
-      tone-sent r t (replicate m none) tone (none-waits m 0 (omega arith)) ∙ ap (λ (k : ℕ). replicate (suc k) nothing) (length-replicate m none)
+    tone-sent r t (replicate m none) tone (none-waits m 0 (omega arith)) ∙ ap (λ (k : ℕ). replicate (suc k) nothing) (length-replicate m none)
     in
     sent-append s hs (xs ++ ys)
     ∙ ap (λ (l : List ℕ). sentOf s hs ++ l)

@@ -1,21 +1,20 @@
 -- While nothing is heard, what is sent is the timetable.
 use mathlib.Core.Path.{_≡_, _∙_, refl, sym, ap}
-use mathlib.Core.Bool.{true, false}
-use mathlib.Core.List.{List, [], _∷_}
+use mathlib.Core.Bool.{true}
+use mathlib.Core.List.{List, _∷_}
 use Prim.Native.Nat.{ℕ, zero, suc, _+_, _%_, _≤_, _<_}
-use native.Mathlib.Numerals.{add-one}
 use native.Mathlib.Omega.{arith}
-use borrow.Author.Tests.{eq-eqb, le-leb, leb-true, eqb-true, lt-ltb, le-ltb, ltb-true, ltb-false}
+use borrow.Author.Tests.{eq-eqb, le-leb, leb-true, eqb-true, ltb-true, ltb-false}
 use lib.Dec.{eqb, leb, ltb}
 use lib.ListN.{replicate}
 use Rattle.lists.specs.Tables.{tabulate}
 use Rattle.calling.specs.declared.counting.Lasting.{Lasting}
 use Rattle.calling.specs.declared.Calling.{Calling}
-use Rattle.calling.specs.Timetable.{nothing, period, valueAt, placeAfter}
+use Rattle.calling.specs.Timetable.{period, valueAt, placeAfter}
 use Rattle.calling.specs.Tones.{none}
 use Rattle.calling.specs.Counting.{most, counted}
-use Rattle.calling.specs.Set.{calling, fresh, pause, pauseOver, sentIn, stateAfter, after, sentOf}
-use Rattle.calling.proofs.Choices.{by-test, either-by, first-true, second-true}
+use Rattle.calling.specs.Set.{fresh, pause, pauseOver, sentIn, stateAfter, sentOf}
+use Rattle.calling.proofs.Choices.{either-by, first-true, second-true}
 use Rattle.calling.proofs.OneMs.{does-timetable}
 use Rattle.calling.proofs.Range.{period-is}
 use Rattle.calling.proofs.Cuts.{Call, heardBy, sentBy, calls-sent}

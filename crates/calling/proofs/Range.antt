@@ -1,12 +1,11 @@
 -- Range is kept: a fresh state is in range, and so is the state after every run on one.
-use mathlib.Core.Path.{_≡_, _∙_, refl, sym}
+use mathlib.Core.Path.{_≡_, refl}
 use mathlib.Core.Bool.{true, _&&_, _||_}
 use mathlib.Core.List.{List, [], _∷_}
 use Prim.Native.Nat.{ℕ, _+_, _≤_, _<_}
 use native.Mathlib.Omega.{arith}
-use borrow.Author.Tests.{le-leb, lt-ltb, leb-true, ltb-true, eqb-true, eqb-false}
-use lib.Dec.{eqb, leb, ltb, lit≤}
-use lib.ListN.{length}
+use borrow.Author.Tests.{le-leb, lt-ltb, leb-true, ltb-true, eqb-true}
+use lib.Dec.{eqb, leb, ltb}
 use Rattle.calling.specs.declared.counting.Lasting.{Lasting}
 use Rattle.calling.specs.declared.Calling.{Calling}
 use Rattle.calling.specs.declared.Ran.{Ran}
@@ -15,7 +14,7 @@ use Rattle.calling.specs.Tones.{none, lengthOf, allTones}
 use Rattle.calling.specs.Counting.{most, counted}
 use Rattle.calling.specs.Set.{fresh, inRange, chosen, sends, stateAfter, after}
 use Rattle.calling.specs.Entry.{answerTo, ranOf}
-use Rattle.calling.proofs.Choices.{by-test, either, either-by, first-true, second-true}
+use Rattle.calling.proofs.Choices.{either, either-by, first-true, second-true}
 use Rattle.calling.proofs.OneMs.{counted-tone}
 use Rattle.calling.proofs.Answers.{succeeds}
 

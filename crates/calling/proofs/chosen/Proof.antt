@@ -1,7 +1,7 @@
 -- `chosen` meets its contract.
 use borrow.Author.Needs.{needs}
 use borrow.Author.Tests.{eq-eqb, ne-eqb, lt-ltb, le-ltb}
-use mathlib.Core.Path.{_≡_, sym}
+use mathlib.Core.Path.{sym}
 use Rattle.calling.proofs.chosen.Statement.{statement}
 use Rattle.calling.proofs.chosen.Tie as tie
 

@@ -1,6 +1,5 @@
 -- `run_all` meets its contract. The invariant: what is left of the tones, and the slice as written so far.
 use Prim.Native.Nat.{_-_}
-use native.Mathlib.Omega.{arith}
 use borrow.Author.Needs.{needs}
 use lib.ListN.{length}
 use Rattle.calling.proofs.Fold.{Left, left-start, left-turn, left-state, left-slice}
