@@ -59,10 +59,10 @@ tabulate-behind p ps (suc n) i =
 
 tabulate-append : (f : ℕ → ℕ) (m n i : ℕ) → tabulate f (m + n) i ≡ tabulate f m i ++ tabulate f n (m + i)
 unfolding tabulate
-tabulate-append f zero n i = rw (zero-add, zero-add)
+tabulate-append f zero n i = rw (zero-add n, zero-add i)
 tabulate-append f (suc m) n i =
     let e : m + suc i ≡ suc m + i = add-suc m i ∙ sym (suc-add m i) in
-    rw suc-add
+    rw (suc-add m n)
     (ap (λ (l : List ℕ). f i ∷ l) (tabulate-append f m n (suc i) ∙ ap (λ (k : ℕ). tabulate f m (suc i) ++ tabulate f n k) e))
 
 pub spread-is : (ps : List Part) → tabulate (valueIn ps) (total ps) 0 ≡ spread ps
