@@ -1,2 +1,4 @@
 pub mod SendingRule
 pub mod Left
+pub mod OpeningRule
+pub mod Answers

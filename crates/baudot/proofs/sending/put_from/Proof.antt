@@ -3,7 +3,7 @@ use Prim.Native.Nat.{_-_, _<_}
 use native.Mathlib.Omega.{arith}
 use borrow.Author.Needs.{needs}
 use lib.ListN.{length}
-use Rattle.alphabet.proofs.Chars.{char-at}
+use Rattle.lists.proofs.Lists.{at-most-at}
 use Rattle.baudot.proofs.Left.{Writing, left-room, left-end, writing-start, writing-turn, writing-end}
 use Rattle.baudot.proofs.sending.put_from.Statement.{statement}
 use Rattle.baudot.proofs.sending.put_from.Tie as tie
@@ -26,7 +26,7 @@ put-char-requires c κs =
     let s = l .before .before .before in
     let t = c .before .before .loop-test .taken in
     let w = l .loop .inv in
-    let h = char-at (s .args .text .now) (s .pre .0) (l .loop .i) t in
+    let h = at-most-at 0x7f (s .args .text .now) (s .pre .0) (l .loop .i) t in
     (omega arith, (w .left .running t, left-room _ _ _ _ _ (w .left) _ t (omega (arith, w .size, s .pre .1 .1))))
 
 add-i : tie.Need-add-i Inv-loop μ-loop
@@ -41,7 +41,7 @@ loop-again c =
     let l = c .before .before .before .before .before .before in
     let s = l .before .before .before in
     let t = c .before .before .before .before .before .loop-test .taken in
-    let h = char-at (s .args .text .now) (s .pre .0) (l .loop .i) t in
+    let h = at-most-at 0x7f (s .args .text .now) (s .pre .0) (l .loop .i) t in
     writing-turn _ _ _ _ _ _ _ (l .loop .inv) _ _ t (omega arith) (q .ensures .0) (q .ensures .1)
 
 same-length : tie.Need-same-length Inv-loop μ-loop
