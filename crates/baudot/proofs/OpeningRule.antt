@@ -94,7 +94,7 @@ module _ (s : Sender) (fresh : s .shift ≡ 0) where
         from-in = q .within;
         running = λ _. running-letters;
         codes-are =
-          q .same-codes s ∙ codes-left text s n h ∙ (simp (f .0, f .1)) ∙ ap (λ (l : List ℕ). 0b11111 ∷ l) (sym (codes-left text (sender 1 0) n h));
+            q .same-codes s ∙ codes-left text s n h ∙ (simp (f .0, f .1)) ∙ ap (λ (l : List ℕ). 0b11111 ∷ l) (sym (codes-left text (sender 1 0) n h));
         sender-is = q .same-sender s ∙ sender-left text s n h ∙ (simp (f .1)) ∙ sym (sender-left text (sender 1 0) n h);
       }
 

@@ -238,10 +238,10 @@ pub count-code : (at : ℕ) (s : Sender) (x : Sends) (own : ℕ) (k : LineCode) 
     → _≡_ {A = Placed} (record { at = n; sender = counted t }) (record { at = at + length (codesFor s x); sender = senderFor s x })
 count-code at s x own k sent r lo hi w t n ew et en =
     let a : n ≡ at + length (codesFor s x) =
-        let l = codes-length s own k r lo hi in
-        let m = ap (λ (y : Sends). length (codesFor s y)) sent in
-        let v = ap (λ (y : ℕ). length (shiftCodes y)) ew in
-        omega arith in
+    let l = codes-length s own k r lo hi in
+    let m = ap (λ (y : Sends). length (codesFor s y)) sent in
+    let v = ap (λ (y : ℕ). length (shiftCodes y)) ew in
+    omega arith in
     let b : counted t ≡ senderFor s x = ap counted (et ∙ ap (shifted s) ew) ∙ sym (sender-both s own k r lo hi) ∙ ap (senderFor s) (sym sent) in
     λ i. record { at = a i; sender = b i }
 

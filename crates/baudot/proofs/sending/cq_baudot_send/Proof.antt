@@ -73,17 +73,18 @@ returns-4 : tie.Need-returns-4
 returns-4 c =
     let a = c .before .before .before .before .before .before .before .before .before .before .args in
     let r = refused (a .text .now) (a .shift) (a .count) (a .codes .now) 9
-        (no-room (a .text .now) (a .shift) (a .count) (a .codes .now) (c .before .before .before .before .before .before .before .if1 .left) (c .before .before .before .before .before .before .if2 .left) (sym (c .before .before .before .before .before .all-at-most .ensures) ∙ not-false _ (c .before .before .before .before .if3 .left))
-        (leb-false _ _ (sym (fits-is (a .text .now) (a .shift) (a .count) (a .codes .now) _ (c .before .before .before .open-text .ensures) _ (c .before .before .fits2 .ensures)) ∙ not-true _ (c .before .if4 .taken)))) (λ (e : 9 ≡ 0). omega arith) in
+    (no-room (a .text .now) (a .shift) (a .count) (a .codes .now) (c .before .before .before .before .before .before .before .if1 .left) (c .before .before .before .before .before .before .if2 .left) (sym (c .before .before .before .before .before .all-at-most .ensures) ∙ not-false _ (c .before .before .before .before .if3 .left))
+    (leb-false _ _ (sym (fits-is (a .text .now) (a .shift) (a .count) (a .codes .now) _ (c .before .before .before .open-text .ensures) _ (c .before .before .fits2 .ensures)) ∙ not-true _ (c .before .if4 .taken)))) (λ (e : 9 ≡ 0). omega arith) in
     (c .refused4 .ensures ∙ r .result, r .slice)
 
 -- src/sending.rt:284:9
 put-opened-requires : tie.Need-put-opened-requires
 put-opened-requires c κs =
     let a = c .before .before .before .before .before .before .before .before .before .before .args in
-    let o = c .before .before .before .open-text .ensures in
-    (sym (c .before .before .before .before .before .all-at-most .ensures) ∙ not-false _ (c .before .before .before .before .if3 .left)
-      , (o .running, (o .at-in, room-is (a .text .now) (a .shift) (a .count) (a .codes .now) _ o (leb-true _ _ (sym (fits-is (a .text .now) (a .shift) (a .count) (a .codes .now) _ o _ (c .before .before .fits2 .ensures)) ∙ not-false _ (c .before .if4 .left))))))
+    let o = c .before .before .before .open-text .ensures in (
+      sym (c .before .before .before .before .before .all-at-most .ensures) ∙ not-false _ (c .before .before .before .before .if3 .left),
+      (o .running, (o .at-in, room-is (a .text .now) (a .shift) (a .count) (a .codes .now) _ o (leb-true _ _ (sym (fits-is (a .text .now) (a .shift) (a .count) (a .codes .now) _ o _ (c .before .before .fits2 .ensures)) ∙ not-false _ (c .before .if4 .left))))),
+    )
 
 -- src/sending.rt:266:1
 same-length : tie.Need-same-length

@@ -37,9 +37,10 @@ returns : tie.Need-returns
 returns c =
     let s = c .before .before .before .before .before .before .before .before .before in
     let q = c .before .before .put-from in
-    let e = c .before .before .before .before .before .if1 .taken in
-    (placed-one (s .args .text .now) (s .args .codes .now) (s .args .o) e _ (q .ensures .0)
-      , stored-one (s .args .text .now) (s .args .codes .now) (s .args .o) e _ _ (c .before .before .before .before .shift-code .ensures) (q .ensures .1))
+    let e = c .before .before .before .before .before .if1 .taken in (
+      placed-one (s .args .text .now) (s .args .codes .now) (s .args .o) e _ (q .ensures .0),
+      stored-one (s .args .text .now) (s .args .codes .now) (s .args .o) e _ _ (c .before .before .before .before .shift-code .ensures) (q .ensures .1),
+    )
 
 -- src/sending.rt:277:5
 put-from-requires-2 : tie.Need-put-from-requires-2
@@ -56,9 +57,10 @@ returns-2 : tie.Need-returns-2
 returns-2 c =
     let s = c .before .before .before .before .before .before .before .before in
     let q = c .before .before .put-from2 in
-    let n = c .before .before .before .before .if1 .left in
-    (placed-zero (s .args .text .now) (s .args .codes .now) (s .args .o) (s .pre .1 .1 .0) n _ (q .ensures .0)
-      , q .ensures .1 ∙ ap (sets (s .args .codes .now) 0) (sym (opened-zero (s .args .text .now) (s .args .codes .now) (s .args .o) (s .pre .1 .1 .0) n)))
+    let n = c .before .before .before .before .if1 .left in (
+      placed-zero (s .args .text .now) (s .args .codes .now) (s .args .o) (s .pre .1 .1 .0) n _ (q .ensures .0),
+      q .ensures .1 ∙ ap (sets (s .args .codes .now) 0) (sym (opened-zero (s .args .text .now) (s .args .codes .now) (s .args .o) (s .pre .1 .1 .0) n)),
+    )
 
 pub put-opened-spec : {M : Type 1} → statement M
 put-opened-spec =
