@@ -10,6 +10,7 @@ ghost use lib.ListN.{length};
 ghost use lib.Seq.{sets};
 ghost use Rattle.alphabet.specs.Baudot.{readBaudot};
 ghost use Rattle.alphabet.specs.Normal.{charsOf};
+ghost use Rattle.alphabet.specs.Packing.{readTable};
 ghost use Rattle.baudot.specs.Reading.{shiftBy, textOf, shiftAfter, allCodes};
 ghost use Rattle.baudot.specs.Counting.{shiftOne, shiftsIn, blockEnd};
 ghost use Rattle.baudot.specs.Entries.{read, readOf, textAfter};
@@ -21,13 +22,14 @@ pub struct Taken {
 }
 
 // A code, read at a place.
-fn put_code(text: &mut [u8], at: usize, shift: u8, code: LineCode) -> Taken
+fn put_code(table: &[u8; 64], text: &mut [u8], at: usize, shift: u8, code: LineCode) -> Taken
+    requires { ⌜ now table ≡ readTable ⌝ }
     requires { ⌜ code .0 < 32 ⌝ }
     requires { ⌜ at + length (charsOf (readBaudot shift (code .0))) ≤ length (now text) ⌝ }
     ensures { λ r. ⌜ r ≡ record { at = at + length (charsOf (readBaudot shift (code .0))); shift = shiftBy shift (readBaudot shift (code .0)) } ⌝ }
     ensures { λ r. ⌜ now (text .exit) ≡ sets (now (text .entry)) at (charsOf (readBaudot shift (code .0))) ⌝ }
 {
-    let r = alphabet::table::read_baudot(shift, code);
+    let r = alphabet::table::read_baudot_in(table, shift, code);
     match r {
         Reads::Character(c) => {
             text[at] = c.0;
@@ -39,7 +41,8 @@ fn put_code(text: &mut [u8], at: usize, shift: u8, code: LineCode) -> Taken
 }
 
 // A list of codes, read from the front.
-fn put_codes(codes: &[u8], shift: u8, text: &mut [u8]) -> Taken
+fn put_codes(table: &[u8; 64], codes: &[u8], shift: u8, text: &mut [u8]) -> Taken
+    requires { ⌜ now table ≡ readTable ⌝ }
     requires { ⌜ allCodes (now codes) ≡ true ⌝ }
     requires { ⌜ length (textOf shift (now codes)) ≤ length (now text) ⌝ }
     ensures { λ r. ⌜ r ≡ record { at = length (textOf shift (now (codes .entry))); shift = shiftAfter shift (now (codes .entry)) } ⌝ }
@@ -48,7 +51,7 @@ fn put_codes(codes: &[u8], shift: u8, text: &mut [u8]) -> Taken
     let mut t = Taken { at: 0, shift };
     let mut i: usize = 0;
     while i < codes.len() {
-        t = put_code(text, t.at, t.shift, LineCode(codes[i]));
+        t = put_code(table, text, t.at, t.shift, LineCode(codes[i]));
         i += 1;
     }
     t
@@ -146,7 +149,8 @@ pub extern "C" fn cq_baudot_read(codes: &[u8], shift: u8, text: &mut [u8]) -> Ba
     if !fits(codes, text.len()) {
         return refused(9, shift);
     }
-    let t = put_codes(codes, shift, text);
+    let table = alphabet::table::read_table();
+    let t = put_codes(&table, codes, shift, text);
     BaudotText {
         answer: 0,
         shift: t.shift,

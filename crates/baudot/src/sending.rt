@@ -13,6 +13,7 @@ ghost use lib.ListN.{length, drop};
 ghost use lib.Seq.{sets};
 ghost use Rattle.alphabet.specs.declared.Alphabet.the-variants.{Baudot};
 ghost use Rattle.alphabet.specs.Normal.{sends, allChars};
+ghost use Rattle.alphabet.specs.Packing.{sendTable};
 ghost use Rattle.baudot.specs.Sending.{sender, shiftCode, shiftCodes, wanted, shifted, codesFor, senderFor, codesOf, senderAfter, Running};
 ghost use Rattle.baudot.specs.Opening.{Opened, openingCodes, isCode, Silent};
 ghost use Rattle.baudot.specs.Entries.{sent, sentOf, codesAfter};
@@ -69,14 +70,15 @@ fn shifted(s: Sender, w: u8) -> Sender
 }
 
 // The codes of a character, written at a place by a running sender.
-fn put_char(codes: &mut [u8], at: usize, s: Sender, c: Char) -> Placed
+fn put_char(table: &[u16; 384], codes: &mut [u8], at: usize, s: Sender, c: Char) -> Placed
+    requires { ⌜ now table ≡ sendTable ⌝ }
     requires { ⌜ c .0 < 128 ⌝ }
     requires { ⌜ Running s ⌝ }
     requires { ⌜ at + length (codesFor s (sends Baudot (c .0))) ≤ length (now codes) ⌝ }
     ensures { λ r. ⌜ r ≡ record { at = at + length (codesFor s (sends Baudot (c .0))); sender = senderFor s (sends Baudot (c .0)) } ⌝ }
     ensures { λ r. ⌜ now (codes .exit) ≡ sets (now (codes .entry)) at (codesFor s (sends Baudot (c .0))) ⌝ }
 {
-    let e = alphabet::table::lookup(Alphabet::Baudot, c);
+    let e = alphabet::table::lookup_in(table, Alphabet::Baudot, c);
     let Sends::Code { shift: own, code } = e else {
         return Placed { at, sender: s };
     };
@@ -100,7 +102,15 @@ fn put_char(codes: &mut [u8], at: usize, s: Sender, c: Char) -> Placed
 }
 
 // The codes of a text from a place of it on, written at a place by a running sender.
-fn put_from(text: &[u8], from: usize, codes: &mut [u8], at: usize, s: Sender) -> Placed
+fn put_from(
+    table: &[u16; 384],
+    text: &[u8],
+    from: usize,
+    codes: &mut [u8],
+    at: usize,
+    s: Sender,
+) -> Placed
+    requires { ⌜ now table ≡ sendTable ⌝ }
     requires { ⌜ allChars (now text) ≡ true ⌝ }
     requires { ⌜ (from < length (now text) → Running s) ⌝ }
     requires { ⌜ at + length (codesOf s (drop from (now text))) ≤ length (now codes) ⌝ }
@@ -110,7 +120,7 @@ fn put_from(text: &[u8], from: usize, codes: &mut [u8], at: usize, s: Sender) ->
     let mut p = Placed { at, sender: s };
     let mut i = from;
     while i < text.len() {
-        p = put_char(codes, p.at, p.sender, Char(text[i]));
+        p = put_char(table, codes, p.at, p.sender, Char(text[i]));
         i += 1;
     }
     p
@@ -128,13 +138,14 @@ fn behind(at: usize, w: u8) -> usize
 }
 
 // The place and the sender behind the codes of a character; nothing is written.
-fn count_char(at: usize, s: Sender, c: Char) -> Placed
+fn count_char(table: &[u16; 384], at: usize, s: Sender, c: Char) -> Placed
+    requires { ⌜ now table ≡ sendTable ⌝ }
     requires { ⌜ c .0 < 128 ⌝ }
     requires { ⌜ Running s ⌝ }
     requires { ⌜ at + length (codesFor s (sends Baudot (c .0))) < 2 ^ 64 ⌝ }
     ensures { λ r. ⌜ r ≡ record { at = at + length (codesFor s (sends Baudot (c .0))); sender = senderFor s (sends Baudot (c .0)) } ⌝ }
 {
-    let e = alphabet::table::lookup(Alphabet::Baudot, c);
+    let e = alphabet::table::lookup_in(table, Alphabet::Baudot, c);
     let Sends::Code {
         shift: own,
         code: _,
@@ -154,7 +165,8 @@ fn count_char(at: usize, s: Sender, c: Char) -> Placed
 }
 
 // The place behind the codes of a text from a place of it on; nothing is written.
-fn count_from(text: &[u8], from: usize, at: usize, s: Sender) -> usize
+fn count_from(table: &[u16; 384], text: &[u8], from: usize, at: usize, s: Sender) -> usize
+    requires { ⌜ now table ≡ sendTable ⌝ }
     requires { ⌜ allChars (now text) ≡ true ⌝ }
     requires { ⌜ (from < length (now text) → Running s) ⌝ }
     requires { ⌜ at ≤ 1 ⌝ }
@@ -163,29 +175,31 @@ fn count_from(text: &[u8], from: usize, at: usize, s: Sender) -> usize
     let mut p = Placed { at, sender: s };
     let mut i = from;
     while i < text.len() {
-        p = count_char(p.at, p.sender, Char(text[i]));
+        p = count_char(table, p.at, p.sender, Char(text[i]));
         i += 1;
     }
     p.at
 }
 
 // Does a character send anything?
-fn sends_code(c: Char) -> bool
+fn sends_code(table: &[u16; 384], c: Char) -> bool
+    requires { ⌜ now table ≡ sendTable ⌝ }
     requires { ⌜ c .0 < 128 ⌝ }
     ensures { λ r. ⌜ r ≡ isCode (sends Baudot (c .0)) ⌝ }
 {
-    let e = alphabet::table::lookup(Alphabet::Baudot, c);
+    let e = alphabet::table::lookup_in(table, Alphabet::Baudot, c);
     if let Sends::Nothing = e { false } else { true }
 }
 
 // The place of the first character that sends anything, or the end.
-fn first_code(text: &[u8]) -> usize
+fn first_code(table: &[u16; 384], text: &[u8]) -> usize
+    requires { ⌜ now table ≡ sendTable ⌝ }
     requires { ⌜ allChars (now text) ≡ true ⌝ }
     ensures { λ r. ⌜ Silent (now (text .entry)) r ⌝ }
 {
     let mut i: usize = 0;
     while i < text.len() {
-        if sends_code(Char(text[i])) {
+        if sends_code(table, Char(text[i])) {
             return i;
         }
         i += 1;
@@ -194,7 +208,8 @@ fn first_code(text: &[u8]) -> usize
 }
 
 // Where a text is taken up: a fresh sender's first shift code stands ahead of the first character that sends anything.
-fn open_text(text: &[u8], s: Sender) -> Opening
+fn open_text(table: &[u16; 384], text: &[u8], s: Sender) -> Opening
+    requires { ⌜ now table ≡ sendTable ⌝ }
     requires { ⌜ allChars (now text) ≡ true ⌝ }
     requires { ⌜ (s .shift ≤ 2) × (s .count ≤ 72) ⌝ }
     ensures { λ r. ⌜ Opened (now (text .entry)) s r ⌝ }
@@ -206,7 +221,7 @@ fn open_text(text: &[u8], s: Sender) -> Opening
             sender: s,
         };
     }
-    let from = first_code(text);
+    let from = first_code(table, text);
     if from < text.len() {
         return Opening {
             from,
@@ -222,7 +237,8 @@ fn open_text(text: &[u8], s: Sender) -> Opening
 }
 
 // Is there room for the codes of a text? The codes are counted only where twice the text and one more would not do.
-fn fits(text: &[u8], from: usize, at: usize, s: Sender, room: usize) -> bool
+fn fits(table: &[u16; 384], text: &[u8], from: usize, at: usize, s: Sender, room: usize) -> bool
+    requires { ⌜ now table ≡ sendTable ⌝ }
     requires { ⌜ allChars (now text) ≡ true ⌝ }
     requires { ⌜ (from < length (now text) → Running s) ⌝ }
     requires { ⌜ at ≤ 1 ⌝ }
@@ -231,7 +247,7 @@ fn fits(text: &[u8], from: usize, at: usize, s: Sender, room: usize) -> bool
     if text.len() < room - room / 2 {
         return true;
     }
-    count_from(text, from, at, s) <= room
+    count_from(table, text, from, at, s) <= room
 }
 
 // A refusal gives back what it was given.
@@ -247,7 +263,8 @@ fn refused(answer: u8, shift: u8, count: u8) -> BaudotSent
 }
 
 // The codes of an opened text, written from the front.
-fn put_opened(text: &[u8], o: Opening, codes: &mut [u8]) -> Placed
+fn put_opened(table: &[u16; 384], text: &[u8], o: Opening, codes: &mut [u8]) -> Placed
+    requires { ⌜ now table ≡ sendTable ⌝ }
     requires { ⌜ allChars (now text) ≡ true ⌝ }
     requires { ⌜ (o .from < length (now text) → Running (o .sender)) ⌝ }
     requires { ⌜ o .at ≤ 1 ⌝ }
@@ -257,9 +274,9 @@ fn put_opened(text: &[u8], o: Opening, codes: &mut [u8]) -> Placed
 {
     if o.at == 1 {
         codes[0] = shift_code(1);
-        return put_from(text, o.from, codes, 1, o.sender);
+        return put_from(table, text, o.from, codes, 1, o.sender);
     }
-    put_from(text, o.from, codes, 0, o.sender)
+    put_from(table, text, o.from, codes, 0, o.sender)
 }
 
 // The bare conversion of text to codes.
@@ -277,11 +294,12 @@ pub extern "C" fn cq_baudot_send(text: &[u8], shift: u8, count: u8, codes: &mut 
     if !crate::checks::all_at_most(text, 127) {
         return refused(3, shift, count);
     }
-    let o = open_text(text, Sender { shift, count });
-    if !fits(text, o.from, o.at, o.sender, codes.len()) {
+    let table = alphabet::table::send_table();
+    let o = open_text(&table, text, Sender { shift, count });
+    if !fits(&table, text, o.from, o.at, o.sender, codes.len()) {
         return refused(9, shift, count);
     }
-    let p = put_opened(text, o, codes);
+    let p = put_opened(&table, text, o, codes);
     BaudotSent {
         answer: 0,
         shift: p.sender.shift,

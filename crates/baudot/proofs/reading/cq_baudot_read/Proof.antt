@@ -6,59 +6,43 @@ use Rattle.baudot.proofs.Answers.{read-refused, fresh-shift, far-shift,
 use borrow.Author.Needs.{needs}
 use Rattle.baudot.proofs.reading.cq_baudot_read.Statement.{statement}
 use Rattle.baudot.proofs.reading.cq_baudot_read.Tie as tie
-use Rattle.baudot.proofs.reading.cq_baudot_read.Reads as reads
-use Rattle.baudot.proofs.reading.cq_baudot_read.Lts as lts
-use Rattle.baudot.proofs.checks.all_at_most.Reads as all-at-most-reads
-use Rattle.baudot.proofs.reading.fits.Reads as fits-reads
-use Rattle.baudot.proofs.reading.put_codes.Reads as put-codes-reads
-use Rattle.baudot.proofs.reading.refused.Reads as refused-reads
 
--- src/reading.rt:138:9
 refused-requires : tie.Need-refused-requires
 refused-requires c κs = search needs
 
--- src/reading.rt:138:9
 returns : tie.Need-returns
 returns c =
     let a = c .before .before .before .before .args in
     let r = read-refused (a .codes .now) (a .shift) (a .text .now) 1 (fresh-shift (a .codes .now) (a .shift) (a .text .now) (c .before .if1 .taken)) (λ (e : 1 ≡ 0). omega arith) in
     (c .refused .ensures ∙ r .result, r .slice)
 
--- src/reading.rt:141:9
 refused-requires-2 : tie.Need-refused-requires-2
 refused-requires-2 c κs = search needs
 
--- src/reading.rt:141:9
 returns-2 : tie.Need-returns-2
 returns-2 c =
     let a = c .before .before .before .before .before .args in
     let r = read-refused (a .codes .now) (a .shift) (a .text .now) 1 (far-shift (a .codes .now) (a .shift) (a .text .now) (c .before .if2 .taken)) (λ (e : 1 ≡ 0). omega arith) in
     (c .refused2 .ensures ∙ r .result, r .slice)
 
--- src/reading.rt:143:9
 all-at-most-requires : tie.Need-all-at-most-requires
 all-at-most-requires c κs = search needs
 
--- src/reading.rt:144:9
 refused-requires-3 : tie.Need-refused-requires-3
 refused-requires-3 c κs = search needs
 
--- src/reading.rt:144:9
 returns-3 : tie.Need-returns-3
 returns-3 c =
     let a = c .before .before .before .before .before .before .before .args in
     let r = read-refused (a .codes .now) (a .shift) (a .text .now) 10 (no-codes (a .codes .now) (a .shift) (a .text .now) (c .before .before .before .before .if1 .left) (c .before .before .before .if2 .left) (sym (c .before .before .all-at-most .ensures) ∙ not-true _ (c .before .if3 .taken))) (λ (e : 10 ≡ 0). omega arith) in
     (c .refused3 .ensures ∙ r .result, r .slice)
 
--- src/reading.rt:146:9
 fits-requires : tie.Need-fits-requires
 fits-requires c κs = sym (c .before .all-at-most .ensures) ∙ not-false _ (c .if3 .left)
 
--- src/reading.rt:147:9
 refused-requires-4 : tie.Need-refused-requires-4
 refused-requires-4 c κs = search needs
 
--- src/reading.rt:147:9
 returns-4 : tie.Need-returns-4
 returns-4 c =
     let a = c .before .before .before .before .before .before .before .before .before .args in
@@ -67,24 +51,29 @@ returns-4 c =
     (leb-false _ _ (sym (c .before .before .fits2 .ensures (a .shift)) ∙ not-true _ (c .before .if4 .taken)))) (λ (e : 9 ≡ 0). omega arith) in
     (c .refused4 .ensures ∙ r .result, r .slice)
 
--- src/reading.rt:149:9
+read-table-requires : tie.Need-read-table-requires
+read-table-requires c κs = search needs
+
 put-codes-requires : tie.Need-put-codes-requires
 put-codes-requires c κs =
-    let a = c .before .before .before .before .before .before .before .before .before .args in
-    (sym (c .before .before .before .before .all-at-most .ensures) ∙ not-false _ (c .before .before .before .if3 .left), leb-true _ _ (sym (c .before .before .fits2 .ensures (a .shift)) ∙ not-false _ (c .before .if4 .left)))
+    let a = c .before .before .before .before .before .before .before .before .before .before .before .args in
+    let f = c .before .before .before in (
+      c .before .before .read-table .ensures,
+      (sym (c .before .before .before .before .before .before .all-at-most .ensures) ∙ not-false _ (c .before .before .before .before .before .if3 .left), leb-true _ _ (sym (f .before .fits2 .ensures (a .shift)) ∙ not-false _ (f .if4 .left))),
+    )
 
--- src/reading.rt:132:1
 same-length : tie.Need-same-length
 same-length c = search needs
 
--- src/reading.rt:132:1
 returns-5 : tie.Need-returns-5
 returns-5 c =
-    let a = c .before .before .before .before .before .before .before .before .before .before .before .before .args in
+    let a = c .before .before .before .before .before .before .before .before .before .before .before .before .before .before .args in
     let q = c .before .before .put-codes in
-    let t = sym (c .before .before .before .before .before .before .before .all-at-most .ensures) ∙ not-false _ (c .before .before .before .before .before .before .if3 .left) in
-    let h = leb-true _ _ (sym (c .before .before .before .before .before .fits2 .ensures (a .shift)) ∙ not-false _ (c .before .before .before .before .if4 .left)) in
-    let r = read-accepted (a .codes .now) (a .shift) (a .text .now) (read-yes (a .codes .now) (a .shift) (a .text .now) (c .before .before .before .before .before .before .before .before .before .if1 .left) (c .before .before .before .before .before .before .before .before .if2 .left) t h) h _ _ (q .ensures .0) (q .ensures .1) in
+    let f = c .before .before .before .before .before .before in
+    let e = f .before .before in
+    let t = sym (e .before .all-at-most .ensures) ∙ not-false _ (e .if3 .left) in
+    let h = leb-true _ _ (sym (f .before .fits2 .ensures (a .shift)) ∙ not-false _ (f .if4 .left)) in
+    let r = read-accepted (a .codes .now) (a .shift) (a .text .now) (read-yes (a .codes .now) (a .shift) (a .text .now) (e .before .before .before .if1 .left) (e .before .before .if2 .left) t h) h _ _ (q .ensures .0) (q .ensures .1) in
     (r .result, r .slice)
 
 pub cq-baudot-read-spec : {M : Type 1} → statement M
@@ -101,6 +90,7 @@ cq-baudot-read-spec =
     fits-requires
     refused-requires-4
     returns-4
+    read-table-requires
     put-codes-requires
     same-length
     returns-5)

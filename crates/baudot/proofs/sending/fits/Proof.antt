@@ -6,25 +6,18 @@ use Rattle.baudot.proofs.OpeningRule.{room-enough}
 use borrow.Author.Needs.{needs}
 use Rattle.baudot.proofs.sending.fits.Statement.{statement}
 use Rattle.baudot.proofs.sending.fits.Tie as tie
-use Rattle.baudot.proofs.sending.fits.Reads as reads
-use Rattle.baudot.proofs.sending.fits.Lts as lts
-use Rattle.baudot.proofs.sending.count_from.Reads as count-from-reads
 
--- src/sending.rt:231:21
 sub-if1 : tie.Need-sub-if1
 sub-if1 c = search needs
 
--- src/sending.rt:232:9
 returns : tie.Need-returns
 returns c =
     let s = c .before .before in
-    room-enough (s .args .text .now) (s .args .from) (s .args .at) (s .args .s) (s .args .room) (s .pre .0) (s .pre .1 .0) (s .pre .1 .1) (c .if1 .taken)
+    room-enough (s .args .text .now) (s .args .from) (s .args .at) (s .args .s) (s .args .room) (s .pre .1 .0) (s .pre .1 .1 .0) (s .pre .1 .1 .1) (c .if1 .taken)
 
--- src/sending.rt:234:5
 count-from-requires : tie.Need-count-from-requires
 count-from-requires c κs = search needs
 
--- src/sending.rt:225:1
 returns-2 : tie.Need-returns-2
 returns-2 c = ap (λ (n : ℕ). leb n (c .before .before .before .args .room)) (c .count-from .ensures)
 

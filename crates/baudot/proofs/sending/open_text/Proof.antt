@@ -6,29 +6,22 @@ use Rattle.baudot.proofs.OpeningRule.{open-fresh, open-none}
 use borrow.Author.Needs.{needs}
 use Rattle.baudot.proofs.sending.open_text.Statement.{statement}
 use Rattle.baudot.proofs.sending.open_text.Tie as tie
-use Rattle.baudot.proofs.sending.open_text.Reads as reads
-use Rattle.baudot.proofs.sending.open_text.Lts as lts
-use Rattle.baudot.proofs.sending.first_code.Reads as first-code-reads
-
--- src/sending.rt:203:9
-returns : tie.Need-returns
-returns c = search needs
-
--- src/sending.rt:209:9
-first-code-requires : tie.Need-first-code-requires
-first-code-requires c κs = search needs
 
 fresh-is : (c : tie.After-first-code) → c .before .before .before .before .args .s .shift ≡ 0
 fresh-is c = c .before .if1 .left
 
--- src/sending.rt:211:9
+returns : tie.Need-returns
+returns c = search needs
+
+first-code-requires : tie.Need-first-code-requires
+first-code-requires c κs = search needs
+
 returns-2 : tie.Need-returns-2
 returns-2 c =
     let s = c .before .before .before .before .before in
     open-fresh (s .args .s) (fresh-is (c .before)) (s .args .text .now) _ (c .before .first-code .ensures) (c .if2 .taken)
-    (omega (arith, at-most-at 0x7f (s .args .text .now) (s .pre .0) (c .before .first-code .result) (c .if2 .taken)))
+    (omega (arith, at-most-at 0x7f (s .args .text .now) (s .pre .1 .0) (c .before .first-code .result) (c .if2 .taken)))
 
--- src/sending.rt:197:1
 returns-3 : tie.Need-returns-3
 returns-3 c =
     let s = c .before .before .before .before .before in

@@ -7,32 +7,23 @@ use Rattle.baudot.proofs.OpeningRule.{opened-one, opened-zero, placed-o
 use borrow.Author.Needs.{needs}
 use Rattle.baudot.proofs.sending.put_opened.Statement.{statement}
 use Rattle.baudot.proofs.sending.put_opened.Tie as tie
-use Rattle.baudot.proofs.sending.put_opened.Reads as reads
-use Rattle.baudot.proofs.sending.put_opened.Lts as lts
-use Rattle.baudot.proofs.sending.put_from.Reads as put-from-reads
-use Rattle.baudot.proofs.sending.shift_code.Reads as shift-code-reads
 
--- src/sending.rt:274:20
 shift-code-requires : tie.Need-shift-code-requires
 shift-code-requires c κs = search needs
 
--- src/sending.rt:274:9
 slice-write-codes : tie.Need-slice-write-codes
 slice-write-codes c =
     let s = c .before .before .before .before .before in
-    omega (arith, s .pre .1 .1 .1, ap length (opened-one (s .args .text .now) (s .args .codes .now) (s .args .o) (c .before .if1 .taken)))
+    omega (arith, s .pre .1 .1 .1 .1, ap length (opened-one (s .args .text .now) (s .args .codes .now) (s .args .o) (c .before .if1 .taken)))
 
--- src/sending.rt:275:9
 put-from-requires : tie.Need-put-from-requires
 put-from-requires c κs =
     let s = c .before .before .before .before .before .before in
-    (s .pre .0, (s .pre .1 .0, rw length-set (omega (arith, s .pre .1 .1 .1, ap length (opened-one (s .args .text .now) (s .args .codes .now) (s .args .o) (c .before .before .if1 .taken))))))
+    (s .pre .0, (s .pre .1 .0, (s .pre .1 .1 .0, rw length-set (omega (arith, s .pre .1 .1 .1 .1, ap length (opened-one (s .args .text .now) (s .args .codes .now) (s .args .o) (c .before .before .if1 .taken)))))))
 
--- src/sending.rt:275:9
 same-length : tie.Need-same-length
-same-length c = c .before .before .put-from .kept .1 .1 .0 ∙ (simp length-set)
+same-length c = c .before .before .put-from .kept .1 .1 .1 .0 ∙ (simp length-set)
 
--- src/sending.rt:275:9
 returns : tie.Need-returns
 returns c =
     let s = c .before .before .before .before .before .before .before .before .before in
@@ -42,24 +33,21 @@ returns c =
       stored-one (s .args .text .now) (s .args .codes .now) (s .args .o) e _ _ (c .before .before .before .before .shift-code .ensures) (q .ensures .1),
     )
 
--- src/sending.rt:277:5
 put-from-requires-2 : tie.Need-put-from-requires-2
 put-from-requires-2 c κs =
     let s = c .before .before .before .before .before in
-    (s .pre .0, (s .pre .1 .0, omega (arith, s .pre .1 .1 .1, ap length (opened-zero (s .args .text .now) (s .args .codes .now) (s .args .o) (s .pre .1 .1 .0) (c .before .if1 .left)))))
+    (s .pre .0, (s .pre .1 .0, (s .pre .1 .1 .0, omega (arith, s .pre .1 .1 .1 .1, ap length (opened-zero (s .args .text .now) (s .args .codes .now) (s .args .o) (s .pre .1 .1 .1 .0) (c .before .if1 .left))))))
 
--- src/sending.rt:265:1
 same-length-2 : tie.Need-same-length-2
 same-length-2 c = search needs
 
--- src/sending.rt:265:1
 returns-2 : tie.Need-returns-2
 returns-2 c =
     let s = c .before .before .before .before .before .before .before .before in
     let q = c .before .before .put-from2 in
     let n = c .before .before .before .before .if1 .left in (
-      placed-zero (s .args .text .now) (s .args .codes .now) (s .args .o) (s .pre .1 .1 .0) n _ (q .ensures .0),
-      q .ensures .1 ∙ ap (sets (s .args .codes .now) 0) (sym (opened-zero (s .args .text .now) (s .args .codes .now) (s .args .o) (s .pre .1 .1 .0) n)),
+      placed-zero (s .args .text .now) (s .args .codes .now) (s .args .o) (s .pre .1 .1 .1 .0) n _ (q .ensures .0),
+      q .ensures .1 ∙ ap (sets (s .args .codes .now) 0) (sym (opened-zero (s .args .text .now) (s .args .codes .now) (s .args .o) (s .pre .1 .1 .1 .0) n)),
     )
 
 pub put-opened-spec : {M : Type 1} → statement M

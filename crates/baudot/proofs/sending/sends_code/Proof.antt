@@ -4,29 +4,21 @@ use Rattle.baudot.specs.Opening.{isCode}
 use borrow.Author.Needs.{needs}
 use Rattle.baudot.proofs.sending.sends_code.Statement.{statement}
 use Rattle.baudot.proofs.sending.sends_code.Tie as tie
-use Rattle.baudot.proofs.sending.sends_code.Reads as reads
-use Rattle.baudot.proofs.sending.sends_code.Lts as lts
-use Rattle.alphabet.proofs.table.lookup.Reads as lookup-reads
 
--- src/sending.rt:177:9
-lookup-requires : tie.Need-lookup-requires
-lookup-requires c κs = search needs
+lookup-in-requires : tie.Need-lookup-in-requires
+lookup-in-requires c κs = search needs
 
--- src/sending.rt:178:33
 enum-told : tie.Need-enum-told
 enum-told c = search needs
 
--- src/sending.rt:178:48
 enum-told-2 : tie.Need-enum-told-2
 enum-told-2 c = search needs
 
--- src/sending.rt:173:1
 returns : tie.Need-returns
-returns c = sym (ap isCode (sym (c .before .before .lookup .ensures) ∙ c .enum-told .given .1))
+returns c = sym (ap isCode (sym (c .before .before .lookup-in .ensures) ∙ c .enum-told .given .1))
 
--- src/sending.rt:173:1
 returns-2 : tie.Need-returns-2
-returns-2 c = sym (ap isCode (sym (c .before .before .lookup .ensures) ∙ c .enum-told2 .given .1))
+returns-2 c = sym (ap isCode (sym (c .before .before .lookup-in .ensures) ∙ c .enum-told2 .given .1))
 
 pub sends-code-spec : {M : Type 1} → statement M
-sends-code-spec = tie.close (tie.spec lookup-requires enum-told enum-told-2 returns returns-2)
+sends-code-spec = tie.close (tie.spec lookup-in-requires enum-told enum-told-2 returns returns-2)
