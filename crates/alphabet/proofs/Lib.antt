@@ -3,4 +3,3 @@ pub mod Rule
 pub mod Packing
 pub mod Normal
 pub mod Numbering
-pub mod Chars

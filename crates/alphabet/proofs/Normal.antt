@@ -4,11 +4,11 @@ use mathlib.Core.Bool.{Bool, true, false, cond}
 use mathlib.Core.Logic.{_↔_, _⊎_, inl, inr}
 use mathlib.Core.List.{List, [], _∷_, _++_, append-nil, append-assoc}
 use Prim.Native.Nat.{ℕ, _<_}
-use lib.Dec.{T, eqb, leb, leb→le}
+use lib.Dec.{eqb}
 use lib.ListN.{length}
 use native.Mathlib.Omega.{arith}
 use borrow.Author.Tests.{eqb-true}
-use Rattle.lists.proofs.Tables.{both-left, both-right}
+use Rattle.lists.proofs.Lists.{at-most-head, at-most-tail}
 use Rattle.alphabet.specs.declared.Alphabet.{Alphabet}
 use Rattle.alphabet.specs.declared.Alphabet.the-variants.{Baudot, Dtmf, Edt}
 use Rattle.alphabet.specs.declared.LineCode.{LineCode}
@@ -17,7 +17,7 @@ use Rattle.alphabet.specs.declared.Sends.the-variants.{Nothing, Code}
 use Rattle.alphabet.specs.declared.Reads.{Reads}
 use Rattle.alphabet.specs.declared.Reads.the-variants.{Character, Shift, NoRow}
 use Rattle.alphabet.specs.Baudot.{readBaudot}
-use Rattle.alphabet.specs.Normal.{sends, reads, charsOf, readBack, normal, normalForm, allChars, Chars}
+use Rattle.alphabet.specs.Normal.{sends, reads, charsOf, readBack, normal, normalForm, allChars}
 use Rattle.alphabet.proofs.Rule.{ReadBack, rule-of}
 
 pub nothing-read : (a : Alphabet) (c : ℕ) (s : Sends) → s ≡ sends a c → s ≡ Nothing → NoRow ≡ readBack a (sends a c)
@@ -89,10 +89,10 @@ normal-append a [] ds = refl
 normal-append a (c ∷ cs) ds = ap (λ (l : List ℕ). normal a c ++ l) (normal-append a cs ds) ∙ sym (append-assoc (normal a c) (normalForm a cs) (normalForm a ds))
 
 -- the normal form of a list, taken twice
-pub normal-form-twice : (a : Alphabet) (cs : List ℕ) → Chars cs → normalForm a (normalForm a cs) ≡ normalForm a cs
-unfolding normalForm allChars
+pub normal-form-twice : (a : Alphabet) (cs : List ℕ) → allChars cs ≡ true → normalForm a (normalForm a cs) ≡ normalForm a cs
+unfolding normalForm
 normal-form-twice a [] t = refl
 normal-form-twice a (c ∷ cs) t =
-    let h = leb→le c 0x7f (both-left (leb c 0x7f) (allChars cs) t) in
-    let r = normal-form-twice a cs (both-right (leb c 0x7f) (allChars cs) t) in
+    let h = at-most-head 0x7f c cs t in
+    let r = normal-form-twice a cs (at-most-tail 0x7f c cs t) in
     normal-append a (normal a c) (normalForm a cs) ∙ (rw (normal-twice a c (omega arith), r))

@@ -8,7 +8,7 @@ use lib.Dec.{T, eqb, ltb, ltb→lt}
 use lib.ListN.{length, getD}
 use borrow.Author.Tests.{ne-eqb, lt-ltb, le-ltb, eqb-true, eqb-false}
 use Rattle.lists.specs.Tables.{passes}
-use Rattle.lists.proofs.Tables.{both-left, both-right, passes-at}
+use Rattle.lists.proofs.Tables.{both-left, both-right, tabulate-at, passes-at}
 use Rattle.alphabet.specs.declared.Alphabet.{Alphabet}
 use Rattle.alphabet.specs.declared.Alphabet.the-variants.{Baudot, Dtmf, Edt}
 use Rattle.alphabet.specs.declared.LineCode.{LineCode}
@@ -22,8 +22,8 @@ use Rattle.alphabet.specs.TableB1.{b1}
 use Rattle.alphabet.specs.Baudot.{printedAt, readBaudot}
 use Rattle.alphabet.specs.Dtmf.{withMark, codeFrom, prefixes, keysOf, marksThenDigit, among, notStruck, remaining, names, firstSign, named, readIn, readDtmf}
 use Rattle.alphabet.specs.Normal.{sends}
-use Rattle.alphabet.specs.Packing.{base, packed, entryAt, column, packedRead, unpacked, baudotAt, dtmfAt, keyAt}
-use Rattle.alphabet.proofs.Rule.{leastShift, codes, ReadBack, entry-place, rule-of}
+use Rattle.alphabet.specs.Packing.{base, packed, entryAt, sendTable, readTable, column, packedRead, unpacked, baudotAt, dtmfAt, keyAt}
+use Rattle.alphabet.proofs.Rule.{leastShift, codes, ReadBack, entry-place, entry-below, rule-of}
 
 -- the entry of a character
 pub entry-of : (a : Alphabet) (c : ℕ) → c < 128 → entryAt (base a + c) ≡ packed (sends a c)
@@ -65,15 +65,32 @@ packed-code a c h g = go (sends a c) refl g
         let q : k .0 ≡ (256 * s + k .0) % 256 = omega arith in
         λ i. Code (p i) (record { 0 = q i })
 
--- what the lookup makes of an entry e, found at b + c
-module _ (a : Alphabet) (c b e : ℕ) (h : c < 128) (at-base : b ≡ base a) (found : e ≡ entryAt (b + c)) where
-  entry-is : e ≡ packed (sends a c)
-  entry-is = found ∙ ap (λ (n : ℕ). entryAt (n + c)) at-base ∙ entry-of a c h
+-- what a lookup makes of the entry at b + c of the table t
+module _ (t : List ℕ) (is : t ≡ sendTable) (a : Alphabet) (c b : ℕ) (h : c < 128) (at-base : b ≡ base a) where
+  pub lookup-below : b + c < 384
+  lookup-below = rw at-base (entry-below a c h)
 
-  pub lookup-nothing : e < 256 → Nothing ≡ sends a c
+  entry-is : getD t (b + c) 0 ≡ packed (sends a c)
+  unfolding sendTable
+  entry-is =
+      ap (λ (l : List ℕ). getD l (b + c) 0) is ∙ tabulate-at entryAt 0 384 (b + c) lookup-below ∙ ap (λ (n : ℕ). entryAt (n + c)) at-base
+      ∙ entry-of a c h
+
+  pub lookup-small : getD t (b + c) 0 < 1024
+  lookup-small = rw entry-is (go (sends a c) refl)
+    where
+      go : (x : Sends) → sends a c ≡ x → packed x < 1024
+      go Nothing e = omega arith
+      go (Code s k) e =
+          let f = codes-fit a in
+          let r = rule-of a c h s k e .code-in in
+          let m = rule-of a c h s k e .shift-most in
+          omega arith
+
+  pub lookup-nothing : getD t (b + c) 0 < 256 → Nothing ≡ sends a c
   lookup-nothing g = sym (packed-nothing a c h (subst (λ (n : ℕ). n < 256) entry-is g))
 
-  pub lookup-code : 256 ≤ e → Code (e / 256) (record { 0 = e % 256 }) ≡ sends a c
+  pub lookup-code : 256 ≤ getD t (b + c) 0 → Code (getD t (b + c) 0 / 256) (record { 0 = getD t (b + c) 0 % 256 }) ≡ sends a c
   lookup-code g = rw entry-is (sym (packed-code a c h (subst (λ (n : ℕ). 256 ≤ n) entry-is g)))
 
 -- a reading that can be packed: its character is below 128, its shift below 127
@@ -133,6 +150,13 @@ baudot-read s k h = go (eqb s 2) refl
         let d : 1 + (0 + k) / 32 ≡ 1 = omega arith in
         let m : (0 + k) % 32 ≡ k = omega arith in
         baudot-at (0 + k) (omega arith) ∙ (simp (d, m)) ∙ sym (reads-letters s k (eqb-false s 2 e))
+
+-- and by the table t
+pub table-read : (t : List ℕ) → t ≡ readTable → (s k n : ℕ) → k < 32 → n ≡ column s → unpacked (getD t (n + k) 0) ≡ readBaudot s k
+unfolding readTable
+table-read t is s k n h e =
+    ap (λ (l : List ℕ). unpacked (getD l (n + k) 0)) is ∙ ap (λ (m : ℕ). unpacked (getD readTable (m + k) 0)) e
+    ∙ ap unpacked (tabulate-at baudotAt 0 64 (column s + k) (column-below s k h)) ∙ baudot-read s k h
 
 unfoldable allMarks : List ℕ → Bool
 allMarks [] = true

@@ -1,8 +1,9 @@
 -- What each character sends and each code reads as, by alphabet; document 01, "EDT alphabet" and "Normal form".
 use Prim.Native.Nat.{ℕ}
-use mathlib.Core.Bool.{Bool, true, cond, _&&_}
+use mathlib.Core.Bool.{Bool, cond}
 use mathlib.Core.List.{List, [], _∷_, _++_}
-use lib.Dec.{T, leb}
+use lib.Dec.{leb}
+use Rattle.lists.specs.Lists.{allAtMost}
 use Rattle.alphabet.specs.declared.Alphabet.{Alphabet}
 use Rattle.alphabet.specs.declared.Alphabet.the-variants.{Baudot, Dtmf, Edt}
 use Rattle.alphabet.specs.declared.LineCode.{LineCode}
@@ -53,9 +54,5 @@ normalForm a [] = []
 normalForm a (c ∷ cs) = normal a c ++ normalForm a cs
 
 -- A list of characters: each is from 00 to 7F.
-unfoldable pub allChars : List ℕ → Bool
-allChars [] = true
-allChars (c ∷ cs) = leb c 0x7f && allChars cs
-
-abbrev pub Chars : List ℕ → Type 0
-Chars cs = T (allChars cs)
+abbrev pub allChars : List ℕ → Bool
+allChars cs = allAtMost 0x7f cs

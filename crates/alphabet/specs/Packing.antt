@@ -1,9 +1,10 @@
--- How the tables of this crate hold their entries. Nothing above the crate cites this file.
+-- How the tables of this crate hold their entries. Above the crate a table is only named, to be lent to a lookup.
 use Prim.Native.Nat.{ℕ, _+_, _*_, _-_, _/_, _%_}
 use mathlib.Core.Bool.{cond}
 use mathlib.Core.List.{List, [], _∷_, _++_}
 use lib.Dec.{eqb, ltb}
 use lib.ListN.{getD}
+use Rattle.lists.specs.Tables.{tabulate}
 use Rattle.alphabet.specs.declared.Alphabet.{Alphabet}
 use Rattle.alphabet.specs.declared.Alphabet.the-variants.{Baudot, Dtmf, Edt}
 use Rattle.alphabet.specs.declared.Sends.{Sends}
@@ -33,6 +34,10 @@ packed (Code shift code) = 256 * shift + code .0
 unfoldable pub entryAt : ℕ → ℕ
 entryAt i = packed (sends (alphabetAt (i / 128)) (i % 128))
 
+-- the whole table of sending
+unfoldable pub sendTable : List ℕ
+sendTable = tabulate entryAt 384 0
+
 -- where the codes of a shift begin
 abbrev pub column : ℕ → ℕ
 column shift = cond (eqb shift 2) 32 0
@@ -47,6 +52,10 @@ unpacked e = cond (ltb e 128) (Character (record { 0 = e })) (cond (eqb e 255) N
 
 unfoldable pub baudotAt : ℕ → ℕ
 baudotAt i = packedRead (readBaudot (1 + i / 32) (i % 32))
+
+-- the whole table of reading Baudot
+unfoldable pub readTable : List ℕ
+readTable = tabulate baudotAt 64 0
 
 unfoldable pub dtmfAt : ℕ → ℕ
 dtmfAt i = packedRead (readDtmf i)

@@ -9,7 +9,7 @@ ghost use Prim.Native.Nat.{_+_, _<_};
 ghost use Rattle.alphabet.specs.Baudot.{readBaudot};
 ghost use Rattle.alphabet.specs.Dtmf.{readDtmf};
 ghost use Rattle.alphabet.specs.Normal.{sends, reads, readBack};
-ghost use Rattle.alphabet.specs.Packing.{base, entryAt, column, baudotAt, dtmfAt, unpacked};
+ghost use Rattle.alphabet.specs.Packing.{base, sendTable, readTable, column, dtmfAt, unpacked};
 
 // The 384 entries: 128 for each alphabet. 0 for a character that sends nothing, else 256 times its shift plus its code.
 const SEND: [u16; 384] = [
@@ -727,6 +727,20 @@ const READ_DTMF: [u8; 256] = [
     0xff,
 ];
 
+// The table of sending, to be lent to lookups: a loop has it built once.
+pub fn send_table() -> [u16; 384]
+    ensures { λ r. ⌜ r ≡ sendTable ⌝ }
+{
+    SEND
+}
+
+// The table of reading Baudot, to be lent to lookups.
+pub fn read_table() -> [u8; 64]
+    ensures { λ r. ⌜ r ≡ readTable ⌝ }
+{
+    READ_BAUDOT
+}
+
 // Where an alphabet's entries begin.
 fn base(a: Alphabet) -> usize
     ensures { λ r. ⌜ r ≡ base a ⌝ }
@@ -738,19 +752,14 @@ fn base(a: Alphabet) -> usize
     }
 }
 
-fn entry(at: usize) -> u16
-    requires { ⌜ at < 384 ⌝ }
-    ensures { λ r. ⌜ r ≡ entryAt at ⌝ }
-{
-    SEND[at]
-}
-
-// What a character sends.
-pub fn lookup(a: Alphabet, c: Char) -> Sends
+// What a character sends, by the lent table.
+pub fn lookup_in(table: &[u16; 384], a: Alphabet, c: Char) -> Sends
+    requires { ⌜ now table ≡ sendTable ⌝ }
     requires { ⌜ c .0 < 128 ⌝ }
     ensures { λ r. ⌜ r ≡ sends a (c .0) ⌝ }
 {
-    let e = entry(base(a) + c.0 as usize);
+    let at = base(a) + c.0 as usize;
+    let e = table[at];
     if e < 256 {
         return Sends::Nothing;
     }
@@ -758,6 +767,15 @@ pub fn lookup(a: Alphabet, c: Char) -> Sends
         shift: (e / 256) as u8,
         code: LineCode((e % 256) as u8),
     }
+}
+
+// What a character sends.
+pub fn lookup(a: Alphabet, c: Char) -> Sends
+    requires { ⌜ c .0 < 128 ⌝ }
+    ensures { λ r. ⌜ r ≡ sends a (c .0) ⌝ }
+{
+    let table = send_table();
+    lookup_in(&table, a, c)
 }
 
 // Where the codes of a shift begin: figures behind letters.
@@ -768,20 +786,6 @@ fn column(shift: u8) -> usize
         return 32;
     }
     0
-}
-
-fn baudot_entry(at: usize) -> u8
-    requires { ⌜ at < 64 ⌝ }
-    ensures { λ r. ⌜ r ≡ baudotAt at ⌝ }
-{
-    READ_BAUDOT[at]
-}
-
-fn dtmf_entry(at: usize) -> u8
-    requires { ⌜ at < 256 ⌝ }
-    ensures { λ r. ⌜ r ≡ dtmfAt at ⌝ }
-{
-    READ_DTMF[at]
 }
 
 fn unpacked(entry: u8) -> Reads
@@ -796,12 +800,30 @@ fn unpacked(entry: u8) -> Reads
     Reads::Shift(entry - 128)
 }
 
+// What a five-bit code reads as in a shift, by the lent table.
+pub fn read_baudot_in(table: &[u8; 64], shift: u8, code: LineCode) -> Reads
+    requires { ⌜ now table ≡ readTable ⌝ }
+    requires { ⌜ code .0 < 32 ⌝ }
+    ensures { λ r. ⌜ r ≡ readBaudot shift (code .0) ⌝ }
+{
+    let at = column(shift) + code.0 as usize;
+    unpacked(table[at])
+}
+
 // What a five-bit code reads as in a shift.
 pub fn read_baudot(shift: u8, code: LineCode) -> Reads
     requires { ⌜ code .0 < 32 ⌝ }
     ensures { λ r. ⌜ r ≡ readBaudot shift (code .0) ⌝ }
 {
-    unpacked(baudot_entry(column(shift) + code.0 as usize))
+    let table = read_table();
+    read_baudot_in(&table, shift, code)
+}
+
+fn dtmf_entry(at: usize) -> u8
+    requires { ⌜ at < 256 ⌝ }
+    ensures { λ r. ⌜ r ≡ dtmfAt at ⌝ }
+{
+    READ_DTMF[at]
 }
 
 // What a DTMF code reads as.

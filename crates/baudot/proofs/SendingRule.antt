@@ -9,7 +9,7 @@ use native.Mathlib.Numerals.{add-one}
 use native.Mathlib.Omega.{arith}
 use lib.Bits.{bitAnd}
 use lib.Dec.{T, eqb, leb}
-use lib.ListN.{length, set}
+use lib.ListN.{length, set, length-append}
 use lib.Seq.{sets}
 use borrow.Author.Tests.{eq-eqb, ne-eqb, eqb-true, eqb-false, le-leb, lt-leb, leb-true, leb-false}
 use Rattle.lists.specs.Tables.{passes}
@@ -18,7 +18,8 @@ use Rattle.alphabet.specs.declared.Alphabet.the-variants.{Baudot}
 use Rattle.alphabet.specs.declared.LineCode.{LineCode}
 use Rattle.alphabet.specs.declared.Sends.{Sends}
 use Rattle.alphabet.specs.declared.Sends.the-variants.{Nothing, Code}
-use Rattle.alphabet.specs.Normal.{sends}
+use Rattle.alphabet.specs.Normal.{sends, allChars}
+use Rattle.lists.proofs.Lists.{at-most-head, at-most-tail}
 use Rattle.alphabet.proofs.Rule.{ReadBack, rule-of}
 use Rattle.baudot.specs.declared.Sender.{Sender}
 use Rattle.baudot.specs.declared.sending.Placed.{Placed}
@@ -191,3 +192,82 @@ module _ (codes : List ℕ) (at : ℕ) (s : Sender) where
 
     pub room-some : (wanted s own ≡ 0 → ⊥) → at + length (codesFor s x) ≤ length codes → at + 1 < length codes
     room-some n h = let l : length (codesFor s x) ≡ 2 = simp (sent, codes-some s own r lo hi k (ahead-of n)) in omega arith
+
+-- the number of shift codes
+pub shifts-none : (w : ℕ) → w ≡ 0 → length (shiftCodes w) ≡ 0
+shifts-none w e = simp e
+
+pub shifts-one : (w : ℕ) → (w ≡ 0 → ⊥) → length (shiftCodes w) ≡ 1
+shifts-one w n = simp (ne-eqb w 0 n)
+
+-- A running sender's codes, counted.
+module _ (s : Sender) (own : ℕ) (k : LineCode) (r : Running s) (lo : 1 ≤ own) (hi : own ≤ 3) where
+  pub codes-length : length (codesFor s (Code own k)) ≡ length (shiftCodes (wanted s own)) + 1
+  codes-length = ⊎-elim by-none by-some (ahead s own r lo hi)
+    where
+      by-none : NoneAhead s own r lo hi → length (codesFor s (Code own k)) ≡ length (shiftCodes (wanted s own)) + 1
+      by-none n = ap length (codes-none s own r lo hi k (n .none)) ∙ (simp (n .none))
+
+      by-some : Ahead s own r lo hi (wanted s own) → length (codesFor s (Code own k)) ≡ length (shiftCodes (wanted s own)) + 1
+      by-some a =
+          let l = a .low in
+          let o = shifts-one (wanted s own) (λ (e : wanted s own ≡ 0). omega arith) in
+          ap length (codes-some s own r lo hi k a) ∙ (simp o)
+
+  pub sender-both : senderFor s (Code own k) ≡ counted (shifted s (wanted s own))
+  sender-both = ⊎-elim by-none by-some (ahead s own r lo hi)
+    where
+      by-none : NoneAhead s own r lo hi → senderFor s (Code own k) ≡ counted (shifted s (wanted s own))
+      by-none n = sender-none s own r lo hi k (n .none) ∙ (simp (n .none))
+
+      by-some : Ahead s own r lo hi (wanted s own) → senderFor s (Code own k) ≡ counted (shifted s (wanted s own))
+      by-some a =
+          let l = a .low in
+          sender-some s own r lo hi k a ∙ (simp (ne-eqb (wanted s own) 0 (λ (e : wanted s own ≡ 0). omega arith)))
+
+  pub shifted-count : shifted s (wanted s own) .count ≤ 72
+  shifted-count = go (eqb (wanted s own) 0)
+    where
+      go : (b : Bool) → (cond b s (sender (wanted s own) 0)) .count ≤ 72
+      go true = r .count-in
+      go false = omega arith
+
+-- what counting leaves: the place and sender after a character's codes
+pub count-code : (at : ℕ) (s : Sender) (x : Sends) (own : ℕ) (k : LineCode) → x ≡ Code own k → Running s → 1 ≤ own → own ≤ 3
+    → (w : ℕ) (t : Sender) (n : ℕ) → w ≡ wanted s own → t ≡ shifted s w → n ≡ at + length (shiftCodes w) + 1
+    → _≡_ {A = Placed} (record { at = n; sender = counted t }) (record { at = at + length (codesFor s x); sender = senderFor s x })
+count-code at s x own k sent r lo hi w t n ew et en =
+    let a : n ≡ at + length (codesFor s x) =
+    let l = codes-length s own k r lo hi in
+    let m = ap (λ (y : Sends). length (codesFor s y)) sent in
+    let v = ap (λ (y : ℕ). length (shiftCodes y)) ew in
+    omega arith in
+    let b : counted t ≡ senderFor s x = ap counted (et ∙ ap (shifted s) ew) ∙ sym (sender-both s own k r lo hi) ∙ ap (senderFor s) (sym sent) in
+    λ i. record { at = a i; sender = b i }
+
+-- a running sender's codes for a character are at most two
+pub codes-two : (s : Sender) (c : ℕ) → c < 128 → Running s → length (codesFor s (sends Baudot c)) ≤ 2
+unfolding codesFor
+codes-two s c h r = go (sends Baudot c) refl
+  where
+    go : (x : Sends) → sends Baudot c ≡ x → length (codesFor s x) ≤ 2
+    go Nothing e = omega arith
+    go (Code own k) e =
+        let l = codes-length s own k r (own-range c own k h e .0) (own-range c own k h e .1) in
+        let o : length (shiftCodes (wanted s own)) ≤ 1 = few (eqb (wanted s own) 0) in
+        omega arith
+      where
+        few : (b : Bool) → length (cond b [] (shiftCode (wanted s own) ∷ [])) ≤ 1
+        few true = omega arith
+        few false = omega arith
+
+-- and for a text at most twice its length
+pub codes-twice : (s : Sender) (cs : List ℕ) → allChars cs ≡ true → (0 < length cs → Running s) → length (codesOf s cs) ≤ 2 * length cs
+unfolding codesOf
+codes-twice s [] t r = omega arith
+codes-twice s (c ∷ cs) t r =
+    let h = at-most-head 0x7f c cs t in
+    let g = r (omega arith) in
+    let a = codes-two s c (omega arith) g in
+    let b = codes-twice (senderFor s (sends Baudot c)) cs (at-most-tail 0x7f c cs t) (λ _. running-for s c (omega arith) g) in
+    rw length-append (omega arith)

@@ -1,13 +1,29 @@
 -- Where the code takes a text up: a fresh sender's first shift code, ahead of the first character that sends anything.
 use mathlib.Core.Path.{_≡_}
-use mathlib.Core.Bool.{cond}
+use mathlib.Core.Bool.{Bool, true, false, cond}
 use mathlib.Core.List.{List, [], _∷_, _++_}
 use Prim.Native.Nat.{ℕ, _≤_, _<_}
 use lib.Dec.{eqb}
-use lib.ListN.{length, drop}
+use lib.ListN.{length, getD, drop}
+use Rattle.alphabet.specs.declared.Alphabet.the-variants.{Baudot}
+use Rattle.alphabet.specs.declared.Sends.{Sends}
+use Rattle.alphabet.specs.declared.Sends.the-variants.{Nothing, Code}
+use Rattle.alphabet.specs.Normal.{sends}
 use Rattle.baudot.specs.declared.Sender.{Sender}
 use Rattle.baudot.specs.declared.sending.Opening.{Opening}
 use Rattle.baudot.specs.Sending.{codesOf, senderAfter, Running}
+
+-- A character sends a code.
+abbrev pub isCode : Sends → Bool
+isCode Nothing = false
+isCode (Code own code) = true
+
+-- The characters of a text ahead of the place n send nothing, and the one there sends a code.
+pub record Silent (text : List ℕ) (n : ℕ) : Type 0 where
+  pub within : n ≤ length text
+  pub same-codes : (s : Sender) → codesOf s text ≡ codesOf s (drop n text)
+  pub same-sender : (s : Sender) → senderAfter s text ≡ senderAfter s (drop n text)
+  pub then-code : n < length text → isCode (sends Baudot (getD text n 0)) ≡ true
 
 abbrev pub openingCodes : ℕ → List ℕ
 openingCodes n = cond (eqb n 0) [] (0b11111 ∷ [])

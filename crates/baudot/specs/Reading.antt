@@ -1,8 +1,8 @@
 -- Document 01, "Baudot alphabet (Annex A)": reading a list of codes. A shift is 1 letters, 2 figures.
 use Prim.Native.Nat.{ℕ}
-use mathlib.Core.Bool.{Bool, true, _&&_}
+use mathlib.Core.Bool.{Bool}
 use mathlib.Core.List.{List, [], _∷_, _++_}
-use lib.Dec.{leb}
+use Rattle.lists.specs.Lists.{allAtMost}
 use Rattle.alphabet.specs.declared.Reads.{Reads}
 use Rattle.alphabet.specs.declared.Reads.the-variants.{Character, Shift, NoRow}
 use Rattle.alphabet.specs.Baudot.{readBaudot}
@@ -24,6 +24,5 @@ shiftAfter shift [] = shift
 shiftAfter shift (k ∷ ks) = shiftAfter (shiftBy shift (readBaudot shift k)) ks
 
 -- Every number is a five-bit code.
-unfoldable pub allCodes : List ℕ → Bool
-allCodes [] = true
-allCodes (k ∷ ks) = leb k 31 && allCodes ks
+abbrev pub allCodes : List ℕ → Bool
+allCodes ks = allAtMost 31 ks

@@ -1,4 +1,5 @@
 // The bare Baudot conversions: text to five-bit codes, and codes to text.
+pub mod checks;
 pub mod listing;
 pub mod reading;
 pub mod sending;

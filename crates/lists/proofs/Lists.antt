@@ -1,10 +1,15 @@
 -- Laws on lists that are written and read from the front.
 use mathlib.Core.Path.{_≡_, _∙_, refl, sym, ap}
+use mathlib.Core.Bool.{Bool, true, false, _&&_}
 use mathlib.Core.List.{List, [], _∷_, _++_}
-use Prim.Native.Nat.{ℕ, suc, _+_, _≤_}
-use native.Mathlib.Nat.{add-zero, zero-add, add-suc, suc-add}
-use lib.ListN.{length, set, drop}
-use lib.Seq.{sets, sets-eq}
+use Prim.Native.Nat.{ℕ, zero, suc, _+_, _≤_, _<_}
+use native.Mathlib.Nat.{add-zero, zero-add, add-suc, suc-add, le-of-suc-le-suc, not-suc-le-zero}
+use native.Mathlib.Numerals.{add-one}
+use lib.Dec.{leb}
+use lib.ListN.{length, getD, set, drop, drop-of-length-le}
+use lib.Seq.{sets, sets-eq, drop-cons}
+use borrow.Author.Tests.{leb-true}
+use Rattle.lists.specs.Lists.{allAtMost}
 
 -- two runs of values, one behind the other
 pub sets-append : {A : Type 0} (l : List A) (i : ℕ) (xs ys : List A) → sets l i (xs ++ ys) ≡ sets (sets l i xs) (i + length xs) ys
@@ -14,3 +19,38 @@ sets-append l i (x ∷ xs) ys = sets-append (set l i x) (suc i) xs ys ∙ (simp 
 -- values written from the front
 pub sets-front : {A : Type 0} (l vs : List A) → length vs ≤ length l → sets l 0 vs ≡ vs ++ drop (length vs) l
 sets-front l vs h = sets-eq vs l 0 (rw zero-add h) ∙ (rw zero-add)
+
+pub and-left : (a b : Bool) → (a && b) ≡ true → a ≡ true
+and-left true b e = refl
+and-left false b e = e
+
+pub and-right : (a b : Bool) → (a && b) ≡ true → b ≡ true
+and-right true b e = e
+and-right false b e = cc
+
+-- a list whose numbers are at most m, by its front, by a place, and from a place on
+pub at-most-head : (m x : ℕ) (xs : List ℕ) → allAtMost m (x ∷ xs) ≡ true → x ≤ m
+unfolding allAtMost
+at-most-head m x xs e = leb-true x m (and-left (leb x m) (allAtMost m xs) e)
+
+pub at-most-tail : (m x : ℕ) (xs : List ℕ) → allAtMost m (x ∷ xs) ≡ true → allAtMost m xs ≡ true
+unfolding allAtMost
+at-most-tail m x xs e = and-right (leb x m) (allAtMost m xs) e
+
+pub at-most-at : (m : ℕ) (xs : List ℕ) → allAtMost m xs ≡ true → (i : ℕ) → i < length xs → getD xs i 0 ≤ m
+at-most-at m [] e i h = absurd (not-suc-le-zero h)
+at-most-at m (x ∷ xs) e zero h = at-most-head m x xs e
+at-most-at m (x ∷ xs) e (suc i) h = at-most-at m xs (at-most-tail m x xs e) i (le-of-suc-le-suc h)
+
+pub at-most-left : (m : ℕ) (xs : List ℕ) (i : ℕ) → i < length xs → allAtMost m (drop i xs) ≡ (leb (getD xs i 0) m && allAtMost m (drop (i + 1) xs))
+unfolding allAtMost
+at-most-left m xs i h = rw (add-one, drop-cons xs i 0 h)
+
+pub at-most-end : (m : ℕ) (xs : List ℕ) (i : ℕ) → length xs ≤ i → allAtMost m (drop i xs) ≡ true
+unfolding allAtMost
+at-most-end m xs i h = rw (drop-of-length-le xs h)
+
+pub at-most-drop : (m : ℕ) (xs : List ℕ) (i : ℕ) → allAtMost m xs ≡ true → allAtMost m (drop i xs) ≡ true
+at-most-drop m xs zero e = e
+at-most-drop m [] (suc i) e = e
+at-most-drop m (x ∷ xs) (suc i) e = at-most-drop m xs i (at-most-tail m x xs e)

@@ -11,110 +11,88 @@ use Rattle.baudot.proofs.SendingRule.{own-range, put-nothing, put-none,
 use borrow.Author.Needs.{needs}
 use Rattle.baudot.proofs.sending.put_char.Statement.{statement}
 use Rattle.baudot.proofs.sending.put_char.Tie as tie
-use Rattle.baudot.proofs.sending.put_char.Reads as reads
-use Rattle.baudot.proofs.sending.put_char.Lts as lts
-use Rattle.alphabet.proofs.table.lookup.Reads as lookup-reads
-use Rattle.baudot.proofs.sending.shift_code.Reads as shift-code-reads
-use Rattle.baudot.proofs.sending.wanted.Reads as wanted-reads
 
 -- what the character sends, and the range of its shift
 sent-is : (k : tie.After-known-told) → sends Baudot (k .before .before .before .before .before .args .c .0) ≡ Code (k .before .e .given .0 .0) (k .before .e .given .0 .1 .0)
-sent-is k = sym (k .before .before .before .lookup .ensures) ∙ k .before .e .given .1
+sent-is k = sym (k .before .before .before .lookup-in .ensures) ∙ k .before .e .given .1
 
 range-is : (k : tie.After-known-told) → (1 ≤ k .before .e .given .0 .0) × (k .before .e .given .0 .0 ≤ 3)
-range-is k = own-range _ _ _ (k .before .before .before .before .before .pre .0) (sent-is k)
+range-is k = own-range _ _ _ (k .before .before .before .before .before .pre .1 .0) (sent-is k)
 
 some-is : (c : tie.After-shift-code) → wanted (c .before .before .before .before .before .before .before .before .args .s) (c .before .before .before .before .e .given .0 .0) ≡ 0 → ⊥
 some-is c e = c .before .if1 .left (c .before .before .wanted .ensures ∙ e)
 
--- src/sending.rt:79:9
-lookup-requires : tie.Need-lookup-requires
-lookup-requires c κs = search needs
+lookup-in-requires : tie.Need-lookup-in-requires
+lookup-in-requires c κs = search needs
 
--- src/sending.rt:80:30
 enum-known-e : tie.Need-enum-known-e
 enum-known-e c = search needs
 
--- src/sending.rt:81:9
 enum-told : tie.Need-enum-told
 enum-told c = search needs
 
--- src/sending.rt:81:9
 returns : tie.Need-returns
 returns c =
     let a = c .before .before .before .before .args in
-    let p = put-nothing (a .codes .now) (a .at) (a .s) _ (sym (c .before .before .lookup .ensures) ∙ c .enum-told .given .1) in
+    let p = put-nothing (a .codes .now) (a .at) (a .s) _ (sym (c .before .before .lookup-in .ensures) ∙ c .enum-told .given .1) in
     (p .placed, p .stored)
 
--- src/sending.rt:83:9
 wanted-requires : tie.Need-wanted-requires
 wanted-requires c κs =
     let s = c .before .before .before .before .before in
-    (s .pre .1 .0, own-range _ _ _ (s .pre .0) (sent-is c))
+    (s .pre .1 .1 .0, own-range _ _ _ (s .pre .1 .0) (sent-is c))
 
--- src/sending.rt:85:9
 slice-write-codes : tie.Need-slice-write-codes
 slice-write-codes c =
     let k = c .before .before in
     let s = k .before .before .before .before .before in
-    room-none (s .args .codes .now) (s .args .at) (s .args .s) _ _ _ (sent-is k) (s .pre .1 .0) (range-is k .0) (range-is k .1) (sym (c .before .wanted .ensures) ∙ c .if1 .taken) (s .pre .1 .1)
+    room-none (s .args .codes .now) (s .args .at) (s .args .s) _ _ _ (sent-is k) (s .pre .1 .1 .0) (range-is k .0) (range-is k .1) (sym (c .before .wanted .ensures) ∙ c .if1 .taken) (s .pre .1 .1 .1)
 
--- src/sending.rt:87:17
-add-t12 : tie.Need-add-t12
-add-t12 c = search needs
-
--- src/sending.rt:90:24
 add-t13 : tie.Need-add-t13
 add-t13 c = search needs
 
--- src/sending.rt:86:9
+add-t14 : tie.Need-add-t14
+add-t14 c = search needs
+
 same-length : tie.Need-same-length
 same-length c = search needs
 
--- src/sending.rt:86:9
 returns-2 : tie.Need-returns-2
 returns-2 c =
     let k = c .before .before .before in
     let s = k .before .before .before .before .before in
-    let p = put-none (s .args .codes .now) (s .args .at) (s .args .s) _ _ _ (sent-is k) (s .pre .1 .0) (range-is k .0) (range-is k .1) (sym (c .before .before .wanted .ensures) ∙ c .before .if1 .taken) in
+    let p = put-none (s .args .codes .now) (s .args .at) (s .args .s) _ _ _ (sent-is k) (s .pre .1 .1 .0) (range-is k .0) (range-is k .1) (sym (c .before .before .wanted .ensures) ∙ c .before .if1 .taken) in
     (p .placed, p .stored)
 
--- src/sending.rt:94:17
 shift-code-requires : tie.Need-shift-code-requires
 shift-code-requires c κs = search needs
 
--- src/sending.rt:94:5
 slice-write-codes-2 : tie.Need-slice-write-codes-2
 slice-write-codes-2 c =
     let k = c .before .before .before in
     let s = k .before .before .before .before .before in
-    omega (arith, room-some (s .args .codes .now) (s .args .at) (s .args .s) _ _ _ (sent-is k) (s .pre .1 .0) (range-is k .0) (range-is k .1) (some-is c) (s .pre .1 .1))
+    omega (arith, room-some (s .args .codes .now) (s .args .at) (s .args .s) _ _ _ (sent-is k) (s .pre .1 .1 .0) (range-is k .0) (range-is k .1) (some-is c) (s .pre .1 .1 .1))
 
--- src/sending.rt:95:11
 add-codes : tie.Need-add-codes
 add-codes c = search needs
 
--- src/sending.rt:95:5
 slice-write-codes-3 : tie.Need-slice-write-codes-3
 slice-write-codes-3 c =
     let k = c .before .before .before in
     let s = k .before .before .before .before .before in
-    rw length-set (room-some (s .args .codes .now) (s .args .at) (s .args .s) _ _ _ (sent-is k) (s .pre .1 .0) (range-is k .0) (range-is k .1) (some-is c) (s .pre .1 .1))
+    rw length-set (room-some (s .args .codes .now) (s .args .at) (s .args .s) _ _ _ (sent-is k) (s .pre .1 .1 .0) (range-is k .0) (range-is k .1) (some-is c) (s .pre .1 .1 .1))
 
--- src/sending.rt:97:13
-add-t17 : tie.Need-add-t17
-add-t17 c = search needs
+add-t18 : tie.Need-add-t18
+add-t18 c = search needs
 
--- src/sending.rt:72:1
 same-length-2 : tie.Need-same-length-2
 same-length-2 c = search needs
 
--- src/sending.rt:72:1
 returns-3 : tie.Need-returns-3
 returns-3 c =
     let k = c .before .before .before in
     let s = k .before .before .before .before .before in
-    let p = put-some (s .args .codes .now) (s .args .at) (s .args .s) _ _ _ (sent-is k) (s .pre .1 .0) (range-is k .0) (range-is k .1) (some-is c) in
+    let p = put-some (s .args .codes .now) (s .args .at) (s .args .s) _ _ _ (sent-is k) (s .pre .1 .1 .0) (range-is k .0) (range-is k .1) (some-is c) in
     let w = c .before .before .wanted .ensures in
     (simp w (p .placed), simp (c .shift-code .ensures, w) (p .stored))
 
@@ -122,20 +100,20 @@ pub put-char-spec : {M : Type 1} → statement M
 put-char-spec =
     tie.close
     (tie.spec
-    lookup-requires
+    lookup-in-requires
     enum-known-e
     enum-told
     returns
     wanted-requires
     slice-write-codes
-    add-t12
     add-t13
+    add-t14
     same-length
     returns-2
     shift-code-requires
     slice-write-codes-2
     add-codes
     slice-write-codes-3
-    add-t17
+    add-t18
     same-length-2
     returns-3)

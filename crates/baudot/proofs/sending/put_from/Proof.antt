@@ -3,22 +3,22 @@ use Prim.Native.Nat.{_-_, _<_}
 use native.Mathlib.Omega.{arith}
 use borrow.Author.Needs.{needs}
 use lib.ListN.{length}
-use Rattle.alphabet.proofs.Chars.{char-at}
+use Rattle.lists.proofs.Lists.{at-most-at}
 use Rattle.baudot.proofs.Left.{Writing, left-room, left-end, writing-start, writing-turn, writing-end}
 use Rattle.baudot.proofs.sending.put_from.Statement.{statement}
 use Rattle.baudot.proofs.sending.put_from.Tie as tie
 
 abbrev Inv-loop : tie.InvT-loop
-Inv-loop text from codes₀ at p₀ i₀ codes p i = Writing text codes₀ p₀ i₀ codes p i
+Inv-loop table text from codes₀ at p₀ i₀ codes p i = Writing text codes₀ p₀ i₀ codes p i
 
 abbrev μ-loop : tie.MeasureT-loop
-μ-loop text from codes₀ at p₀ i₀ codes p i = length text - i
+μ-loop table text from codes₀ at p₀ i₀ codes p i = length text - i
 
 loop-holds : tie.Need-loop-holds Inv-loop μ-loop
-loop-holds c = writing-start _ _ _ _ (c .before .before .pre .1 .0)
+loop-holds c = writing-start _ _ _ _ (c .before .before .pre .1 .1 .0)
 
-shared-slice-read-t13 : tie.Need-shared-slice-read-t13 Inv-loop μ-loop
-shared-slice-read-t13 c = search needs
+shared-slice-read-t14 : tie.Need-shared-slice-read-t14 Inv-loop μ-loop
+shared-slice-read-t14 c = search needs
 
 put-char-requires : tie.Need-put-char-requires Inv-loop μ-loop
 put-char-requires c κs =
@@ -26,8 +26,8 @@ put-char-requires c κs =
     let s = l .before .before .before in
     let t = c .before .before .loop-test .taken in
     let w = l .loop .inv in
-    let h = char-at (s .args .text .now) (s .pre .0) (l .loop .i) t in
-    (omega arith, (w .left .running t, left-room _ _ _ _ _ (w .left) _ t (omega (arith, w .size, s .pre .1 .1))))
+    let h = at-most-at 0x7f (s .args .text .now) (s .pre .1 .0) (l .loop .i) t in
+    (s .pre .0, (omega arith, (w .left .running t, left-room _ _ _ _ _ (w .left) _ t (omega (arith, w .size, s .pre .1 .1 .1)))))
 
 add-i : tie.Need-add-i Inv-loop μ-loop
 add-i c = search needs
@@ -41,7 +41,7 @@ loop-again c =
     let l = c .before .before .before .before .before .before in
     let s = l .before .before .before in
     let t = c .before .before .before .before .before .loop-test .taken in
-    let h = char-at (s .args .text .now) (s .pre .0) (l .loop .i) t in
+    let h = at-most-at 0x7f (s .args .text .now) (s .pre .1 .0) (l .loop .i) t in
     writing-turn _ _ _ _ _ _ _ (l .loop .inv) _ _ t (omega arith) (q .ensures .0) (q .ensures .1)
 
 same-length : tie.Need-same-length Inv-loop μ-loop
@@ -59,7 +59,7 @@ put-from-spec =
     Inv-loop
     μ-loop
     loop-holds
-    shared-slice-read-t13
+    shared-slice-read-t14
     put-char-requires
     add-i
     loop-less

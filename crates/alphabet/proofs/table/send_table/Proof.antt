@@ -1,0 +1,23 @@
+-- `table::send_table` meets its contract: each of the 384 entries is what the definition gives.
+use mathlib.Core.Path.{refl}
+use Rattle.alphabet.specs.Print.{leftRows, rightRows, rows, bitsFrom, bits, keys}
+use Rattle.alphabet.specs.TableA2.{a2}
+use Rattle.alphabet.specs.TableB1.{b1}
+use Rattle.alphabet.specs.TableB2.{b2}
+use Rattle.alphabet.specs.Baudot.{printedAt, sendBaudot}
+use Rattle.alphabet.specs.Dtmf.{withMark, codeFrom, marksThenDigit, among, notStruck, remaining, names, firstSign, named, sendIn, hasRow, sendFrom, sendDtmf}
+use Rattle.alphabet.specs.Normal.{sends}
+use Rattle.lists.specs.Tables.{tabulate}
+use Rattle.alphabet.specs.Packing.{entryAt, sendTable}
+use Rattle.alphabet.proofs.table.send_table.Statement.{statement}
+use Rattle.alphabet.proofs.table.send_table.Tie as tie
+use Rattle.alphabet.proofs.table.send_table.Reads as reads
+use Rattle.alphabet.proofs.table.send_table.Lts as lts
+
+-- src/table.rt:731:1
+returns : tie.Need-returns
+unfolding tabulate sendTable entryAt sends bits bitsFrom leftRows rightRows rows a2 b1 b2 printedAt sendBaudot keys withMark codeFrom marksThenDigit among notStruck remaining names firstSign named sendIn hasRow sendFrom sendDtmf
+returns c = refl
+
+pub send-table-spec : {M : Type 1} → statement M
+send-table-spec = tie.close (tie.spec returns)

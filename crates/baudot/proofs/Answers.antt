@@ -1,0 +1,149 @@
+-- What the entries answer: the questions in order, a refusal, a success.
+use mathlib.Core.Path.{_≡_, _∙_, refl, sym, ap}
+use mathlib.Core.Bool.{Bool, true, false, cond, _&&_, _||_, and-false}
+use mathlib.Core.List.{List, [], _∷_, _++_}
+use Prim.Native.Nat.{ℕ, zero, suc, _+_, _≤_, _<_}
+use native.Mathlib.Omega.{arith}
+use lib.Dec.{eqb, leb}
+use lib.ListN.{length, drop}
+use lib.Seq.{sets}
+use borrow.Author.Tests.{ne-eqb, eq-eqb, le-leb, lt-leb, leb-true, leb-false}
+use Rattle.lists.proofs.Lists.{sets-front}
+use Rattle.alphabet.specs.Normal.{allChars}
+use Rattle.baudot.specs.declared.Sender.{Sender}
+use Rattle.baudot.specs.declared.BaudotSent.{BaudotSent}
+use Rattle.baudot.specs.declared.BaudotText.{BaudotText}
+use Rattle.baudot.specs.declared.reading.Taken.{Taken}
+use Rattle.baudot.specs.declared.sending.Placed.{Placed}
+use Rattle.baudot.specs.declared.sending.Opening.{Opening}
+use Rattle.baudot.specs.Sending.{sender, inRange, codesOf, senderAfter}
+use Rattle.baudot.specs.Opening.{openingCodes, Opened}
+use Rattle.baudot.specs.Reading.{textOf, shiftAfter, allCodes}
+use Rattle.baudot.specs.Entries.{sent, sendAnswer, sentOf, codesAfter, read, readAnswer, readOf, textAfter}
+
+-- Sending.
+module _ (text : List ℕ) (shift count : ℕ) (codes : List ℕ) where
+  abbrev answer : ℕ
+  answer = sendAnswer text shift count (length codes)
+
+  -- what the entry leaves: its result, and the slice
+  pub record Sent (r : BaudotSent) (after : List ℕ) : Type 0 where
+    pub result : r ≡ sentOf text shift count (length codes)
+    pub slice : after ≡ codesAfter text shift count codes
+
+  -- a refusal gives back what it was given and leaves the slice
+  pub refused : (a : ℕ) → answer ≡ a → (a ≡ 0 → ⊥) → Sent (sent a shift count 0) codes
+  unfolding sentOf codesAfter
+  refused a e n =
+      let z : eqb a 0 ≡ false = ne-eqb a 0 n in
+      record { result = simp (e, z); slice = simp (e, z) }
+
+  -- the first no decides
+  pub no-shift : 2 < shift → answer ≡ 1
+  unfolding sendAnswer
+  no-shift h = simp (lt-leb shift 2 h)
+
+  pub no-count : 72 < count → answer ≡ 1
+  unfolding sendAnswer
+  no-count h = simp (lt-leb count 72 h, and-false)
+
+  module _ (a : shift ≤ 2) (b : count ≤ 72) where
+    pub no-chars : allChars text ≡ false → answer ≡ 3
+    unfolding sendAnswer
+    no-chars e = simp (le-leb shift 2 a, le-leb count 72 b, e)
+
+    module _ (c : allChars text ≡ true) where
+      pub no-room : length codes < length (codesOf (sender shift count) text) → answer ≡ 9
+      unfolding sendAnswer
+      no-room h = simp (le-leb shift 2 a, le-leb count 72 b, c, lt-leb (length (codesOf (sender shift count) text)) (length codes) h)
+
+      pub yes : length (codesOf (sender shift count) text) ≤ length codes → answer ≡ 0
+      unfolding sendAnswer
+      yes h = simp (le-leb shift 2 a, le-leb count 72 b, c, le-leb (length (codesOf (sender shift count) text)) (length codes) h)
+
+  -- success: the sender reached, and the codes written from the front
+  module _ (o : Opening) (is : Opened text (sender shift count) o) where
+    abbrev all : List ℕ
+    all = openingCodes (o .at) ++ codesOf (o .sender) (drop (o .from) text)
+
+    opening-length : o .at + length (codesOf (o .sender) (drop (o .from) text)) ≡ length (codesOf (sender shift count) text)
+    opening-length = go (o .at) (is .at-in) (ap length (is .codes-are))
+      where
+        go : (n : ℕ) → n ≤ 1 → length (codesOf (sender shift count) text) ≡ length (openingCodes n ++ codesOf (o .sender) (drop (o .from) text))
+            → n + length (codesOf (o .sender) (drop (o .from) text)) ≡ length (codesOf (sender shift count) text)
+        go zero h e = omega arith
+        go (suc zero) h e = omega arith
+        go (suc (suc n)) h e = absurd (omega arith)
+
+    pub fits-is : (f : Bool) → f ≡ leb (o .at + length (codesOf (o .sender) (drop (o .from) text))) (length codes)
+        → f ≡ leb (length (codesOf (sender shift count) text)) (length codes)
+    fits-is f e = e ∙ ap (λ (n : ℕ). leb n (length codes)) opening-length
+
+    pub room-is : length (codesOf (sender shift count) text) ≤ length codes → length all ≤ length codes
+    room-is h = rw (is .codes-are) at h
+
+    pub accepted : answer ≡ 0 → length (codesOf (sender shift count) text) ≤ length codes → (p : Placed) (after : List ℕ)
+        → p ≡ record { at = length all; sender = senderAfter (o .sender) (drop (o .from) text) } → after ≡ sets codes 0 all
+        → Sent (sent 0 (p .sender .shift) (p .sender .count) (p .at)) after
+    unfolding sentOf codesAfter
+    accepted e h p after ep ea =
+        let c = is .codes-are in
+        let s = is .sender-is in
+        record {
+          result = rw ep (simp (e, c, s));
+          slice = ea ∙ ap (sets codes 0) (sym c) ∙ sets-front codes (codesOf (sender shift count) text) h ∙ (simp e);
+        }
+
+-- Reading.
+module _ (codes : List ℕ) (shift : ℕ) (text : List ℕ) where
+  abbrev reply : ℕ
+  reply = readAnswer codes shift (length text)
+
+  pub record Read (r : BaudotText) (after : List ℕ) : Type 0 where
+    pub result : r ≡ readOf codes shift (length text)
+    pub slice : after ≡ textAfter codes shift text
+
+  -- a refusal gives back what it was given and leaves the slice
+  pub read-refused : (a : ℕ) → reply ≡ a → (a ≡ 0 → ⊥) → Read (read a shift 0) text
+  unfolding readOf textAfter
+  read-refused a e n =
+      let z : eqb a 0 ≡ false = ne-eqb a 0 n in
+      record { result = simp (e, z); slice = simp (e, z) }
+
+  -- the first no decides
+  pub fresh-shift : shift ≡ 0 → reply ≡ 1
+  unfolding readAnswer
+  fresh-shift e = simp e
+
+  pub far-shift : 2 < shift → reply ≡ 1
+  unfolding readAnswer
+  far-shift h = simp (ne-eqb shift 1 (λ (e : shift ≡ 1). omega arith), ne-eqb shift 2 (λ (e : shift ≡ 2). omega arith))
+
+  module _ (a : shift ≡ 0 → ⊥) (b : shift ≤ 2) where
+    in-range : (eqb shift 1 || eqb shift 2) ≡ true
+    in-range = go shift a b
+      where
+        go : (n : ℕ) → (n ≡ 0 → ⊥) → n ≤ 2 → (eqb n 1 || eqb n 2) ≡ true
+        go zero z h = absurd (z refl)
+        go (suc zero) z h = refl
+        go (suc (suc zero)) z h = refl
+        go (suc (suc (suc n))) z h = absurd (omega arith)
+
+    pub no-codes : allCodes codes ≡ false → reply ≡ 10
+    unfolding readAnswer
+    no-codes e = simp (in-range, e)
+
+    module _ (c : allCodes codes ≡ true) where
+      pub no-text-room : length text < length (textOf shift codes) → reply ≡ 9
+      unfolding readAnswer
+      no-text-room h = simp (in-range, c, lt-leb (length (textOf shift codes)) (length text) h)
+
+      pub read-yes : length (textOf shift codes) ≤ length text → reply ≡ 0
+      unfolding readAnswer
+      read-yes h = simp (in-range, c, le-leb (length (textOf shift codes)) (length text) h)
+
+  pub read-accepted : reply ≡ 0 → length (textOf shift codes) ≤ length text → (t : Taken) (after : List ℕ)
+      → t ≡ record { at = length (textOf shift codes); shift = shiftAfter shift codes } → after ≡ sets text 0 (textOf shift codes)
+      → Read (read 0 (t .shift) (t .at)) after
+  unfolding readOf textAfter
+  read-accepted e h t after et ea = record { result = rw et (simp e); slice = ea ∙ sets-front text (textOf shift codes) h ∙ (simp e) }

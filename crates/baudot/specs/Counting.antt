@@ -1,0 +1,16 @@
+-- How the code counts shift codes: block by block.
+use Prim.Native.Nat.{ℕ, _+_, _-_}
+use mathlib.Core.Bool.{cond}
+use mathlib.Core.List.{List, [], _∷_}
+use lib.Dec.{eqb, leb}
+
+abbrev pub shiftOne : ℕ → ℕ
+shiftOne k = cond (eqb k 0b11111) 1 (cond (eqb k 0b11011) 1 0)
+
+-- the shift codes of a list
+unfoldable pub shiftsIn : List ℕ → ℕ
+shiftsIn [] = 0
+shiftsIn (k ∷ ks) = shiftOne k + shiftsIn ks
+
+abbrev pub blockEnd : ℕ → ℕ → ℕ
+blockEnd at len = cond (leb (len - at) 128) len (at + 128)
