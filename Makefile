@@ -1,8 +1,8 @@
 # make demo      lists the Baudot codes of a line of text; another line: make demo TEXT='GA TO YOU'
 # make test      the gate: every proof and every test, from nothing
-# make lib       target/staticlib/libbaudot.a, for hosts in C
+# make lib       target/staticlib/libbaudot.a and libcalling.a, for hosts in C
 # make bench     speed of the engine beside the reference
-# make vectors   rewrites the expected table listing from the reference
+# make vectors   rewrites the expected table listings from the reference
 #
 # Needs rt, gcc and cargo, and no network. No target needs another one first.
 
@@ -25,12 +25,15 @@ test:
 
 lib:
 	rt staticlib baudot
+	rt staticlib calling
 
 bench: lib
 	$(CARGO_BUILD) --all-features --bin bench
 	target/cargo/release/bench
 
 vectors:
-	$(CARGO_BUILD) --bin tables
+	$(CARGO_BUILD) --bin tables --bin calling_tables
 	target/cargo/release/tables >target/tables
 	cp target/tables crates/alphabet_tables/stdout
+	target/cargo/release/calling_tables >target/calling_tables
+	cp target/calling_tables crates/calling_tables/stdout

@@ -1,12 +1,14 @@
 /*
  * cuyrapaq.h: the C interface of the Cuyrapaq textphone line engine.
  *
- * Two entries convert text to five-bit Baudot codes (ITU-T V.18, Annex A) and back. Each works on
- * slices that the host lends for the call: a pointer and a number of elements. The engine uses no heap,
- * keeps nothing between calls and calls nothing back. Several threads may call it at the same time, each
- * with its own slice to be written.
+ * Two entries convert text to five-bit Baudot codes (ITU-T V.18, Annex A) and back. Three more are a
+ * calling set (clause 5.1): what it sends while it calls, and the tone that it chooses among those it
+ * hears. Each works on slices that the host lends for the call: a pointer and a number of elements. The
+ * engine uses no heap, keeps nothing between calls and calls nothing back. Several threads may call it
+ * at the same time, each with its own slice to be written and its own state.
  *
- * Link libbaudot.a (x86-64, System V calling convention).
+ * Link libbaudot.a for the conversions and libcalling.a for the calling set (x86-64, System V calling
+ * convention).
  */
 #ifndef CUYRAPAQ_H
 #define CUYRAPAQ_H
@@ -31,7 +33,7 @@ extern "C" {
 
 /*
  * Answers. 0 is success, any other number is the reason of a refusal. The numbers are the same for all
- * entries of the engine; the entries below give 0, 1, 3, 9 and 10.
+ * entries of the engine; the conversions give 0, 1, 3, 9 and 10, the calling set 0, 5, 7, 11 and 12.
  */
 #define CQ_OK                       0
 #define CQ_REFUSED_STATE            1 /* a number of the state is out of range (here: shift or count) */
@@ -70,7 +72,7 @@ typedef struct cq_baudot_text {
 #define CQ_BAUDOT_TEXT_MAX(n)  ((size_t)(n))
 
 /*
- * Both entries:
+ * Both conversions:
  * - Each pointer leads to as many bytes as the length beside it says, or more.
  * - The two slices must not overlap.
  * - A slice of length 0 may have any pointer that is not a null pointer.
@@ -134,6 +136,80 @@ cq_baudot_sent cq_baudot_send(const uint8_t *text, size_t text_length, uint8_t s
 cq_baudot_text cq_baudot_read(const uint8_t *codes, size_t codes_length, uint8_t shift, uint8_t *text,
                               size_t text_length);
 
+/*
+ * The calling set works in milliseconds (ms). For each ms the host says what it hears, and is told what
+ * to send in that ms.
+ */
+
+/* What is sent in a ms. */
+#define CQ_SENT_NOTHING 0
+#define CQ_SENT_CI      1
+#define CQ_SENT_XCI     2
+
+/* What is heard in a ms: none, or a tone. Beside each tone: the ms that it must last in a row. */
+#define CQ_TONE_NONE       0
+#define CQ_TONE_ANSAM      1 /*     1 */
+#define CQ_TONE_ANS        2 /*     1 */
+#define CQ_TONE_2225       3 /*   500 */
+#define CQ_TONE_1650       4 /*   500 */
+#define CQ_TONE_1300       5 /* 1,700 */
+#define CQ_TONE_1270       6 /*   700 */
+#define CQ_TONE_980        7 /* 1,500 */
+#define CQ_TONE_BAUDOT_45  8 /*     1 */
+#define CQ_TONE_BAUDOT_50  9 /*     1 */
+#define CQ_TONE_DTMF      10 /*     1 */
+#define CQ_TONE_EDT       11 /*     1 */
+
+/* The most ms of one call. */
+#define CQ_CALLING_MS_MAX 4096
+
+/* What was heard last, and for how many ms in a row. */
+typedef struct cq_lasting {
+    uint8_t tone; /* CQ_TONE_NONE or a tone, 0 to 11 */
+    uint16_t ms;  /* 1 to 1,700; the count stays there */
+} cq_lasting;
+
+/* The state of a calling set, which the host keeps. Make it with cq_calling_fresh; zeros are refused. */
+typedef struct cq_calling {
+    cq_lasting heard;
+    uint16_t place; /* the next ms of the timetable, 0 to 11,199 */
+    uint8_t choice; /* the tone that was chosen; 0 until one is */
+} cq_calling;
+
+/* A set that starts: the timetable stands at its first ms, and no choice is made. */
+cq_calling cq_calling_fresh(void);
+
+/* The tone that was chosen; CQ_TONE_NONE until one is. May be asked at any time. */
+uint8_t cq_calling_choice(const cq_calling *state);
+
+/*
+ * Runs a calling set for some ms.
+ *
+ * state                the set's state, which the call changes
+ * tones, tones_length  what is heard, one ms in each byte, at most CQ_CALLING_MS_MAX of them
+ * sent, sent_length    where the sent ms go, one in each byte; at least as many as tones
+ *
+ * While nothing is heard the set sends its timetable, over and over: nothing for 1,000 ms; CI 400; nothing
+ * 2,000; CI 400; nothing 2,000; CI 400; nothing 2,000; XCI 3,000. From the ms of a tone on it sends nothing.
+ * After 400 ms of none in a row the next ms is the timetable's first. A tone that lasts its length in a row
+ * is the choice, from that ms on and for good; another tone, or none, ends its count. Once the choice is
+ * made nothing is sent any more, and the state stays as it is.
+ *
+ * CQ_OK: the first tones_length elements of `sent` are what to send in these ms; everything behind them
+ * stays as it was. A list of ms may be cut into calls in any way, with the same result.
+ *
+ * Refusals, asked in this order; the first that applies is the answer:
+ *   CQ_REFUSED_CALLING_STATE (12)  a number of the state is out of range
+ *   CQ_REFUSED_DURATION       (5)  tones_length is above CQ_CALLING_MS_MAX
+ *   CQ_REFUSED_TONE          (11)  an element of tones is above 11
+ *   CQ_REFUSED_SENT_SLICE     (7)  sent_length is less than tones_length
+ * Each leaves the state and `sent` as they were.
+ *
+ * Pointers and slices are as for the conversions: `sent` overlaps neither `tones` nor `state`.
+ */
+uint8_t cq_calling_run(cq_calling *state, const uint8_t *tones, size_t tones_length, uint8_t *sent,
+                       size_t sent_length);
+
 /* Checked when the host is compiled: the structs are laid out as in the library. */
 #if defined(__cplusplus) && __cplusplus >= 201103L
 static_assert(sizeof(size_t) == 8, "size_t has 8 bytes");
@@ -141,12 +217,18 @@ static_assert(sizeof(cq_baudot_sent) == 16, "cq_baudot_sent has 16 bytes");
 static_assert(offsetof(cq_baudot_sent, length) == 8, "length stands at byte 8");
 static_assert(sizeof(cq_baudot_text) == 16, "cq_baudot_text has 16 bytes");
 static_assert(offsetof(cq_baudot_text, length) == 8, "length stands at byte 8");
+static_assert(sizeof(cq_calling) == 8, "cq_calling has 8 bytes");
+static_assert(offsetof(cq_calling, place) == 4, "place stands at byte 4");
+static_assert(offsetof(cq_calling, choice) == 6, "choice stands at byte 6");
 #else
 typedef char cq_check_size_t[sizeof(size_t) == 8 ? 1 : -1];
 typedef char cq_check_baudot_sent[sizeof(cq_baudot_sent) == 16 ? 1 : -1];
 typedef char cq_check_baudot_sent_length[offsetof(cq_baudot_sent, length) == 8 ? 1 : -1];
 typedef char cq_check_baudot_text[sizeof(cq_baudot_text) == 16 ? 1 : -1];
 typedef char cq_check_baudot_text_length[offsetof(cq_baudot_text, length) == 8 ? 1 : -1];
+typedef char cq_check_calling[sizeof(cq_calling) == 8 ? 1 : -1];
+typedef char cq_check_calling_place[offsetof(cq_calling, place) == 4 ? 1 : -1];
+typedef char cq_check_calling_choice[offsetof(cq_calling, choice) == 6 ? 1 : -1];
 #endif
 
 #ifdef __cplusplus

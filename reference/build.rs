@@ -1,4 +1,5 @@
-//! Tells the linker where the engine's libbaudot.a is. Only `differential` and `bench` link it.
+//! Tells the linker where the engine's static libraries are. Only `differential` and `bench` link
+//! them.
 
 fn main() {
     println!("cargo:rerun-if-changed=build.rs");
@@ -6,5 +7,6 @@ fn main() {
     if let Ok(folder) = std::env::var("CQ_LIB_DIR") {
         println!("cargo:rustc-link-search=native={folder}");
         println!("cargo:rerun-if-changed={folder}/libbaudot.a");
+        println!("cargo:rerun-if-changed={folder}/libcalling.a");
     }
 }

@@ -1,6 +1,7 @@
 /*
- * Calls both entries through the header: the worked examples, every refusal and what it leaves,
- * empty slices, slices that fit exactly, and the bytes around the result. Prints what failed.
+ * Calls all entries through the header: the worked examples, the calling set's timetable, pause and
+ * choice, every refusal and what it leaves, empty slices, slices that fit exactly, and the bytes around
+ * the result. Prints what failed.
  */
 #include "cuyrapaq.h"
 
@@ -118,6 +119,13 @@ static void layout(void)
     check(CQ_BAUDOT_CODES_MAX(0) == 1 && CQ_BAUDOT_CODES_MAX(1) == 3 && CQ_BAUDOT_CODES_MAX(80 + 1) == 163,
           "CQ_BAUDOT_CODES_MAX", "macros");
     check(CQ_BAUDOT_TEXT_MAX(0) == 0 && CQ_BAUDOT_TEXT_MAX(80 + 1) == 81, "CQ_BAUDOT_TEXT_MAX", "macros");
+    check(sizeof(cq_lasting) == 4, "size", "cq_lasting");
+    check(offsetof(cq_lasting, tone) == 0, "tone", "cq_lasting");
+    check(offsetof(cq_lasting, ms) == 2, "ms", "cq_lasting");
+    check(sizeof(cq_calling) == 8, "size", "cq_calling");
+    check(offsetof(cq_calling, heard) == 0, "heard", "cq_calling");
+    check(offsetof(cq_calling, place) == 4, "place", "cq_calling");
+    check(offsetof(cq_calling, choice) == 6, "choice", "cq_calling");
     check(CQ_OK == 0 && CQ_REFUSED_STATE == 1 && CQ_REFUSED_MODE == 2 && CQ_REFUSED_CHARACTER == 3 &&
               CQ_REFUSED_FULL == 4 && CQ_REFUSED_DURATION == 5 && CQ_REFUSED_HEARD == 6 &&
               CQ_REFUSED_SENT_SLICE == 7 && CQ_REFUSED_WORD_SLICE == 8 && CQ_REFUSED_RESULT_SLICE == 9 &&
@@ -324,6 +332,104 @@ static void whole_and_cut(void)
     }
 }
 
+static int same_state(const cq_calling *a, const cq_calling *b)
+{
+    return a->heard.tone == b->heard.tone && a->heard.ms == b->heard.ms && a->place == b->place &&
+           a->choice == b->choice;
+}
+
+/* A set hears a tone for some ms, in calls of at most `cut`; whether it sends `value` in all of them. */
+static int hears(cq_calling *set, uint8_t tone, size_t ms, size_t cut, uint8_t value)
+{
+    static uint8_t tones[CQ_CALLING_MS_MAX];
+    int all = 1;
+    memset(tones, tone, sizeof tones);
+    while (ms > 0) {
+        size_t i, n = ms < cut ? ms : cut;
+        fill();
+        check(cq_calling_run(set, tones, n, slice, n) == CQ_OK, "a run is not refused", "calling set");
+        check(stays(n), "bytes around the sent ms stay", "calling set");
+        for (i = 0; i < n; i++) {
+            all = all && slice[i] == value;
+        }
+        ms -= n;
+    }
+    return all;
+}
+
+/* One period of the timetable, from its first ms on. */
+static void period(cq_calling *set, size_t cut)
+{
+    int i;
+    check(hears(set, CQ_TONE_NONE, 1000, cut, CQ_SENT_NOTHING), "nothing first", "timetable");
+    for (i = 0; i < 3; i++) {
+        check(hears(set, CQ_TONE_NONE, 400, cut, CQ_SENT_CI), "CI", "timetable");
+        check(hears(set, CQ_TONE_NONE, 2000, cut, CQ_SENT_NOTHING), "nothing between", "timetable");
+    }
+    check(hears(set, CQ_TONE_NONE, 3000, cut, CQ_SENT_XCI), "XCI", "timetable");
+}
+
+static void run_refused(const char *which, cq_calling set, const uint8_t *tones, size_t length, size_t room,
+                        uint8_t answer)
+{
+    cq_calling before = set;
+    fill();
+    check(cq_calling_run(&set, tones, length, slice, room) == answer, "refusal of a run", which);
+    check(stays(0), "a refusal leaves the sent ms", which);
+    check(same_state(&set, &before), "a refusal leaves the state", which);
+}
+
+static void calling(void)
+{
+    static const size_t lengths[12] = {0, 1, 1, 500, 500, 1700, 700, 1500, 1, 1, 1, 1};
+    static uint8_t tones[CQ_CALLING_MS_MAX + 1];
+    cq_calling set = cq_calling_fresh(), fresh = cq_calling_fresh(), bad;
+    uint8_t tone;
+
+    check(cq_calling_choice(&set) == CQ_TONE_NONE, "a fresh set has no choice", "calling set");
+    period(&set, CQ_CALLING_MS_MAX);
+    period(&set, 7);
+    check(hears(&set, CQ_TONE_1650, 499, 100, CQ_SENT_NOTHING), "a tone silences", "calling set");
+    check(hears(&set, CQ_TONE_NONE, 399, 4000, CQ_SENT_NOTHING), "399 ms of none", "calling set");
+    check(hears(&set, CQ_TONE_2225, 1, 1, CQ_SENT_NOTHING), "another tone", "calling set");
+    check(hears(&set, CQ_TONE_NONE, 400, 4000, CQ_SENT_NOTHING), "400 ms of none", "calling set");
+    check(cq_calling_choice(&set) == CQ_TONE_NONE, "no choice yet", "calling set");
+    period(&set, 4000);
+
+    for (tone = CQ_TONE_ANSAM; tone <= CQ_TONE_EDT; tone++) {
+        set = cq_calling_fresh();
+        check(hears(&set, tone, lengths[tone] - 1, 1000, CQ_SENT_NOTHING), "one ms short", "tones");
+        check(cq_calling_choice(&set) == CQ_TONE_NONE, "one ms short is no choice", "tones");
+        check(hears(&set, tone, 1, 1, CQ_SENT_NOTHING), "the ms of the choice", "tones");
+        check(cq_calling_choice(&set) == tone, "the choice", "tones");
+        check(hears(&set, CQ_TONE_NONE, 12000, 4096, CQ_SENT_NOTHING), "nothing after the choice", "tones");
+        check(hears(&set, (uint8_t)(12 - tone), 2000, 4096, CQ_SENT_NOTHING), "tones after the choice", "tones");
+        check(cq_calling_choice(&set) == tone, "the choice is for good", "tones");
+    }
+
+    memset(tones, CQ_TONE_NONE, sizeof tones);
+    run_refused("5", fresh, tones, CQ_CALLING_MS_MAX + 1, CQ_CALLING_MS_MAX + 1, CQ_REFUSED_DURATION);
+    run_refused("7", fresh, tones, 10, 9, CQ_REFUSED_SENT_SLICE);
+    tones[9] = 12;
+    run_refused("11", fresh, tones, 10, 10, CQ_REFUSED_TONE);
+    run_refused("11 ahead of 7", fresh, tones, 10, 0, CQ_REFUSED_TONE);
+    run_refused("5 ahead of 11", fresh, tones, CQ_CALLING_MS_MAX + 1, 0, CQ_REFUSED_DURATION);
+    bad = fresh;
+    bad.choice = 12;
+    run_refused("12, choice", bad, tones, CQ_CALLING_MS_MAX + 1, 0, CQ_REFUSED_CALLING_STATE);
+    bad = fresh;
+    bad.place = 11200;
+    run_refused("12, place", bad, tones, 1, 1, CQ_REFUSED_CALLING_STATE);
+    bad = fresh;
+    bad.heard.tone = 12;
+    run_refused("12, tone", bad, tones, 1, 1, CQ_REFUSED_CALLING_STATE);
+    bad = fresh;
+    bad.heard.ms = 1701;
+    run_refused("12, ms", bad, tones, 1, 1, CQ_REFUSED_CALLING_STATE);
+    memset(&bad, 0, sizeof bad);
+    run_refused("12, zeros", bad, tones, 0, 0, CQ_REFUSED_CALLING_STATE);
+}
+
 int main(void)
 {
     layout();
@@ -333,6 +439,7 @@ int main(void)
     empty();
     refusals();
     whole_and_cut();
+    calling();
     if (failures != 0) {
         printf("header: %lu of %lu checks failed\n", failures, checks);
         return 1;

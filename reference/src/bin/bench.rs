@@ -1,11 +1,12 @@
-//! Speed of the engine and of the reference, side by side: millions of characters (sending) or
-//! codes (reading) a second, the best of several rounds in which the two alternate.
+//! Speed of the engine and of the reference, side by side: millions of characters (sending), codes
+//! (reading) or ms (calling set) a second, the best of several rounds in which the two alternate.
 
 #[path = "../engine.rs"]
 mod engine;
 
 use reference::annex::LETTERS;
 use reference::baudot::{self, FRESH, SUCCESS};
+use reference::calling::{Set, MOST};
 use reference::random::Random;
 use std::hint::black_box;
 use std::time::Instant;
@@ -28,6 +29,50 @@ fn main() {
         read_row(&format!("read codes of {name}"), &codes);
     }
     read_row("read uniform codes", &uniform_codes);
+    calling_row("calling set, nothing heard", &[0; LENGTH]);
+    let tones: Vec<u8> = (0..LENGTH).map(|ms| if ms % 900 < 450 { 3 } else { 0 }).collect();
+    calling_row("calling set, a tone of 450 ms and none", &tones);
+    calling_row("calling set, tones at random", &random_tones(&mut random));
+    let mut chosen = vec![0; LENGTH];
+    chosen[0] = 1;
+    calling_row("calling set, choice made", &chosen);
+}
+
+/// Tones that must last more than 1 ms, for a few ms each.
+fn random_tones(random: &mut Random) -> Vec<u8> {
+    let mut tones = Vec::new();
+    while tones.len() < LENGTH {
+        let tone = random.pick(&[0, 3, 4, 5, 6, 7]);
+        tones.resize(tones.len() + 1 + random.below(5), tone);
+    }
+    tones.truncate(LENGTH);
+    tones
+}
+
+/// A fresh set on all the tones, in calls as long as a call may be.
+fn calling_row(name: &str, tones: &[u8]) {
+    let (mut sent, mut choice) = (vec![0; tones.len()], 0);
+    let (mut other, mut other_choice) = (vec![0; tones.len()], 0);
+    row(
+        name,
+        tones.len(),
+        || {
+            let mut state = engine::calling_fresh();
+            let calls = black_box(tones).chunks(MOST).zip(black_box(&mut sent).chunks_mut(MOST));
+            let answers = calls.map(|(tones, sent)| engine::calling_run(&mut state, tones, sent));
+            let worst = answers.max().unwrap();
+            choice = engine::calling_choice(&state);
+            worst
+        },
+        || {
+            let mut set = Set::default();
+            let calls = black_box(tones).chunks(MOST).zip(black_box(&mut other).chunks_mut(MOST));
+            let worst = calls.map(|(tones, sent)| set.run(tones, sent)).max().unwrap();
+            other_choice = set.choice();
+            worst
+        },
+    );
+    assert!((sent, choice) == (other, other_choice), "the two differ");
 }
 
 fn codes_of(text: &[u8]) -> Vec<u8> {

@@ -1,6 +1,9 @@
-//! Compares the engine with the reference on random conversions, refused ones among them.
-//! Arguments: number of cases (one sending and one reading each), seed. Exit 1 on a difference.
+//! Compares the engine with the reference on random conversions and on a calling set's random ms,
+//! refused calls among them. Arguments: number of cases (one sending, one reading and four ms
+//! each), seed. Exit 1 on a difference.
 
+#[path = "../calling_sessions.rs"]
+mod calling_sessions;
 #[path = "../engine.rs"]
 mod engine;
 
@@ -54,6 +57,7 @@ fn main() {
         met("send", &sends, [0, 1, 3, 9]),
         met("read", &reads, [0, 1, 9, 10]),
     );
+    println!("{}", calling_sessions::compare(&mut random, (4 * cases).max(1_000_000)));
 }
 
 /// Every text and every code of one byte, at the ends of the ranges.
