@@ -163,17 +163,12 @@ cq_baudot_text cq_baudot_read(const uint8_t *codes, size_t codes_length, uint8_t
 /* The most ms of one call. */
 #define CQ_CALLING_MS_MAX 4096
 
-/* What was heard last, and for how many ms in a row. */
-typedef struct cq_lasting {
-    uint8_t tone; /* CQ_TONE_NONE or a tone, 0 to 11 */
-    uint16_t ms;  /* 1 to 1,700; the count stays there */
-} cq_lasting;
-
 /* The state of a calling set, which the host keeps. Make it with cq_calling_fresh; zeros are refused. */
 typedef struct cq_calling {
-    cq_lasting heard;
+    uint16_t ms;    /* for how many ms in a row `tone` was heard, 1 to 1,700; the count stays where it is enough */
     uint16_t place; /* the next ms of the timetable, 0 to 11,199 */
-    uint8_t choice; /* the tone that was chosen; 0 until one is */
+    uint8_t tone;   /* what was heard last, 0 to 11 */
+    uint8_t choice; /* the tone that was chosen, 0 until one is; 0 to 11 */
 } cq_calling;
 
 /* A set that starts: the timetable stands at its first ms, and no choice is made. */
@@ -217,18 +212,16 @@ static_assert(sizeof(cq_baudot_sent) == 16, "cq_baudot_sent has 16 bytes");
 static_assert(offsetof(cq_baudot_sent, length) == 8, "length stands at byte 8");
 static_assert(sizeof(cq_baudot_text) == 16, "cq_baudot_text has 16 bytes");
 static_assert(offsetof(cq_baudot_text, length) == 8, "length stands at byte 8");
-static_assert(sizeof(cq_calling) == 8, "cq_calling has 8 bytes");
-static_assert(offsetof(cq_calling, place) == 4, "place stands at byte 4");
-static_assert(offsetof(cq_calling, choice) == 6, "choice stands at byte 6");
+static_assert(sizeof(cq_calling) == 6, "cq_calling has 6 bytes");
+static_assert(offsetof(cq_calling, choice) == 5, "choice stands at byte 5");
 #else
 typedef char cq_check_size_t[sizeof(size_t) == 8 ? 1 : -1];
 typedef char cq_check_baudot_sent[sizeof(cq_baudot_sent) == 16 ? 1 : -1];
 typedef char cq_check_baudot_sent_length[offsetof(cq_baudot_sent, length) == 8 ? 1 : -1];
 typedef char cq_check_baudot_text[sizeof(cq_baudot_text) == 16 ? 1 : -1];
 typedef char cq_check_baudot_text_length[offsetof(cq_baudot_text, length) == 8 ? 1 : -1];
-typedef char cq_check_calling[sizeof(cq_calling) == 8 ? 1 : -1];
-typedef char cq_check_calling_place[offsetof(cq_calling, place) == 4 ? 1 : -1];
-typedef char cq_check_calling_choice[offsetof(cq_calling, choice) == 6 ? 1 : -1];
+typedef char cq_check_calling[sizeof(cq_calling) == 6 ? 1 : -1];
+typedef char cq_check_calling_choice[offsetof(cq_calling, choice) == 5 ? 1 : -1];
 #endif
 
 #ifdef __cplusplus

@@ -119,13 +119,11 @@ static void layout(void)
     check(CQ_BAUDOT_CODES_MAX(0) == 1 && CQ_BAUDOT_CODES_MAX(1) == 3 && CQ_BAUDOT_CODES_MAX(80 + 1) == 163,
           "CQ_BAUDOT_CODES_MAX", "macros");
     check(CQ_BAUDOT_TEXT_MAX(0) == 0 && CQ_BAUDOT_TEXT_MAX(80 + 1) == 81, "CQ_BAUDOT_TEXT_MAX", "macros");
-    check(sizeof(cq_lasting) == 4, "size", "cq_lasting");
-    check(offsetof(cq_lasting, tone) == 0, "tone", "cq_lasting");
-    check(offsetof(cq_lasting, ms) == 2, "ms", "cq_lasting");
-    check(sizeof(cq_calling) == 8, "size", "cq_calling");
-    check(offsetof(cq_calling, heard) == 0, "heard", "cq_calling");
-    check(offsetof(cq_calling, place) == 4, "place", "cq_calling");
-    check(offsetof(cq_calling, choice) == 6, "choice", "cq_calling");
+    check(sizeof(cq_calling) == 6, "size", "cq_calling");
+    check(offsetof(cq_calling, ms) == 0, "ms", "cq_calling");
+    check(offsetof(cq_calling, place) == 2, "place", "cq_calling");
+    check(offsetof(cq_calling, tone) == 4, "tone", "cq_calling");
+    check(offsetof(cq_calling, choice) == 5, "choice", "cq_calling");
     check(CQ_OK == 0 && CQ_REFUSED_STATE == 1 && CQ_REFUSED_MODE == 2 && CQ_REFUSED_CHARACTER == 3 &&
               CQ_REFUSED_FULL == 4 && CQ_REFUSED_DURATION == 5 && CQ_REFUSED_HEARD == 6 &&
               CQ_REFUSED_SENT_SLICE == 7 && CQ_REFUSED_WORD_SLICE == 8 && CQ_REFUSED_RESULT_SLICE == 9 &&
@@ -334,8 +332,7 @@ static void whole_and_cut(void)
 
 static int same_state(const cq_calling *a, const cq_calling *b)
 {
-    return a->heard.tone == b->heard.tone && a->heard.ms == b->heard.ms && a->place == b->place &&
-           a->choice == b->choice;
+    return a->ms == b->ms && a->place == b->place && a->tone == b->tone && a->choice == b->choice;
 }
 
 /* A set hears a tone for some ms, in calls of at most `cut`; whether it sends `value` in all of them. */
@@ -421,10 +418,10 @@ static void calling(void)
     bad.place = 11200;
     run_refused("12, place", bad, tones, 1, 1, CQ_REFUSED_CALLING_STATE);
     bad = fresh;
-    bad.heard.tone = 12;
+    bad.tone = 12;
     run_refused("12, tone", bad, tones, 1, 1, CQ_REFUSED_CALLING_STATE);
     bad = fresh;
-    bad.heard.ms = 1701;
+    bad.ms = 1701;
     run_refused("12, ms", bad, tones, 1, 1, CQ_REFUSED_CALLING_STATE);
     memset(&bad, 0, sizeof bad);
     run_refused("12, zeros", bad, tones, 0, 0, CQ_REFUSED_CALLING_STATE);

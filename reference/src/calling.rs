@@ -116,14 +116,14 @@ impl Set {
     }
 }
 
-/// The engine's state as its header publishes it: what was heard last and for how many ms in a
-/// row, the place in the timetable, and the choice.
+/// The engine's state as its header publishes it: for how many ms in a row what was heard last,
+/// the place in the timetable, what was heard last, and the choice.
 #[repr(C)]
 #[derive(Clone, Copy, Debug, PartialEq, Eq)]
 pub struct State {
-    pub tone: u8,
     pub ms: u16,
     pub place: u16,
+    pub tone: u8,
     pub choice: u8,
 }
 

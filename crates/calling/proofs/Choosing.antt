@@ -7,15 +7,12 @@ use native.Mathlib.Omega.{arith}
 use borrow.Author.Tests.{eq-eqb, ne-eqb, lt-ltb, le-ltb, eqb-true, eqb-false, ltb-true, ltb-false}
 use lib.Dec.{eqb, ltb}
 use lib.ListN.{length, replicate}
-use Rattle.calling.specs.declared.counting.Lasting.{Lasting}
 use Rattle.calling.specs.declared.Calling.{Calling}
 use Rattle.calling.specs.Timetable.{nothing}
-use Rattle.calling.specs.Tones.{none, lengths, lengthIn, lengthOf}
-use Rattle.calling.specs.Counting.{most, oneMore, counted}
-use Rattle.calling.specs.Set.{fresh, inRange, pause, chosen, stateAfter, after, sentOf}
-use Rattle.calling.proofs.Choices.{by-test, either, first-true, second-true}
-use Rattle.calling.proofs.OneMs.{counted-same, counted-other, heard-after, choice-after, does-chosen}
-use Rattle.calling.proofs.Range.{bounds-of, fresh-in-range}
+use Rattle.calling.specs.Tones.{none, lengthOf}
+use Rattle.calling.specs.Set.{fresh, pause, enough, msAfter, chosen, stateAfter, after, sentOf}
+use Rattle.calling.proofs.Choices.{by-test, first-true, second-true}
+use Rattle.calling.proofs.OneMs.{counted-more, counted-most, counted-other, tone-after, ms-after, choice-after, does-chosen}
 
 -- a choice is for good: every later ms leaves the state as it is ..
 pub for-good : (s : Calling) (hs : List ℕ) → (s .choice ≡ 0 → ⊥) → after s hs ≡ s
@@ -45,16 +42,6 @@ unfoldable pub allShort : ℕ → ℕ → List ℕ → Bool
 allShort t n [] = true
 allShort t n (h ∷ hs) = tooShort h (inARow t n h) && allShort h (inARow t n h) hs
 
--- no tone must last longer than the count goes
-length-in : (t : ℕ) → lengthOf t ≤ most
-unfolding lengths lengthIn lengthOf
-length-in t =
-    either (λ (n : ℕ). n ≤ most) (eqb t 3) (omega arith)
-    (either (λ (n : ℕ). n ≤ most) (eqb t 4) (omega arith)
-    (either (λ (n : ℕ). n ≤ most) (eqb t 5) (omega arith)
-    (either (λ (n : ℕ). n ≤ most) (eqb t 6) (omega arith)
-    (either (λ (n : ℕ). n ≤ most) (eqb t 7) (omega arith) (omega arith)))))
-
 neither-first : (a b : Bool) → a || b ≡ false → a ≡ false
 neither-first true b e = e
 neither-first false b e = refl
@@ -71,64 +58,69 @@ either-true : (a : Bool) → (a || true) && true ≡ true
 either-true true = refl
 either-true false = refl
 
--- A count of n ms that goes no further than the most.
-record Bounded (ms n : ℕ) : Type 0 where
-  below : n < most → ms ≡ n
-  above : most ≤ n → ms ≡ most
+-- A count of n ms that goes no further than k, or not much.
+record Bounded (ms n k : ℕ) : Type 0 where
+  below : n < k → ms ≡ n
+  above : k ≤ n → k ≤ ms
 
-bounded-on : (ms n : ℕ) → Bounded ms n → Bounded (oneMore ms) (n + 1)
-bounded-on ms n b =
-    by-test (ltb n most)
+-- it tells whether n is below k
+bounded-below : (ms n k : ℕ) → Bounded ms n k → ltb ms k ≡ ltb n k
+bounded-below ms n k b =
+    by-test (ltb n k)
     (λ e.
-    let h : n < most = ltb-true _ _ e in
-    let m = b .below h in
-    simp (lt-ltb ms most (omega arith)) (record { below = λ g. omega arith; above = λ g. omega arith }))
-    (λ e.
-    let h : most ≤ n = ltb-false _ _ e in
-    let m = b .above h in
-    simp (le-ltb ms most (omega arith)) (record { below = λ g. absurd (omega arith); above = λ _. m }))
-
--- it tells whether n is below a length
-bounded-below : (ms n k : ℕ) → k ≤ most → Bounded ms n → ltb ms k ≡ ltb n k
-bounded-below ms n k h b =
-    by-test (ltb n most)
-    (λ e. let m = b .below (ltb-true _ _ e) in rw m)
-    (λ e.
-    let g : most ≤ n = ltb-false _ _ e in
-    let m = b .above g in
-    le-ltb ms k (omega arith) ∙ sym (le-ltb n k (omega arith)))
+    let m = b .below (ltb-true _ _ e) in
+    rw m)
+    (λ e. le-ltb ms k (b .above (ltb-false _ _ e)) ∙ sym e)
 
 -- What was heard last is t, for n ms in a row.
-record Counts (l : Lasting) (t n : ℕ) : Type 0 where
-  tone-is : l .tone ≡ t
-  ms-is : Bounded (l .ms) n
+record Counts (s : Calling) (t n : ℕ) : Type 0 where
+  tone-is : s .tone ≡ t
+  ms-is : Bounded (s .ms) n (enough t)
 
 -- one ms more
-counts-on : (l : Lasting) (t n h : ℕ) → Counts l t n → Counts (counted l h) h (inARow t n h)
-counts-on l t n h c =
+counted-on : (s : Calling) (t n h : ℕ) → Counts s t n → Bounded (msAfter s h) (inARow t n h) (enough h)
+counted-on s t n h c =
     by-test (eqb h t)
     (λ e.
-    let s = counted-same l h (eqb-true _ _ e ∙ sym (c .tone-is)) in
-    rw s (simp e (record { tone-is = refl; ms-is = bounded-on (l .ms) n (c .ms-is) })))
+    let q : h ≡ s .tone = eqb-true _ _ e ∙ sym (c .tone-is) in
+    let b : Bounded (s .ms) n (enough h) = rw (eqb-true h t e) (c .ms-is) in
+    simp e
+    (by-test (ltb n (enough h))
+    (λ f.
+    let g : n < enough h = ltb-true _ _ f in
+    let m = b .below g in
+    rw (counted-more (s .tone) (s .ms) h (enough h) q (rw m g)) (record { below = λ _. ap (λ (k : ℕ). k + 1) m; above = λ l. omega arith }))
+    (λ f.
+    let g : enough h ≤ n = ltb-false _ _ f in
+    let m = b .above g in
+    rw (counted-most (s .tone) (s .ms) h (enough h) q m) (record { below = λ l. absurd (omega arith); above = λ _. m }))))
     (λ e.
-    let s = counted-other l h (λ q. eqb-false _ _ e (q ∙ c .tone-is)) in
-    rw s (simp e (record { tone-is = refl; ms-is = record { below = λ _. refl; above = λ g. absurd (omega arith) } })))
+    let q = counted-other (s .tone) (s .ms) h (enough h) (λ z. eqb-false _ _ e (z ∙ c .tone-is)) in
+    rw q (simp e (record { below = λ _. refl; above = λ l. l })))
+
+counts-on : (s : Calling) (t n h : ℕ) → s .choice ≡ 0 → Counts s t n → Counts (stateAfter s h) h (inARow t n h)
+counts-on s t n h z c =
+    record { tone-is = tone-after s h z; ms-is = rw (ms-after s h z) (counted-on s t n h c) }
 
 -- the count tells whether this ms makes the choice
-counts-chosen : (l : Lasting) (t n : ℕ) → Counts l t n → chosen l ≡ cond (tooShort t n) 0 t
-counts-chosen l t n c = simp (c .tone-is, bounded-below (l .ms) n (lengthOf t) (length-in t) (c .ms-is))
+counts-chosen : (h ms n : ℕ) → Bounded ms n (enough h) → chosen h ms ≡ cond (tooShort h n) 0 h
+counts-chosen h ms n b =
+    by-test (eqb h none) (λ e. simp e)
+    (λ e.
+    let l : ltb ms (lengthOf h) ≡ ltb n (lengthOf h) = bounded-below ms n (lengthOf h) (simp e at b) in
+    simp (e, l))
 
 -- until the choice is made, a ms makes it or not by the ms in a row
-choice-by : (s : Calling) (h t n : ℕ) → s .choice ≡ 0 → Counts (s .heard) t n → stateAfter s h .choice ≡ cond (tooShort h (inARow t n h)) 0 h
-choice-by s h t n c k = choice-after s h c ∙ counts-chosen (counted (s .heard) h) h (inARow t n h) (counts-on (s .heard) t n h k)
+choice-by : (s : Calling) (h t n : ℕ) → s .choice ≡ 0 → Counts s t n → stateAfter s h .choice ≡ cond (tooShort h (inARow t n h)) 0 h
+choice-by s h t n c k = choice-after s h c ∙ counts-chosen h (msAfter s h) (inARow t n h) (counted-on s t n h k)
 
 -- a ms in which no tone reaches its length makes no choice, and the count goes on
-short-ms : (s : Calling) (h t n : ℕ) → s .choice ≡ 0 → Counts (s .heard) t n → tooShort h (inARow t n h) ≡ true
-    → (stateAfter s h .choice ≡ 0) × Counts (stateAfter s h .heard) h (inARow t n h)
-short-ms s h t n c k e = (choice-by s h t n c k ∙ simp e, rw (heard-after s h c) (counts-on (s .heard) t n h k))
+short-ms : (s : Calling) (h t n : ℕ) → s .choice ≡ 0 → Counts s t n → tooShort h (inARow t n h) ≡ true
+    → (stateAfter s h .choice ≡ 0) × Counts (stateAfter s h) h (inARow t n h)
+short-ms s h t n c k e = (choice-by s h t n c k ∙ simp e, counts-on s t n h c k)
 
 -- the ms in which one does makes it, for good
-long-ms : (s : Calling) (h t n : ℕ) (ys : List ℕ) → s .choice ≡ 0 → Counts (s .heard) t n → tooShort h (inARow t n h) ≡ false
+long-ms : (s : Calling) (h t n : ℕ) (ys : List ℕ) → s .choice ≡ 0 → Counts s t n → tooShort h (inARow t n h) ≡ false
     → after s (h ∷ ys) .choice ≡ h
 unfolding after
 long-ms s h t n ys c k e =
@@ -136,7 +128,7 @@ long-ms s h t n ys c k e =
     let z : h ≡ none → ⊥ = λ q. eqb-false h none (neither-first (eqb h none) (ltb (inARow t n h) (lengthOf h)) e) q in
     ap (λ (r : Calling). r .choice) (for-good (stateAfter s h) ys (λ q. z (sym d ∙ q))) ∙ d
 
-none-made : (hs : List ℕ) (s : Calling) (t n : ℕ) → s .choice ≡ 0 → Counts (s .heard) t n → allShort t n hs ≡ true → after s hs .choice ≡ 0
+none-made : (hs : List ℕ) (s : Calling) (t n : ℕ) → s .choice ≡ 0 → Counts s t n → allShort t n hs ≡ true → after s hs .choice ≡ 0
 unfolding after allShort
 none-made [] s t n c k e = c
 none-made (h ∷ hs) s t n c k e =
@@ -144,7 +136,7 @@ none-made (h ∷ hs) s t n c k e =
     let d = short-ms s h t n c k (first-true (tooShort h m) (allShort h m hs) e) in
     none-made hs (stateAfter s h) h m (d .0) (d .1) (second-true (tooShort h m) (allShort h m hs) e)
 
-made : (hs : List ℕ) (h : ℕ) (ys : List ℕ) (s : Calling) (t n : ℕ) → s .choice ≡ 0 → Counts (s .heard) t n
+made : (hs : List ℕ) (h : ℕ) (ys : List ℕ) (s : Calling) (t n : ℕ) → s .choice ≡ 0 → Counts s t n
     → allShort t n hs ≡ true → allShort t n (hs ++ (h ∷ [])) ≡ false → after s (hs ++ (h ∷ ys)) .choice ≡ h
 unfolding after allShort
 made [] h ys s t n c k e f = long-ms s h t n ys c k (only-first (tooShort h (inARow t n h)) f)
@@ -154,22 +146,18 @@ made (x ∷ hs) h ys s t n c k e f =
     let d = short-ms s x t n c k b in
     made hs h ys (stateAfter s x) x m (d .0) (d .1) (second-true (tooShort x m) (allShort x m hs) e) (simp b at f)
 
--- in range, the count of what was heard last is that of its ms
-counts-own : (s : Calling) → inRange s ≡ true → Counts (s .heard) (s .heard .tone) (s .heard .ms)
-counts-own s r =
-    let b = bounds-of s r in
-    let m = b .ms-in in
-    record { tone-is = refl; ms-is = record { below = λ _. refl; above = λ g. omega arith } }
+counts-own : (s : Calling) → Counts s (s .tone) (s .ms)
+counts-own s = record { tone-is = refl; ms-is = record { below = λ _. refl; above = λ g. g } }
 
-module _ (s : Calling) (range : inRange s ≡ true) (unmade : s .choice ≡ 0) where
+module _ (s : Calling) (unmade : s .choice ≡ 0) where
   -- no choice is made while no tone reaches its length ..
-  pub no-choice : (hs : List ℕ) → allShort (s .heard .tone) (s .heard .ms) hs ≡ true → after s hs .choice ≡ 0
-  no-choice hs e = none-made hs s (s .heard .tone) (s .heard .ms) unmade (counts-own s range) e
+  pub no-choice : (hs : List ℕ) → allShort (s .tone) (s .ms) hs ≡ true → after s hs .choice ≡ 0
+  no-choice hs e = none-made hs s (s .tone) (s .ms) unmade (counts-own s) e
 
   -- .. and the tone that reaches it first is the choice, from that ms on, whatever is heard later
-  pub choice-made : (hs : List ℕ) (h : ℕ) (ys : List ℕ) → allShort (s .heard .tone) (s .heard .ms) hs ≡ true
-      → allShort (s .heard .tone) (s .heard .ms) (hs ++ (h ∷ [])) ≡ false → after s (hs ++ (h ∷ ys)) .choice ≡ h
-  choice-made hs h ys e f = made hs h ys s (s .heard .tone) (s .heard .ms) unmade (counts-own s range) e f
+  pub choice-made : (hs : List ℕ) (h : ℕ) (ys : List ℕ) → allShort (s .tone) (s .ms) hs ≡ true
+      → allShort (s .tone) (s .ms) (hs ++ (h ∷ [])) ≡ false → after s (hs ++ (h ∷ ys)) .choice ≡ h
+  choice-made hs h ys e f = made hs h ys s (s .tone) (s .ms) unmade (counts-own s) e f
 
 -- how long none has lasted is of no account
 none-count : (hs : List ℕ) (m n : ℕ) → allShort none m hs ≡ allShort none n hs
@@ -183,14 +171,14 @@ none-count (h ∷ hs) m n =
 -- The same for a set that was fresh, by the ms that it heard alone: no tone reached its length ..
 pub fresh-no-choice : (hs : List ℕ) → allShort none 0 hs ≡ true → after fresh hs .choice ≡ 0
 unfolding fresh
-fresh-no-choice hs e = no-choice fresh fresh-in-range refl hs (none-count hs pause 0 ∙ e)
+fresh-no-choice hs e = no-choice fresh refl hs (none-count hs pause 0 ∙ e)
 
 -- .. or this was the first
 pub fresh-choice-made : (hs : List ℕ) (h : ℕ) (ys : List ℕ) → allShort none 0 hs ≡ true → allShort none 0 (hs ++ (h ∷ [])) ≡ false
     → after fresh (hs ++ (h ∷ ys)) .choice ≡ h
 unfolding fresh
 fresh-choice-made hs h ys e f =
-    choice-made fresh fresh-in-range refl hs h ys (none-count hs pause 0 ∙ e) (none-count (hs ++ (h ∷ [])) pause 0 ∙ f)
+    choice-made fresh refl hs h ys (none-count hs pause 0 ∙ e) (none-count (hs ++ (h ∷ [])) pause 0 ∙ f)
 
 -- k ms of a tone and n more of it are too short
 row-short : (n k t : ℕ) → k + n < lengthOf t → allShort t k (replicate n t) ≡ true
@@ -219,12 +207,12 @@ first-long zero u m t other z h = simp (ne-eqb t none z, ne-eqb t u other, le-lt
 first-long (suc n) u m t other z h =
     simp (ne-eqb t none z, ne-eqb t u other, row-long n 1 t z (omega arith)) (and-false (ltb 1 (lengthOf t)))
 
-module _ (s : Calling) (t n : ℕ) (range : inRange s ≡ true) (unmade : s .choice ≡ 0) (other : t ≡ s .heard .tone → ⊥) where
+module _ (s : Calling) (t n : ℕ) (unmade : s .choice ≡ 0) (other : t ≡ s .tone → ⊥) where
   -- a tone that is shorter than its length is no choice
   pub tone-too-short : n < lengthOf t → after s (replicate n t) .choice ≡ 0
-  tone-too-short h = no-choice s range unmade (replicate n t) (first-short n _ _ t other h)
+  tone-too-short h = no-choice s unmade (replicate n t) (first-short n _ _ t other h)
 
   -- one that reaches it is, in that ms, and for good
   pub tone-reaches : (ys : List ℕ) → (t ≡ none → ⊥) → suc n ≡ lengthOf t → after s (replicate n t ++ (t ∷ ys)) .choice ≡ t
   tone-reaches ys z h =
-      choice-made s range unmade (replicate n t) t ys (first-short n _ _ t other (omega arith)) (first-long n _ _ t other z h)
+      choice-made s unmade (replicate n t) t ys (first-short n _ _ t other (omega arith)) (first-long n _ _ t other z h)

@@ -1,35 +1,29 @@
 -- One ms of a calling set, by cases: after the choice, with a tone, with none before the pause is over and after it.
-use mathlib.Core.Path.{_≡_, _∙_, refl, sym, ap}
+use mathlib.Core.Path.{_≡_, _∙_, sym, ap}
 use mathlib.Core.Bool.{Bool, true, false}
-use Prim.Native.Nat.{ℕ}
-use borrow.Author.Tests.{eq-eqb, ne-eqb, eqb-true, eqb-false}
-use lib.Dec.{eqb}
-use Rattle.calling.specs.declared.counting.Lasting.{Lasting}
+use Prim.Native.Nat.{ℕ, _+_, _≤_, _<_}
+use borrow.Author.Tests.{eq-eqb, ne-eqb, eqb-true, eqb-false, lt-ltb, le-ltb, leb-true}
+use lib.Dec.{eqb, leb}
 use Rattle.calling.specs.declared.Calling.{Calling}
 use Rattle.calling.specs.declared.Stepped.{Stepped}
 use Rattle.calling.specs.Timetable.{nothing, valueAt, placeAfter}
-use Rattle.calling.specs.Tones.{none}
-use Rattle.calling.specs.Counting.{lasting, oneMore, counted}
-use Rattle.calling.specs.Set.{calling, pauseOver, chosen, sentIn, stateAfter}
-use Rattle.calling.proofs.Choices.{by-test, either}
+use Rattle.calling.specs.Tones.{none, lengthOf}
+use Rattle.calling.specs.Counting.{counted}
+use Rattle.calling.specs.Set.{calling, pause, pauseOver, msAfter, reached, chosen, sentIn, stateAfter}
+use Rattle.calling.proofs.Choices.{by-test, first-true, second-true}
 
--- what was heard last is this ms
-pub counted-tone : (l : Lasting) (h : ℕ) → counted l h .tone ≡ h
+-- another tone starts its own count at 1; the same is counted on up to the most, and stays there
+pub counted-other : (t m h k : ℕ) → (h ≡ t → ⊥) → counted t m h k ≡ 1
 unfolding counted
-counted-tone l h = either (λ (k : Lasting). k .tone ≡ h) (eqb h (l .tone)) refl refl
+counted-other t m h k n = simp (ne-eqb _ _ n)
 
--- the same tone is counted on, and another starts its own count at 1
-pub counted-same : (l : Lasting) (h : ℕ) → h ≡ l .tone → counted l h ≡ lasting h (oneMore (l .ms))
+pub counted-more : (t m h k : ℕ) → h ≡ t → m < k → counted t m h k ≡ m + 1
 unfolding counted
-counted-same l h e = simp (eq-eqb _ _ e)
+counted-more t m h k e l = simp (eq-eqb _ _ e, lt-ltb _ _ l)
 
-pub counted-other : (l : Lasting) (h : ℕ) → (h ≡ l .tone → ⊥) → counted l h ≡ lasting h 1
+pub counted-most : (t m h k : ℕ) → h ≡ t → k ≤ m → counted t m h k ≡ m
 unfolding counted
-counted-other l h n = simp (ne-eqb _ _ n)
-
--- none is no choice
-pub none-chosen : (l : Lasting) → l .tone ≡ none → chosen l ≡ 0
-none-chosen l e = simp (eq-eqb _ _ e)
+counted-most t m h k e l = simp (eq-eqb _ _ e, le-ltb _ _ l)
 
 -- What a ms leaves and what it sends.
 pub record Does (s : Calling) (h : ℕ) (t : Calling) (v : ℕ) : Type 0 where
@@ -40,49 +34,59 @@ module _ (s : Calling) (h : ℕ) where
   -- the choice is made: nothing changes, and nothing is sent
   pub does-chosen : (s .choice ≡ 0 → ⊥) → Does s h s nothing
   unfolding stateAfter sentIn
-  does-chosen c = let e = ne-eqb _ _ c in record { leaves = simp e; says = simp e }
+  does-chosen c =
+      let e = ne-eqb _ _ c in
+      record { leaves = simp e; says = simp e }
 
   -- where none is made after a ms, none was made before it
   pub no-choice-before : stateAfter s h .choice ≡ 0 → s .choice ≡ 0
   no-choice-before c =
       by-test (eqb (s .choice) 0) (λ e. eqb-true _ _ e)
-      (λ e. let z = eqb-false _ _ e in absurd (z (sym (ap (λ (t : Calling). t .choice) (does-chosen z .leaves)) ∙ c)))
+      (λ e.
+      let z = eqb-false _ _ e in
+      absurd (z (sym (ap (λ (t : Calling). t .choice) (does-chosen z .leaves)) ∙ c)))
 
   module _ (c : s .choice ≡ 0) where
-    -- until the choice is made, what is heard is counted
-    pub heard-after : stateAfter s h .heard ≡ counted (s .heard) h
+    -- until the choice is made, what is heard is counted ..
+    pub tone-after : stateAfter s h .tone ≡ h
     unfolding stateAfter
-    heard-after = simp (eq-eqb _ _ c)
+    tone-after = simp (eq-eqb _ _ c)
 
-    -- and makes the choice or not
-    pub choice-after : stateAfter s h .choice ≡ chosen (counted (s .heard) h)
+    pub ms-after : stateAfter s h .ms ≡ msAfter s h
+    unfolding stateAfter
+    ms-after = simp (eq-eqb _ _ c)
+
+    -- .. and makes the choice or not
+    pub choice-after : stateAfter s h .choice ≡ chosen h (msAfter s h)
     unfolding stateAfter
     choice-after = simp (eq-eqb _ _ c)
 
     -- a tone: nothing is sent, and the timetable goes back to its first place
-    pub does-tone : (h ≡ none → ⊥) → Does s h (calling (counted (s .heard) h) 0 (chosen (counted (s .heard) h))) nothing
+    pub does-tone : (h ≡ none → ⊥)
+        → Does s h (calling h (counted (s .tone) (s .ms) h (lengthOf h)) 0 (reached h (counted (s .tone) (s .ms) h (lengthOf h)) (lengthOf h))) nothing
     unfolding stateAfter sentIn
-    does-tone t = let e = (eq-eqb _ _ c) in let f = ne-eqb _ _ t in record { leaves = simp (e, f); says = simp (e, f) }
+    does-tone t =
+        let e = eq-eqb _ _ c in
+        let f = ne-eqb _ _ t in
+        record { leaves = simp (e, f); says = simp (e, f) }
 
     module _ (n : h ≡ none) where
-      no-choice : chosen (counted (s .heard) h) ≡ 0
-      no-choice = none-chosen _ (counted-tone (s .heard) h ∙ n)
-
       -- none, and the pause is not over: nothing is sent
-      pub does-pause : pauseOver (s .heard) ≡ false → Does s h (calling (counted (s .heard) h) 0 0) nothing
+      pub does-pause : pauseOver (s .tone) (s .ms) ≡ false → Does s h (calling none (counted (s .tone) (s .ms) none pause) 0 0) nothing
       unfolding stateAfter sentIn
       does-pause p =
           let e = eq-eqb _ _ c in
-          let f = eq-eqb _ _ n in
-          record { leaves = simp (e, f, p, no-choice); says = simp (e, f, p) }
+          rw n (record { leaves = simp (e, p); says = simp (e, p) })
 
-      -- none after the pause: the timetable runs
-      pub does-timetable : pauseOver (s .heard) ≡ true → Does s h (calling (counted (s .heard) h) (placeAfter (s .place)) 0) (valueAt (s .place))
+      -- none after the pause: the timetable runs, and the count stays
+      pub does-timetable : pauseOver (s .tone) (s .ms) ≡ true → Does s h (calling (s .tone) (s .ms) (placeAfter (s .place)) 0) (valueAt (s .place))
       unfolding stateAfter sentIn
       does-timetable p =
           let e = eq-eqb _ _ c in
-          let f = eq-eqb _ _ n in
-          record { leaves = simp (e, f, p, no-choice); says = simp (e, f, p) }
+          let t : s .tone ≡ none = eqb-true _ _ (first-true (eqb (s .tone) none) (leb pause (s .ms)) p) in
+          let m : pause ≤ s .ms = leb-true _ _ (second-true (eqb (s .tone) none) (leb pause (s .ms)) p) in
+          let k = counted-most (s .tone) (s .ms) none pause (sym t) m in
+          rw n (record { leaves = simp (e, p, k) (λ i. calling (sym t i) (s .ms) (placeAfter (s .place)) 0); says = simp (e, p) })
 
 abbrev pub stepped : Calling → ℕ → Stepped
 stepped s v = record { state = s; sent = v }
@@ -90,16 +94,26 @@ stepped s v = record { state = s; sent = v }
 -- The same of what a step gives back, with what its callees gave it.
 module _ (s : Calling) (h : ℕ) where
   pub step-chosen : (s .choice ≡ 0 → ⊥) → stepped s nothing ≡ stepped (stateAfter s h) (sentIn s h)
-  step-chosen c = let d = does-chosen s h c in simp (d .leaves, d .says)
+  step-chosen c =
+      let d = does-chosen s h c in
+      simp (d .leaves, d .says)
 
-  module _ (c : s .choice ≡ 0) (l : Lasting) (e : l ≡ counted (s .heard) h) where
-    pub step-tone : (k : ℕ) → k ≡ chosen l → (h ≡ none → ⊥) → stepped (calling l 0 k) nothing ≡ stepped (stateAfter s h) (sentIn s h)
-    step-tone k f t = let d = does-tone s h c t in simp (f, e, d .leaves, d .says)
+  module _ (c : s .choice ≡ 0) where
+    pub step-tone : (l m k : ℕ) → (h ≡ none → ⊥) → l ≡ lengthOf h → m ≡ counted (s .tone) (s .ms) h l → k ≡ reached h m l
+        → stepped (calling h m 0 k) nothing ≡ stepped (stateAfter s h) (sentIn s h)
+    step-tone l m k t e f g =
+        let d = does-tone s h c t in
+        simp (g, f, e, d .leaves, d .says)
 
-    module _ (n : h ≡ none) (b : Bool) (f : b ≡ pauseOver (s .heard)) where
-      pub step-pause : b ≡ false → stepped (calling l 0 0) nothing ≡ stepped (stateAfter s h) (sentIn s h)
-      step-pause p = let d = does-pause s h c n (sym f ∙ p) in simp (e, d .leaves, d .says)
+    module _ (n : h ≡ none) (b : Bool) (f : b ≡ pauseOver (s .tone) (s .ms)) where
+      pub step-pause : (m : ℕ) → b ≡ false → m ≡ counted (s .tone) (s .ms) none pause
+          → stepped (calling none m 0 0) nothing ≡ stepped (stateAfter s h) (sentIn s h)
+      step-pause m p e =
+          let d = does-pause s h c n (sym f ∙ p) in
+          simp (e, d .leaves, d .says)
 
-      pub step-timetable : b ≡ true → (p v : ℕ) → p ≡ placeAfter (s .place) → v ≡ valueAt (s .place)
-          → stepped (calling l p 0) v ≡ stepped (stateAfter s h) (sentIn s h)
-      step-timetable q p v i j = let d = does-timetable s h c n (sym f ∙ q) in simp (i, j, e, d .leaves, d .says)
+      pub step-timetable : (p v : ℕ) → b ≡ true → p ≡ placeAfter (s .place) → v ≡ valueAt (s .place)
+          → stepped (calling (s .tone) (s .ms) p 0) v ≡ stepped (stateAfter s h) (sentIn s h)
+      step-timetable p v q i j =
+          let d = does-timetable s h c n (sym f ∙ q) in
+          simp (i, j, d .leaves, d .says)

@@ -6,17 +6,16 @@ use Prim.Native.Nat.{ℕ, zero, suc, _+_, _≤_, _<_}
 use native.Mathlib.Nat.{add-zero, zero-add, add-suc, suc-add}
 use native.Mathlib.Numerals.{add-one}
 use native.Mathlib.Omega.{arith}
-use borrow.Author.Tests.{eq-eqb, ne-eqb, lt-leb, le-leb, eqb-true, eqb-false, lt-ltb, ltb-true}
+use borrow.Author.Tests.{ne-eqb, lt-leb, le-leb, eqb-true, eqb-false, lt-ltb, ltb-true}
 use lib.Dec.{eqb, ltb}
 use lib.ListN.{length, replicate, length-replicate}
-use Rattle.calling.specs.declared.counting.Lasting.{Lasting}
 use Rattle.calling.specs.declared.Calling.{Calling}
 use Rattle.calling.specs.Timetable.{nothing}
 use Rattle.calling.specs.Tones.{none}
-use Rattle.calling.specs.Counting.{most, counted}
+use Rattle.calling.specs.Counting.{counted}
 use Rattle.calling.specs.Set.{pause, pauseOver, sentIn, stateAfter, after, sentOf}
 use Rattle.calling.proofs.Choices.{by-test, first-true, second-true}
-use Rattle.calling.proofs.OneMs.{counted-tone, no-choice-before, heard-after, does-chosen, does-tone, does-pause}
+use Rattle.calling.proofs.OneMs.{counted-more, counted-other, no-choice-before, tone-after, ms-after, does-chosen, does-tone, does-pause}
 use Rattle.calling.proofs.Cuts.{after-append, sent-append}
 use Rattle.calling.proofs.Periods.{periods, Runs, runs-sent-first}
 
@@ -25,8 +24,8 @@ unfolding after
 one-after s h = refl
 
 -- The ms of none in a row, by what was heard last.
-abbrev noneMs : Lasting → ℕ
-noneMs l = cond (eqb (l .tone) none) (l .ms) 0
+abbrev noneMs : Calling → ℕ
+noneMs s = cond (eqb (s .tone) none) (s .ms) 0
 
 -- The same after one ms more, from n.
 abbrev pub noneAfter : ℕ → ℕ → ℕ
@@ -37,52 +36,51 @@ unfoldable pub waits : ℕ → List ℕ → Bool
 waits n [] = true
 waits n (h ∷ hs) = ltb n pause && waits (noneAfter n h) hs
 
-tone-counted : (l : Lasting) (h : ℕ) → eqb h none ≡ false → noneMs (counted l h) ≡ 0
-tone-counted l h e = simp (counted-tone l h, e)
+-- the ms of none are counted on, until they are enough
+none-counted : (s : Calling) → noneMs s < pause → counted (s .tone) (s .ms) none pause ≡ noneMs s + 1
+none-counted s short =
+    by-test (eqb (s .tone) none)
+    (λ e. simp e (counted-more (s .tone) (s .ms) none pause (sym (eqb-true _ _ e)) (rw e at short)))
+    (λ e. simp e (counted-other (s .tone) (s .ms) none pause (λ q. eqb-false _ _ e (sym q))))
 
-none-counted : (l : Lasting) (h : ℕ) → noneMs l < pause → noneMs (counted l h) ≡ noneAfter (noneMs l) h
-unfolding counted
-none-counted l h short =
+none-after : (s : Calling) (h : ℕ) → stateAfter s h .choice ≡ 0 → noneMs s < pause → noneMs (stateAfter s h) ≡ noneAfter (noneMs s) h
+none-after s h c short =
+    let z = no-choice-before s h c in
     by-test (eqb h none)
     (λ e.
-    let z : h ≡ none = eqb-true _ _ e in
-    by-test (eqb (l .tone) none)
-    (λ f.
-    let t : h ≡ l .tone = z ∙ sym (eqb-true _ _ f) in
-    let m : l .ms < most = omega (arith, rw f at short) in
-    simp (f, e, eq-eqb h (l .tone) t, lt-ltb (l .ms) most m))
-    (λ f. simp (f, e, ne-eqb h (l .tone) (λ q. eqb-false (l .tone) none f (sym q ∙ z)))))
-    (λ e. tone-counted l h e ∙ simp e)
+    let n : h ≡ none = eqb-true _ _ e in
+    simp (tone-after s h z, ms-after s h z, e) (rw n (none-counted s short)))
+    (λ e. simp (tone-after s h z, e))
 
 -- the pause is not over
-not-over : (l : Lasting) → noneMs l < pause → pauseOver l ≡ false
-not-over l h =
-    by-test (eqb (l .tone) none)
-    (λ e. simp (e, lt-leb pause (l .ms) (rw e at h)))
+not-over : (s : Calling) → noneMs s < pause → pauseOver (s .tone) (s .ms) ≡ false
+not-over s h =
+    by-test (eqb (s .tone) none)
+    (λ e. simp (e, lt-leb pause (s .ms) (rw e at h)))
     (λ e. simp e)
 
-tone-none : (s : Calling) (h : ℕ) → (h ≡ none → ⊥) → stateAfter s h .choice ≡ 0 → noneMs (stateAfter s h .heard) ≡ 0
-tone-none s h t c = ap noneMs (heard-after s h (no-choice-before s h c)) ∙ tone-counted (s .heard) h (ne-eqb h none t)
+tone-none : (s : Calling) (h : ℕ) → (h ≡ none → ⊥) → stateAfter s h .choice ≡ 0 → noneMs (stateAfter s h) ≡ 0
+tone-none s h t c = simp (tone-after s h (no-choice-before s h c), ne-eqb h none t)
 
 -- before the pause is over a ms sends nothing, and the ms of none are counted on
-module _ (s : Calling) (h n : ℕ) (w : s .choice ≡ 0 → noneMs (s .heard) ≡ n) (short : n < pause) where
+module _ (s : Calling) (h n : ℕ) (w : s .choice ≡ 0 → noneMs s ≡ n) (short : n < pause) where
   waits-sent : sentIn s h ≡ nothing
   waits-sent =
       by-test (eqb (s .choice) 0)
       (λ c.
       let z : s .choice ≡ 0 = eqb-true _ _ c in
       by-test (eqb h none)
-      (λ e. does-pause s h z (eqb-true _ _ e) (not-over (s .heard) (rw (w z) short)) .says)
+      (λ e. does-pause s h z (eqb-true _ _ e) (not-over s (rw (w z) short)) .says)
       (λ e. does-tone s h z (eqb-false _ _ e) .says))
       (λ c. does-chosen s h (eqb-false _ _ c) .says)
 
-  waits-next : stateAfter s h .choice ≡ 0 → noneMs (stateAfter s h .heard) ≡ noneAfter n h
+  waits-next : stateAfter s h .choice ≡ 0 → noneMs (stateAfter s h) ≡ noneAfter n h
   waits-next c =
-      let z = no-choice-before s h c in
-      ap noneMs (heard-after s h z) ∙ none-counted (s .heard) h (rw (w z) short) ∙ ap (λ (m : ℕ). noneAfter m h) (w z)
+      let e = w (no-choice-before s h c) in
+      none-after s h c (rw e short) ∙ ap (λ (m : ℕ). noneAfter m h) e
 
 -- nothing is sent while fewer than 400 ms of none in a row have passed
-waiting : (hs : List ℕ) (s : Calling) (n : ℕ) → (s .choice ≡ 0 → noneMs (s .heard) ≡ n) → waits n hs ≡ true → sentOf s hs ≡ replicate (length hs) nothing
+waiting : (hs : List ℕ) (s : Calling) (n : ℕ) → (s .choice ≡ 0 → noneMs s ≡ n) → waits n hs ≡ true → sentOf s hs ≡ replicate (length hs) nothing
 unfolding waits sentOf
 waiting [] s n w e = refl
 waiting (h ∷ hs) s n w e =
@@ -104,14 +102,15 @@ tone-sent s h hs t e =
 -- A set in its pause: k ms of none in a row have passed, the timetable stands at its first place, and no choice is made.
 record Pausing (s : Calling) (k : ℕ) : Type 0 where
   no-choice : s .choice ≡ 0
-  none-is : noneMs (s .heard) ≡ k
+  none-is : noneMs s ≡ k
   place-is : s .place ≡ 0
 
 pausing-on : (s : Calling) (k : ℕ) → k < pause → Pausing s k → Pausing (stateAfter s none) (suc k)
 pausing-on s k h p =
-    let short : noneMs (s .heard) < pause = rw (p .none-is) h in
-    let d = does-pause s none (p .no-choice) refl (not-over (s .heard) short) in
-    rw (d .leaves) (record { no-choice = refl; none-is = none-counted (s .heard) none short ∙ ap (λ (m : ℕ). m + 1) (p .none-is) ∙ add-one k; place-is = refl })
+    let short : noneMs s < pause = rw (p .none-is) h in
+    let d = does-pause s none (p .no-choice) refl (not-over s short) in
+    let e : counted (s .tone) (s .ms) none pause ≡ suc k = none-counted s short ∙ ap (λ (m : ℕ). m + 1) (p .none-is) ∙ add-one k in
+    rw (d .leaves) (record { no-choice = refl; none-is = e; place-is = refl })
 
 pausing-all : (n k : ℕ) (s : Calling) → k + n ≤ pause → Pausing s k → Pausing (after s (replicate n none)) (k + n)
 unfolding after
@@ -123,10 +122,12 @@ pausing-all (suc n) k s h p =
 over-runs : (s : Calling) (k : ℕ) → k ≡ pause → Pausing s k → Runs s 0
 over-runs s k k-is p =
     let m = p .none-is ∙ k-is in
-    let ready : pauseOver (s .heard) ≡ true =
-    by-test (eqb (s .heard .tone) none)
-    (λ e. simp (e, le-leb pause (s .heard .ms) (omega (arith, rw e at m))))
-    (λ e. let z : _≡_ {A = ℕ} 0 pause = rw e at m in absurd (omega arith))
+    let ready : pauseOver (s .tone) (s .ms) ≡ true =
+    by-test (eqb (s .tone) none)
+    (λ e. simp (e, le-leb pause (s .ms) (omega (arith, rw e at m))))
+    (λ e.
+    let z : _≡_ {A = ℕ} 0 pause = rw e at m in
+    absurd (omega arith))
     in
     record { no-choice = p .no-choice; ready = ready; place-is = p .place-is }
 

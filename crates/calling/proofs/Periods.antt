@@ -1,20 +1,18 @@
 -- While nothing is heard, what is sent is the timetable.
-use mathlib.Core.Path.{_≡_, _∙_, refl, sym, ap}
+use mathlib.Core.Path.{_≡_, _∙_, refl, ap}
 use mathlib.Core.Bool.{true}
 use mathlib.Core.List.{List, _∷_}
 use Prim.Native.Nat.{ℕ, zero, suc, _+_, _%_, _≤_, _<_}
 use native.Mathlib.Omega.{arith}
-use borrow.Author.Tests.{eq-eqb, le-leb, leb-true, eqb-true, ltb-true, ltb-false}
-use lib.Dec.{eqb, leb, ltb}
+use borrow.Author.Tests.{ltb-true, ltb-false}
+use lib.Dec.{ltb}
 use lib.ListN.{replicate}
 use Rattle.lists.specs.Tables.{tabulate}
-use Rattle.calling.specs.declared.counting.Lasting.{Lasting}
 use Rattle.calling.specs.declared.Calling.{Calling}
 use Rattle.calling.specs.Timetable.{period, valueAt, placeAfter}
 use Rattle.calling.specs.Tones.{none}
-use Rattle.calling.specs.Counting.{most, counted}
-use Rattle.calling.specs.Set.{fresh, pause, pauseOver, sentIn, stateAfter, sentOf}
-use Rattle.calling.proofs.Choices.{either-by, first-true, second-true}
+use Rattle.calling.specs.Set.{fresh, pauseOver, sentIn, stateAfter, sentOf}
+use Rattle.calling.proofs.Choices.{either-by}
 use Rattle.calling.proofs.OneMs.{does-timetable}
 use Rattle.calling.proofs.Range.{period-is}
 use Rattle.calling.proofs.Cuts.{Call, heardBy, sentBy, calls-sent}
@@ -26,23 +24,14 @@ periods n = tabulate (λ k. valueAt (k % period)) n 0
 -- A set that runs the timetable and stands at a place of it.
 pub record Runs (s : Calling) (place : ℕ) : Type 0 where
   pub no-choice : s .choice ≡ 0
-  pub ready : pauseOver (s .heard) ≡ true
+  pub ready : pauseOver (s .tone) (s .ms) ≡ true
   pub place-is : s .place ≡ place
-
--- none keeps the pause over
-still-over : (l : Lasting) → pauseOver l ≡ true → pauseOver (counted l none) ≡ true
-unfolding counted
-still-over l e =
-    let t : l .tone ≡ none = eqb-true _ _ (first-true (eqb (l .tone) none) (leb pause (l .ms)) e) in
-    let m : pause ≤ l .ms = leb-true _ _ (second-true (eqb (l .tone) none) (leb pause (l .ms)) e) in
-    simp (eq-eqb none (l .tone) (sym t))
-    (either-by (λ (n : ℕ). leb pause n ≡ true) (ltb (l .ms) most) (λ f. le-leb pause (l .ms + 1) (omega arith)) (λ f. le-leb pause (l .ms) m))
 
 -- one ms of none
 runs-on : (s : Calling) (place : ℕ) → Runs s place → Runs (stateAfter s none) (placeAfter place)
 runs-on s place r =
     let d = does-timetable s none (r .no-choice) refl (r .ready) in
-    rw (d .leaves) (record { no-choice = refl; ready = still-over (s .heard) (r .ready); place-is = ap placeAfter (r .place-is) })
+    rw (d .leaves) (record { no-choice = refl; ready = r .ready; place-is = ap placeAfter (r .place-is) })
 
 runs-sends : (s : Calling) (place : ℕ) → Runs s place → sentIn s none ≡ valueAt place
 runs-sends s place r = does-timetable s none (r .no-choice) refl (r .ready) .says ∙ ap valueAt (r .place-is)

@@ -1,21 +1,19 @@
 -- Range is kept: a fresh state is in range, and so is the state after every run on one.
 use mathlib.Core.Path.{_≡_, refl}
-use mathlib.Core.Bool.{true, _&&_, _||_}
+use mathlib.Core.Bool.{true, _&&_}
 use mathlib.Core.List.{List, [], _∷_}
 use Prim.Native.Nat.{ℕ, _+_, _≤_, _<_}
 use native.Mathlib.Omega.{arith}
 use borrow.Author.Tests.{le-leb, lt-ltb, leb-true, ltb-true, eqb-true}
 use lib.Dec.{eqb, leb, ltb}
-use Rattle.calling.specs.declared.counting.Lasting.{Lasting}
 use Rattle.calling.specs.declared.Calling.{Calling}
 use Rattle.calling.specs.declared.Ran.{Ran}
 use Rattle.calling.specs.Timetable.{timetable, total, period, placeAfter}
-use Rattle.calling.specs.Tones.{none, lengthOf, allTones}
-use Rattle.calling.specs.Counting.{most, counted}
-use Rattle.calling.specs.Set.{fresh, inRange, chosen, sends, stateAfter, after}
+use Rattle.calling.specs.Tones.{none, lengths, lengthIn, lengthOf, allTones}
+use Rattle.calling.specs.Counting.{counted}
+use Rattle.calling.specs.Set.{fresh, inRange, enough, msAfter, chosen, sends, stateAfter, after}
 use Rattle.calling.specs.Entry.{answerTo, ranOf}
 use Rattle.calling.proofs.Choices.{either, either-by, first-true, second-true}
-use Rattle.calling.proofs.OneMs.{counted-tone}
 use Rattle.calling.proofs.Answers.{succeeds}
 
 -- the period is 11,200 ms
@@ -26,18 +24,18 @@ period-is = refl
 -- The bounds of a state in range.
 pub record Bounds (s : Calling) : Type 0 where
   pub choice-in : s .choice ≤ 11
-  pub tone-in : s .heard .tone ≤ 11
-  pub ms-low : 1 ≤ s .heard .ms
-  pub ms-in : s .heard .ms ≤ most
+  pub tone-in : s .tone ≤ 11
+  pub ms-low : 1 ≤ s .ms
+  pub ms-in : s .ms ≤ 1_700
   pub place-in : s .place < period
 
 pub bounds-of : (s : Calling) → inRange s ≡ true → Bounds s
 unfolding inRange
 bounds-of s e =
     let a = leb (s .choice) 11 in
-    let b = leb (s .heard .tone) 11 in
-    let c = leb 1 (s .heard .ms) in
-    let d = leb (s .heard .ms) most in
+    let b = leb (s .tone) 11 in
+    let c = leb 1 (s .ms) in
+    let d = leb (s .ms) 1_700 in
     let f = ltb (s .place) period in
     let e₁ = first-true (a && b && c && d) f e in
     let e₂ = first-true (a && b && c) d e₁ in
@@ -52,32 +50,57 @@ bounds-of s e =
 
 pub in-range-by : (s : Calling) → Bounds s → inRange s ≡ true
 unfolding inRange
-in-range-by s r = simp (le-leb _ _ (r .choice-in), le-leb _ _ (r .tone-in), le-leb 1 _ (r .ms-low), le-leb _ _ (r .ms-in), lt-ltb _ _ (r .place-in))
+in-range-by s r =
+    simp (
+      le-leb _ _ (r .choice-in),
+      le-leb _ _ (r .tone-in),
+      le-leb 1 _ (r .ms-low),
+      le-leb _ _ (r .ms-in),
+      lt-ltb _ _ (r .place-in),
+    )
 
-counted-ms : (l : Lasting) (h : ℕ) → 1 ≤ l .ms → l .ms ≤ most → (1 ≤ counted l h .ms) × (counted l h .ms ≤ most)
+-- no rule asks for more than 1,700 ms in a row
+enough-in : (h : ℕ) → enough h ≤ 1_700
+unfolding lengths lengthIn lengthOf
+enough-in h =
+    let P : ℕ → Type 0 = λ n. n ≤ 1_700 in
+    either P (eqb h none) (omega arith)
+    (either P (eqb h 3) (omega arith)
+    (either P (eqb h 4) (omega arith)
+    (either P (eqb h 5) (omega arith)
+    (either P (eqb h 6) (omega arith)
+    (either P (eqb h 7) (omega arith) (omega arith))))))
+
+counted-in : (t m h k : ℕ) → 1 ≤ m → m ≤ 1_700 → k ≤ 1_700 → (1 ≤ counted t m h k) × (counted t m h k ≤ 1_700)
 unfolding counted
-counted-ms l h low high =
-    either (λ (k : Lasting). (1 ≤ k .ms) × (k .ms ≤ most)) (eqb h (l .tone))
-    (either-by (λ (n : ℕ). (1 ≤ n) × (n ≤ most)) (ltb (l .ms) most) (λ e. let g : l .ms < most = ltb-true _ _ e in (omega arith, omega arith)) (λ e. (low, high)))
+counted-in t m h k low high cap =
+    let P : ℕ → Type 0 = λ n. (1 ≤ n) × (n ≤ 1_700) in
+    either P (eqb h t)
+    (either-by P (ltb m k)
+    (λ e.
+    let g : m < k = ltb-true _ _ e in
+    (omega arith, omega arith))
+    (λ e. (low, high)))
     (omega arith, omega arith)
 
 place-after-in : (k : ℕ) → placeAfter k < period
 unfolding placeAfter
 place-after-in k = either-by (λ (n : ℕ). n < period) (ltb (k + 1) period) (λ e. ltb-true _ _ e) (λ e. rw period-is (omega arith))
 
-chosen-in : (l : Lasting) → l .tone ≤ 11 → chosen l ≤ 11
-chosen-in l h = either (λ (n : ℕ). n ≤ 11) (eqb (l .tone) none || ltb (l .ms) (lengthOf (l .tone))) {x = 0} (omega arith) h
+chosen-in : (h m : ℕ) → h ≤ 11 → chosen h m ≤ 11
+chosen-in h m l =
+    either (λ (n : ℕ). n ≤ 11) (eqb h none) {x = 0} (omega arith)
+    (either (λ (n : ℕ). n ≤ 11) (ltb m (lengthOf h)) {x = 0} (omega arith) l)
 
 -- a ms keeps range
 pub ms-in-range : (s : Calling) (h : ℕ) → h ≤ 11 → Bounds s → Bounds (stateAfter s h)
 unfolding stateAfter
 ms-in-range s h t r =
-    let n = counted-ms (s .heard) h (r .ms-low) (r .ms-in) in
-    let k : counted (s .heard) h .tone ≤ 11 = rw counted-tone t in
+    let n = counted-in (s .tone) (s .ms) h (enough h) (r .ms-low) (r .ms-in) (enough-in h) in
     either Bounds (eqb (s .choice) 0)
     (record {
-      choice-in = chosen-in (counted (s .heard) h) k;
-      tone-in = k;
+      choice-in = chosen-in h (msAfter s h) t;
+      tone-in = t;
       ms-low = n .0;
       ms-in = n .1;
       place-in = either (λ (p : ℕ). p < period) (sends s h) (place-after-in (s .place)) (rw period-is (omega arith));

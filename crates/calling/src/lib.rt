@@ -1,10 +1,9 @@
 // The calling set: what it sends, and the tone that it chooses among those it hears.
-use counting::Lasting;
 ghost use mathlib.Core.Path.{_≡_};
 ghost use Prim.Native.Nat.{_≤_};
 ghost use lib.ListN.{length};
 ghost use lib.Seq.{sets};
-ghost use Rattle.calling.specs.Set.{fresh, inRange, pauseOver, chosen, sentIn, stateAfter, after, sentOf};
+ghost use Rattle.calling.specs.Set.{fresh, inRange, pauseOver, reached, sentIn, stateAfter, after, sentOf};
 ghost use Rattle.calling.specs.Entry.{ran, ranOf, sentAfter};
 
 pub mod counting;
@@ -17,11 +16,16 @@ pub const PAUSE: u16 = 400;
 // The most ms of one call.
 pub const LONGEST: usize = 4_096;
 
-// A calling set's state: what was heard last, the place in the timetable, and the choice, 0 until one is made.
+// The longest that a tone must last, in ms.
+pub const LONGEST_TONE: u16 = 1_700;
+
+// A calling set's state: the ms in a row of what was heard last, the place in the timetable, what was heard last, and the
+// choice, 0 until one is made.
 #[repr(C)]
 pub struct Calling {
-    pub heard: Lasting,
+    pub ms: u16,
     pub place: u16,
+    pub tone: u8,
     pub choice: u8,
 }
 
@@ -42,37 +46,32 @@ impl Calling {
         ensures { λ r. ⌜ r ≡ fresh ⌝ }
     {
         Calling {
-            heard: Lasting {
-                tone: tones::NONE,
-                ms: PAUSE,
-            },
+            ms: PAUSE,
             place: 0,
+            tone: tones::NONE,
             choice: 0,
         }
     }
 }
 
 // Has there been none for so long that the timetable runs?
-fn pause_over(heard: Lasting) -> bool
-    ensures { λ r. ⌜ r ≡ pauseOver heard ⌝ }
+fn pause_over(tone: u8, ms: u16) -> bool
+    ensures { λ r. ⌜ r ≡ pauseOver tone ms ⌝ }
 {
-    if heard.tone != tones::NONE {
+    if tone != tones::NONE {
         return false;
     }
-    PAUSE <= heard.ms
+    PAUSE <= ms
 }
 
-// The choice that a tone makes which has lasted so long: the tone, or 0.
-fn chosen(heard: Lasting) -> u8
-    ensures { λ r. ⌜ r ≡ chosen heard ⌝ }
+// The tone, if it has lasted its length, or 0.
+fn reached(tone: u8, ms: u16, length: u16) -> u8
+    ensures { λ r. ⌜ r ≡ reached tone ms length ⌝ }
 {
-    if heard.tone == tones::NONE {
+    if ms < length {
         return 0;
     }
-    if heard.ms < tones::length(heard.tone) {
-        return 0;
-    }
-    heard.tone
+    tone
 }
 
 // One ms.
@@ -85,22 +84,25 @@ pub fn step(s: Calling, heard: u8) -> Stepped
             sent: timetable::NOTHING,
         };
     }
-    let lasting = s.heard.counted(heard);
     if heard != tones::NONE {
+        let length = tones::length(heard);
+        let ms = counting::counted(s.tone, s.ms, heard, length);
         return Stepped {
             state: Calling {
-                heard: lasting,
+                ms,
                 place: 0,
-                choice: chosen(lasting),
+                tone: heard,
+                choice: reached(heard, ms, length),
             },
             sent: timetable::NOTHING,
         };
     }
-    if !pause_over(s.heard) {
+    if !pause_over(s.tone, s.ms) {
         return Stepped {
             state: Calling {
-                heard: lasting,
+                ms: counting::counted(s.tone, s.ms, tones::NONE, PAUSE),
                 place: 0,
+                tone: tones::NONE,
                 choice: 0,
             },
             sent: timetable::NOTHING,
@@ -108,8 +110,9 @@ pub fn step(s: Calling, heard: u8) -> Stepped
     }
     Stepped {
         state: Calling {
-            heard: lasting,
+            ms: s.ms,
             place: timetable::next(s.place),
+            tone: s.tone,
             choice: 0,
         },
         sent: timetable::value(s.place),
@@ -123,13 +126,13 @@ pub fn in_range(s: Calling) -> bool
     if tones::LAST < s.choice {
         return false;
     }
-    if tones::LAST < s.heard.tone {
+    if tones::LAST < s.tone {
         return false;
     }
-    if s.heard.ms < 1 {
+    if s.ms < 1 {
         return false;
     }
-    if counting::MOST < s.heard.ms {
+    if LONGEST_TONE < s.ms {
         return false;
     }
     s.place < timetable::PERIOD

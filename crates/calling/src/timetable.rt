@@ -15,25 +15,25 @@ pub const PERIOD: u16 = 11_200;
 pub fn value(place: u16) -> u8
     ensures { λ r. ⌜ r ≡ valueAt place ⌝ }
 {
-    if place < 1_000 {
-        return NOTHING;
-    }
-    if place < 1_400 {
-        return CI;
-    }
-    if place < 3_400 {
-        return NOTHING;
-    }
     if place < 3_800 {
-        return CI;
-    }
-    if place < 5_800 {
-        return NOTHING;
-    }
-    if place < 6_200 {
+        if place < 1_400 {
+            if place < 1_000 {
+                return NOTHING;
+            }
+            return CI;
+        }
+        if place < 3_400 {
+            return NOTHING;
+        }
         return CI;
     }
     if place < 8_200 {
+        if place < 5_800 {
+            return NOTHING;
+        }
+        if place < 6_200 {
+            return CI;
+        }
         return NOTHING;
     }
     if place < PERIOD {

@@ -1,7 +1,6 @@
 // Prints what a calling set sends and chooses: the timetable, each tone around its length, tones that are interrupted, the
 // pause after a tone, and the refusals. The expected output is what the reference prints.
 use calling::Calling;
-use calling::counting::Lasting;
 use libc::STDOUT_FILENO;
 ghost use mathlib.Core.Path.{_≡_};
 ghost use Prim.Native.Nat.{_≤_, _<_};
@@ -183,8 +182,9 @@ fn print_answer(answer: u8) {
 // Is a state taken?
 fn state(tone: u8, ms: u16, place: u16, choice: u8) {
     let s = Calling {
-        heard: Lasting { tone, ms },
+        ms,
         place,
+        tone,
         choice,
     };
     io::write_all(STDOUT_FILENO, b"state");
@@ -288,8 +288,9 @@ fn states() {
 fn calls() {
     let s = Calling::fresh();
     let bad = Calling {
-        heard: Lasting { tone: 0, ms: 400 },
+        ms: 400,
         place: 0,
+        tone: 0,
         choice: 12,
     };
     call(bad, 12, 4_097, 0);

@@ -8,35 +8,35 @@ use Rattle.calling.proofs.timetable.value.Tie as tie
 
 returns : tie.Need-returns
 unfolding timetable total valueAt
-returns c = sym (in-part 0 timetable _ _ _ refl (omega arith) (c .if1 .taken))
+returns c = sym (in-part 0 timetable _ _ _ refl (omega arith) (c .if3 .taken))
 
 returns-2 : tie.Need-returns-2
 unfolding timetable total valueAt
-returns-2 c = sym (in-part 1 timetable _ _ _ refl (c .before .if1 .left) (c .if2 .taken))
+returns-2 c = sym (in-part 1 timetable _ _ _ refl (c .if3 .left) (c .before .if2 .taken))
 
 returns-3 : tie.Need-returns-3
 unfolding timetable total valueAt
-returns-3 c = sym (in-part 2 timetable _ _ _ refl (c .before .if2 .left) (c .if3 .taken))
+returns-3 c = sym (in-part 2 timetable _ _ _ refl (c .before .if2 .left) (c .if4 .taken))
 
 returns-4 : tie.Need-returns-4
 unfolding timetable total valueAt
-returns-4 c = sym (in-part 3 timetable _ _ _ refl (c .before .if3 .left) (c .if4 .taken))
+returns-4 c = sym (in-part 3 timetable _ _ _ refl (c .if4 .left) (c .before .before .if1 .taken))
 
 returns-5 : tie.Need-returns-5
 unfolding timetable total valueAt
-returns-5 c = sym (in-part 4 timetable _ _ _ refl (c .before .if4 .left) (c .if5 .taken))
+returns-5 c = sym (in-part 4 timetable _ _ _ refl (c .before .before .if1 .left) (c .if6 .taken))
 
 returns-6 : tie.Need-returns-6
 unfolding timetable total valueAt
-returns-6 c = sym (in-part 5 timetable _ _ _ refl (c .before .if5 .left) (c .if6 .taken))
+returns-6 c = sym (in-part 5 timetable _ _ _ refl (c .before .if6 .left) (c .if7 .taken))
 
 returns-7 : tie.Need-returns-7
 unfolding timetable total valueAt
-returns-7 c = sym (in-part 6 timetable _ _ _ refl (c .before .if6 .left) (c .if7 .taken))
+returns-7 c = sym (in-part 6 timetable _ _ _ refl (c .if7 .left) (c .before .before .if5 .taken))
 
 returns-8 : tie.Need-returns-8
 unfolding timetable total valueAt
-returns-8 c = sym (in-part 7 timetable _ _ _ refl (c .before .if7 .left) (c .if8 .taken))
+returns-8 c = sym (in-part 7 timetable _ _ _ refl (c .before .if5 .left) (c .if8 .taken))
 
 returns-9 : tie.Need-returns-9
 unfolding timetable total valueIn valueAt
