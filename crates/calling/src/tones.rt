@@ -7,18 +7,18 @@ pub const NONE: u8 = 0;
 // The last of the tones.
 pub const LAST: u8 = 11;
 
+// The ms that a tone must last in a row, up to tone 7; the others must last 1.
+const LENGTHS: [u16; 8] = [1, 1, 1, 500, 500, 1_700, 700, 1_500];
+
 // The ms that a tone must last in a row to be the choice.
 pub fn length(tone: u8) -> u16
     ensures { λ r. ⌜ r ≡ lengthOf tone ⌝ }
 {
-    match tone {
-        3 => 500,
-        4 => 500,
-        5 => 1_700,
-        6 => 700,
-        7 => 1_500,
-        _ => 1,
+    if tone < 8 {
+        let at = tone as usize;
+        return LENGTHS[at];
     }
+    1
 }
 
 // Is every heard ms none or a tone?
