@@ -58,7 +58,7 @@ either-true : (a : Bool) → (a || true) && true ≡ true
 either-true true = refl
 either-true false = refl
 
--- A count of n ms that goes no further than k, or not much.
+-- A count of n ms that is exact below k, and reaches k when n does.
 record Bounded (ms n k : ℕ) : Type 0 where
   below : n < k → ms ≡ n
   above : k ≤ n → k ≤ ms

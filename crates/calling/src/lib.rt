@@ -4,7 +4,7 @@ ghost use Prim.Native.Nat.{_≤_};
 ghost use lib.ListN.{length};
 ghost use lib.Seq.{sets};
 ghost use Rattle.calling.specs.Set.{fresh, inRange, pauseOver, reached, sentIn, stateAfter, after, sentOf};
-ghost use Rattle.calling.specs.Entry.{ran, ranOf, sentAfter};
+ghost use Rattle.calling.specs.Entry.{ranOf, sentAfter};
 
 pub mod counting;
 pub mod timetable;
