@@ -22,7 +22,7 @@ use Rattle.alphabet.specs.TableB1.{b1}
 use Rattle.alphabet.specs.Baudot.{printedAt, readBaudot}
 use Rattle.alphabet.specs.Dtmf.{withMark, codeFrom, prefixes, keysOf, marksThenDigit, among, notStruck, remaining, names, firstSign, named, readIn, readDtmf}
 use Rattle.alphabet.specs.Normal.{sends}
-use Rattle.alphabet.specs.Packing.{base, packed, entryAt, sendTable, readTable, column, packedRead, unpacked, baudotAt, dtmfAt, keyAt}
+use Rattle.alphabet.specs.Packing.{base, packed, entryAt, sendTable, readTable, column, packedRead, baudotAt, dtmfAt, keyAt}
 use Rattle.alphabet.proofs.Rule.{leastShift, codes, ReadBack, entry-place, entry-below, rule-of}
 
 -- the entry of a character
@@ -93,43 +93,65 @@ module _ (t : List ℕ) (is : t ≡ sendTable) (a : Alphabet) (c b : ℕ) (h : c
   pub lookup-code : 256 ≤ getD t (b + c) 0 → Code (getD t (b + c) 0 / 256) (record { 0 = getD t (b + c) 0 % 256 }) ≡ sends a c
   lookup-code g = rw entry-is (sym (packed-code a c h (subst (λ (n : ℕ). 256 ≤ n) entry-is g)))
 
--- a reading that can be packed: its character is below 128, its shift below 127
-abbrev pub packable : Reads → Bool
-packable (Character c) = ltb (c .0) 128
-packable (Shift s) = ltb s 127
-packable NoRow = true
+-- what is read of a Baudot entry: a character below 128, or a shift
+abbrev charOrShift : Reads → Bool
+charOrShift (Character c) = ltb (c .0) 128
+charOrShift (Shift s) = true
+charOrShift NoRow = false
 
-pub unpack-packed : (r : Reads) → T (packable r) → unpacked (packedRead r) ≡ r
-unpack-packed (Character c) t = simp (lt-ltb (c .0) 128 (ltb→lt (c .0) 128 t))
-unpack-packed (Shift s) t =
-    let h = ltb→lt s 127 t in
-    let a : ltb (128 + s) 128 ≡ false = le-ltb (128 + s) 128 (omega arith) in
-    let b : eqb (128 + s) 255 ≡ false = ne-eqb (128 + s) 255 (λ (e : 128 + s ≡ 255). omega arith) in
-    let d : 128 + s - 128 ≡ s = omega arith in
-    simp (a, b, d)
-unpack-packed NoRow t = refl
+entry-char : (r : Reads) → T (charOrShift r) → packedRead r < 128 → Character (record { 0 = packedRead r }) ≡ r
+entry-char (Character c) t h = refl
+entry-char (Shift s) t h = absurd (omega arith)
+entry-char NoRow t h = absurd t
 
-baudot-test : T (passes (λ (i : ℕ). packable (readBaudot (1 + i / 32) (i % 32))) 64 0)
+entry-shift : (r : Reads) → T (charOrShift r) → 128 ≤ packedRead r → Shift (packedRead r - 128) ≡ r
+entry-shift (Character c) t h = let l = ltb→lt (c .0) 128 t in absurd (omega arith)
+entry-shift (Shift s) t h = let e : 128 + s - 128 ≡ s = omega arith in ap Shift e
+entry-shift NoRow t h = absurd t
+
+-- and of a DTMF entry: a character below 128, or none
+abbrev charOrNone : Reads → Bool
+charOrNone (Character c) = ltb (c .0) 128
+charOrNone (Shift s) = false
+charOrNone NoRow = true
+
+baudot-test : T (passes (λ (i : ℕ). charOrShift (readBaudot (1 + i / 32) (i % 32))) 64 0)
 unfolding passes bits bitsFrom leftRows rightRows a1 printedAt readBaudot
 baudot-test = tt
 
-dtmf-test : T (passes (λ (i : ℕ). packable (readDtmf i)) 256 0)
+dtmf-test : T (passes (λ (i : ℕ). charOrNone (readDtmf i)) 256 0)
 unfolding passes leftRows rightRows rows b1 keys withMark codeFrom marksThenDigit among notStruck remaining names firstSign named readIn readDtmf
 dtmf-test = tt
 
-pub dtmf-read : (i : ℕ) → i < 256 → unpacked (dtmfAt i) ≡ readDtmf i
-unfolding dtmfAt
-dtmf-read i h = unpack-packed (readDtmf i) (passes-at (λ (k : ℕ). packable (readDtmf k)) 256 dtmf-test i h)
+-- what the lookup of a DTMF code makes of an entry e
+module _ (i e : ℕ) (h : i < 256) (found : e ≡ dtmfAt i) where
+  found-is : e ≡ packedRead (readDtmf i)
+  unfolding dtmfAt
+  found-is = found
+
+  fine : T (charOrNone (readDtmf i))
+  fine = passes-at (λ (k : ℕ). charOrNone (readDtmf k)) 256 dtmf-test i h
+
+  pub dtmf-char : e < 128 → Character (record { 0 = e }) ≡ readDtmf i
+  dtmf-char g = rw found-is (go (readDtmf i) fine (subst (λ (n : ℕ). n < 128) found-is g))
+    where
+      go : (r : Reads) → T (charOrNone r) → packedRead r < 128 → Character (record { 0 = packedRead r }) ≡ r
+      go (Character c) t h = refl
+      go (Shift s) t h = absurd t
+      go NoRow t h = absurd (omega arith)
+
+  pub dtmf-none : 128 ≤ e → NoRow ≡ readDtmf i
+  dtmf-none g = go (readDtmf i) fine (subst (λ (n : ℕ). 128 ≤ n) found-is g)
+    where
+      go : (r : Reads) → T (charOrNone r) → 128 ≤ packedRead r → NoRow ≡ r
+      go (Character c) t h = let l = ltb→lt (c .0) 128 t in absurd (omega arith)
+      go (Shift s) t h = absurd t
+      go NoRow t h = refl
 
 -- a shift other than figures reads as letters
 pub reads-letters : (s k : ℕ) → (s ≡ 2 → ⊥) → readBaudot s k ≡ readBaudot 1 k
 unfolding readBaudot
 reads-letters s k n = simp (ne-eqb s 2 n)
-
-baudot-at : (i : ℕ) → i < 64 → unpacked (baudotAt i) ≡ readBaudot (1 + i / 32) (i % 32)
-unfolding baudotAt
-baudot-at i h =
-    unpack-packed (readBaudot (1 + i / 32) (i % 32)) (passes-at (λ (k : ℕ). packable (readBaudot (1 + k / 32) (k % 32))) 64 baudot-test i h)
 
 pub column-below : (s k : ℕ) → k < 32 → column s + k < 64
 column-below s k h = go (eqb s 2)
@@ -138,25 +160,41 @@ column-below s k h = go (eqb s 2)
     go true = omega arith
     go false = omega arith
 
-pub baudot-read : (s k : ℕ) → k < 32 → unpacked (baudotAt (column s + k)) ≡ readBaudot s k
-baudot-read s k h = go (eqb s 2) refl
+-- the reading of a code in a shift is that at its place in the shift's column
+place-read : (s k : ℕ) → k < 32 → readBaudot (1 + (column s + k) / 32) ((column s + k) % 32) ≡ readBaudot s k
+place-read s k h = go (eqb s 2) refl
   where
-    go : (b : Bool) → eqb s 2 ≡ b → unpacked (baudotAt (cond b 32 0 + k)) ≡ readBaudot s k
+    go : (b : Bool) → eqb s 2 ≡ b → readBaudot (1 + (cond b 32 0 + k) / 32) ((cond b 32 0 + k) % 32) ≡ readBaudot s k
     go true e =
         let d : 1 + (32 + k) / 32 ≡ 2 = omega arith in
         let m : (32 + k) % 32 ≡ k = omega arith in
-        baudot-at (32 + k) (omega arith) ∙ (simp (d, m, eqb-true s 2 e))
+        simp (d, m, eqb-true s 2 e)
     go false e =
         let d : 1 + (0 + k) / 32 ≡ 1 = omega arith in
         let m : (0 + k) % 32 ≡ k = omega arith in
-        baudot-at (0 + k) (omega arith) ∙ (simp (d, m)) ∙ sym (reads-letters s k (eqb-false s 2 e))
+        simp (d, m) (sym (reads-letters s k (eqb-false s 2 e)))
 
--- and by the table t
-pub table-read : (t : List ℕ) → t ≡ readTable → (s k n : ℕ) → k < 32 → n ≡ column s → unpacked (getD t (n + k) 0) ≡ readBaudot s k
-unfolding readTable
-table-read t is s k n h e =
-    ap (λ (l : List ℕ). unpacked (getD l (n + k) 0)) is ∙ ap (λ (m : ℕ). unpacked (getD readTable (m + k) 0)) e
-    ∙ ap unpacked (tabulate-at baudotAt 0 64 (column s + k) (column-below s k h)) ∙ baudot-read s k h
+-- what the lookup of a code makes of the entry at n + k of the table t
+module _ (t : List ℕ) (is : t ≡ readTable) (s k n : ℕ) (h : k < 32) (at-column : n ≡ column s) where
+  abbrev place : ℕ
+  place = column s + k
+
+  entry-read : getD t (n + k) 0 ≡ packedRead (readBaudot s k)
+  unfolding readTable baudotAt
+  entry-read =
+      ap (λ (l : List ℕ). getD l (n + k) 0) is ∙ ap (λ (m : ℕ). getD readTable (m + k) 0) at-column
+      ∙ tabulate-at baudotAt 0 64 place (column-below s k h) ∙ ap packedRead (place-read s k h)
+
+  fine-read : T (charOrShift (readBaudot s k))
+  fine-read =
+      subst (λ (r : Reads). T (charOrShift r)) (place-read s k h)
+      (passes-at (λ (i : ℕ). charOrShift (readBaudot (1 + i / 32) (i % 32))) 64 baudot-test place (column-below s k h))
+
+  pub baudot-char : getD t (n + k) 0 < 128 → Character (record { 0 = getD t (n + k) 0 }) ≡ readBaudot s k
+  baudot-char g = rw entry-read (entry-char (readBaudot s k) fine-read (subst (λ (m : ℕ). m < 128) entry-read g))
+
+  pub baudot-shift : 128 ≤ getD t (n + k) 0 → Shift (getD t (n + k) 0 - 128) ≡ readBaudot s k
+  baudot-shift g = rw entry-read (entry-shift (readBaudot s k) fine-read (subst (λ (m : ℕ). 128 ≤ m) entry-read g))
 
 unfoldable allMarks : List ℕ → Bool
 allMarks [] = true

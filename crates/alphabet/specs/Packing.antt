@@ -1,8 +1,8 @@
 -- How the tables of this crate hold their entries. Above the crate a table is only named, to be lent to a lookup.
-use Prim.Native.Nat.{ℕ, _+_, _*_, _-_, _/_, _%_}
+use Prim.Native.Nat.{ℕ, _+_, _*_, _/_, _%_}
 use mathlib.Core.Bool.{cond}
 use mathlib.Core.List.{List, [], _∷_, _++_}
-use lib.Dec.{eqb, ltb}
+use lib.Dec.{eqb}
 use lib.ListN.{getD}
 use Rattle.lists.specs.Tables.{tabulate}
 use Rattle.alphabet.specs.declared.Alphabet.{Alphabet}
@@ -46,9 +46,6 @@ abbrev pub packedRead : Reads → ℕ
 packedRead (Character c) = c .0
 packedRead (Shift s) = 128 + s
 packedRead NoRow = 255
-
-abbrev pub unpacked : ℕ → Reads
-unpacked e = cond (ltb e 128) (Character (record { 0 = e })) (cond (eqb e 255) NoRow (Shift (e - 128)))
 
 unfoldable pub baudotAt : ℕ → ℕ
 baudotAt i = packedRead (readBaudot (1 + i / 32) (i % 32))

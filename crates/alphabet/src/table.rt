@@ -9,7 +9,7 @@ ghost use Prim.Native.Nat.{_+_, _<_};
 ghost use Rattle.alphabet.specs.Baudot.{readBaudot};
 ghost use Rattle.alphabet.specs.Dtmf.{readDtmf};
 ghost use Rattle.alphabet.specs.Normal.{sends, reads, readBack};
-ghost use Rattle.alphabet.specs.Packing.{base, sendTable, readTable, column, dtmfAt, unpacked};
+ghost use Rattle.alphabet.specs.Packing.{base, sendTable, readTable, column, dtmfAt};
 
 // The 384 entries: 128 for each alphabet. 0 for a character that sends nothing, else 256 times its shift plus its code.
 const SEND: [u16; 384] = [
@@ -788,18 +788,6 @@ fn column(shift: u8) -> usize
     0
 }
 
-fn unpacked(entry: u8) -> Reads
-    ensures { λ r. ⌜ r ≡ unpacked entry ⌝ }
-{
-    if entry < 128 {
-        return Reads::Character(Char(entry));
-    }
-    if entry == 255 {
-        return Reads::NoRow;
-    }
-    Reads::Shift(entry - 128)
-}
-
 // What a five-bit code reads as in a shift, by the lent table.
 pub fn read_baudot_in(table: &[u8; 64], shift: u8, code: LineCode) -> Reads
     requires { ⌜ now table ≡ readTable ⌝ }
@@ -807,7 +795,11 @@ pub fn read_baudot_in(table: &[u8; 64], shift: u8, code: LineCode) -> Reads
     ensures { λ r. ⌜ r ≡ readBaudot shift (code .0) ⌝ }
 {
     let at = column(shift) + code.0 as usize;
-    unpacked(table[at])
+    let e = table[at];
+    if e < 128 {
+        return Reads::Character(Char(e));
+    }
+    Reads::Shift(e - 128)
 }
 
 // What a five-bit code reads as in a shift.
@@ -830,7 +822,11 @@ fn dtmf_entry(at: usize) -> u8
 pub fn read_dtmf(code: LineCode) -> Reads
     ensures { λ r. ⌜ r ≡ readDtmf (code .0) ⌝ }
 {
-    unpacked(dtmf_entry(code.0 as usize))
+    let e = dtmf_entry(code.0 as usize);
+    if e < 128 {
+        return Reads::Character(Char(e));
+    }
+    Reads::NoRow
 }
 
 // The normal form of a character: what is read from its code in its own shift; NoRow where it sends nothing.
