@@ -22,7 +22,7 @@ use Rattle.alphabet.specs.TableB1.{b1}
 use Rattle.alphabet.specs.Baudot.{printedAt, readBaudot}
 use Rattle.alphabet.specs.Dtmf.{withMark, codeFrom, prefixes, keysOf, marksThenDigit, among, notStruck, remaining, names, firstSign, named, readIn, readDtmf}
 use Rattle.alphabet.specs.Normal.{sends}
-use Rattle.alphabet.specs.Packing.{base, packed, entryAt, sendTable, readTable, column, packedRead, baudotAt, dtmfAt, keyAt}
+use Rattle.alphabet.specs.Packing.{base, packed, entryAt, sendTable, readTable, shiftOf, packedRead, charIn, baudotAt, dtmfAt, keyAt}
 use Rattle.alphabet.proofs.Rule.{leastShift, codes, ReadBack, entry-place, entry-below, rule-of}
 
 -- the entry of a character
@@ -93,31 +93,11 @@ module _ (t : List ℕ) (is : t ≡ sendTable) (a : Alphabet) (c b : ℕ) (h : c
   pub lookup-code : 256 ≤ getD t (b + c) 0 → Code (getD t (b + c) 0 / 256) (record { 0 = getD t (b + c) 0 % 256 }) ≡ sends a c
   lookup-code g = rw entry-is (sym (packed-code a c h (subst (λ (n : ℕ). 256 ≤ n) entry-is g)))
 
--- what is read of a Baudot entry: a character below 128, or a shift
-abbrev charOrShift : Reads → Bool
-charOrShift (Character c) = ltb (c .0) 128
-charOrShift (Shift s) = true
-charOrShift NoRow = false
-
-entry-char : (r : Reads) → T (charOrShift r) → packedRead r < 128 → Character (record { 0 = packedRead r }) ≡ r
-entry-char (Character c) t h = refl
-entry-char (Shift s) t h = absurd (omega arith)
-entry-char NoRow t h = absurd t
-
-entry-shift : (r : Reads) → T (charOrShift r) → 128 ≤ packedRead r → Shift (packedRead r - 128) ≡ r
-entry-shift (Character c) t h = let l = ltb→lt (c .0) 128 t in absurd (omega arith)
-entry-shift (Shift s) t h = let e : 128 + s - 128 ≡ s = omega arith in ap Shift e
-entry-shift NoRow t h = absurd t
-
--- and of a DTMF entry: a character below 128, or none
+-- what is read of a DTMF entry: a character below 128, or none
 abbrev charOrNone : Reads → Bool
 charOrNone (Character c) = ltb (c .0) 128
 charOrNone (Shift s) = false
 charOrNone NoRow = true
-
-baudot-test : T (passes (λ (i : ℕ). charOrShift (readBaudot (1 + i / 32) (i % 32))) 64 0)
-unfolding passes bits bitsFrom leftRows rightRows a1 printedAt readBaudot
-baudot-test = tt
 
 dtmf-test : T (passes (λ (i : ℕ). charOrNone (readDtmf i)) 256 0)
 unfolding passes leftRows rightRows rows b1 keys withMark codeFrom marksThenDigit among notStruck remaining names firstSign named readIn readDtmf
@@ -148,53 +128,49 @@ module _ (i e : ℕ) (h : i < 256) (found : e ≡ dtmfAt i) where
       go (Shift s) t h = absurd t
       go NoRow t h = refl
 
--- a shift other than figures reads as letters
-pub reads-letters : (s k : ℕ) → (s ≡ 2 → ⊥) → readBaudot s k ≡ readBaudot 1 k
+read-as-letters : (s k : ℕ) → eqb s 2 ≡ false → readBaudot 1 k ≡ readBaudot s k
 unfolding readBaudot
-reads-letters s k n = simp (ne-eqb s 2 n)
+read-as-letters s k e = simp e
 
-pub column-below : (s k : ℕ) → k < 32 → column s + k < 64
-column-below s k h = go (eqb s 2)
+-- a shift other than figures reads as letters
+pub reads-shift : (s k : ℕ) → readBaudot (shiftOf s) k ≡ readBaudot s k
+reads-shift s k = go (eqb s 2) refl
   where
-    go : (b : Bool) → cond b 32 0 + k < 64
-    go true = omega arith
-    go false = omega arith
+    go : (b : Bool) → eqb s 2 ≡ b → readBaudot (cond b 2 1) k ≡ readBaudot s k
+    go true e = simp (eqb-true s 2 e)
+    go false e = read-as-letters s k e
 
--- the reading of a code in a shift is that at its place in the shift's column
-place-read : (s k : ℕ) → k < 32 → readBaudot (1 + (column s + k) / 32) ((column s + k) % 32) ≡ readBaudot s k
-place-read s k h = go (eqb s 2) refl
+pub shift-range : (s : ℕ) → (1 ≤ shiftOf s) × (shiftOf s ≤ 2)
+shift-range s = go (eqb s 2)
   where
-    go : (b : Bool) → eqb s 2 ≡ b → readBaudot (1 + (cond b 32 0 + k) / 32) ((cond b 32 0 + k) % 32) ≡ readBaudot s k
-    go true e =
-        let d : 1 + (32 + k) / 32 ≡ 2 = omega arith in
-        let m : (32 + k) % 32 ≡ k = omega arith in
-        simp (d, m, eqb-true s 2 e)
-    go false e =
-        let d : 1 + (0 + k) / 32 ≡ 1 = omega arith in
-        let m : (0 + k) % 32 ≡ k = omega arith in
-        simp (d, m) (sym (reads-letters s k (eqb-false s 2 e)))
+    go : (b : Bool) → (1 ≤ cond b 2 1) × (cond b 2 1 ≤ 2)
+    go true = (omega arith, omega arith)
+    go false = (omega arith, omega arith)
 
--- what the lookup of a code makes of the entry at n + k of the table t
-module _ (t : List ℕ) (is : t ≡ readTable) (s k n : ℕ) (h : k < 32) (at-column : n ≡ column s) where
-  abbrev place : ℕ
-  place = column s + k
+-- the codes that select a shift
+pub reads-figures-code : (s k : ℕ) → k ≡ 0b11011 → Shift 2 ≡ readBaudot s k
+unfolding readBaudot
+reads-figures-code s k e = simp e
 
-  entry-read : getD t (n + k) 0 ≡ packedRead (readBaudot s k)
+pub reads-letters-code : (s k : ℕ) → k ≡ 0b11111 → Shift 1 ≡ readBaudot s k
+unfolding readBaudot
+reads-letters-code s k e = simp e
+
+-- any other reads as a character, which the table t has
+module _ (s k : ℕ) (l : k ≡ 0b11111 → ⊥) (f : k ≡ 0b11011 → ⊥) where
+  other-char : Character (record { 0 = charIn (readBaudot s k) }) ≡ readBaudot s k
+  unfolding readBaudot
+  other-char = simp (ne-eqb k 0b11111 l, ne-eqb k 0b11011 f)
+
+  pub table-char : (t : List ℕ) → t ≡ readTable → 1 ≤ s → s ≤ 2 → k < 32
+      → Character (record { 0 = getD t ((s - 1) * 32 + k) 0 }) ≡ readBaudot s k
   unfolding readTable baudotAt
-  entry-read =
-      ap (λ (l : List ℕ). getD l (n + k) 0) is ∙ ap (λ (m : ℕ). getD readTable (m + k) 0) at-column
-      ∙ tabulate-at baudotAt 0 64 place (column-below s k h) ∙ ap packedRead (place-read s k h)
-
-  fine-read : T (charOrShift (readBaudot s k))
-  fine-read =
-      subst (λ (r : Reads). T (charOrShift r)) (place-read s k h)
-      (passes-at (λ (i : ℕ). charOrShift (readBaudot (1 + i / 32) (i % 32))) 64 baudot-test place (column-below s k h))
-
-  pub baudot-char : getD t (n + k) 0 < 128 → Character (record { 0 = getD t (n + k) 0 }) ≡ readBaudot s k
-  baudot-char g = rw entry-read (entry-char (readBaudot s k) fine-read (subst (λ (m : ℕ). m < 128) entry-read g))
-
-  pub baudot-shift : 128 ≤ getD t (n + k) 0 → Shift (getD t (n + k) 0 - 128) ≡ readBaudot s k
-  baudot-shift g = rw entry-read (entry-shift (readBaudot s k) fine-read (subst (λ (m : ℕ). 128 ≤ m) entry-read g))
+  table-char t is lo hi h =
+      let d : 1 + ((s - 1) * 32 + k) / 32 ≡ s = omega arith in
+      let m : ((s - 1) * 32 + k) % 32 ≡ k = omega arith in
+      let e : getD t ((s - 1) * 32 + k) 0 ≡ charIn (readBaudot s k) =
+      ap (λ (x : List ℕ). getD x ((s - 1) * 32 + k) 0) is ∙ tabulate-at baudotAt 0 64 ((s - 1) * 32 + k) (omega arith) ∙ (simp (d, m)) in
+      ap (λ (n : ℕ). Character (record { 0 = n })) e ∙ other-char
 
 unfoldable allMarks : List ℕ → Bool
 allMarks [] = true
