@@ -107,7 +107,7 @@ module _ (codes text₀ : List ℕ) (s₀ : ℕ) where
     slice-end h = ap (sets text (t .at)) (sym (text-end codes (t .shift) i h)) ∙ r .slice
 
 -- a code is a shift code or reads as one character
-one-of : (s k : ℕ) → length (charsOf (readBaudot s k)) + shiftOne k ≡ 1
+pub one-of : (s k : ℕ) → length (charsOf (readBaudot s k)) + shiftOne k ≡ 1
 unfolding readBaudot
 one-of s k = go (eqb k 0b11111) refl (eqb k 0b11011) refl
   where
