@@ -7,3 +7,4 @@ pub mod RoundTrip
 pub mod Runs
 pub mod BothShifts
 pub mod Examples
+pub mod ListingRule
