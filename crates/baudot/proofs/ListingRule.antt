@@ -43,9 +43,9 @@ module _ (codes lines₀ lines : List ℕ) (i : ℕ) (l : Listed codes lines₀ 
       record {
         size = ap length e ∙ length-sets lines (6 * i) k ∙ l .size;
         slice =
-          ap (λ (x : List ℕ). sets x (6 * (i + 1)) (linesOf (drop (i + 1) codes))) e
-          ∙ ap (λ (m : ℕ). sets (sets lines (6 * i) k) m (linesOf (drop (i + 1) codes))) (sym n)
-          ∙ sym (sets-append lines (6 * i) k (linesOf (drop (i + 1) codes))) ∙ ap (sets lines (6 * i)) (sym d) ∙ l .slice;
+            ap (λ (x : List ℕ). sets x (6 * (i + 1)) (linesOf (drop (i + 1) codes))) e
+            ∙ ap (λ (m : ℕ). sets (sets lines (6 * i) k) m (linesOf (drop (i + 1) codes))) (sym n)
+            ∙ sym (sets-append lines (6 * i) k (linesOf (drop (i + 1) codes))) ∙ ap (sets lines (6 * i)) (sym d) ∙ l .slice;
       }
 
   pub listed-end : length codes ≤ i → lines ≡ sets lines₀ 0 (linesOf codes)
