@@ -5,6 +5,7 @@ pub mod Answers
 pub mod ReadingRule
 pub mod RoundTrip
 pub mod Runs
+pub mod Cuts
 pub mod BothShifts
 pub mod Examples
 pub mod ListingRule

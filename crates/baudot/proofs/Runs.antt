@@ -119,3 +119,8 @@ at-most-72 text t zero count h g pre mid post e n = stretch 0 pre mid post (subs
 at-most-72 text t (suc m) count h g pre mid post e n =
     stretch count pre mid post
     (subst (Bounded count) e (bounded-text text t (sender (suc m) count) (record { shift-low = omega arith; shift-in = h; count-in = g }))) n
+
+-- The characters that had gone before the call count among them: up to the first shift code there are no more than are left.
+pub at-most-72-left : (text : List ℕ) → allChars text ≡ true → (s : Sender) → Running s
+    → (mid post : List ℕ) → codesOf s text ≡ mid ++ post → shiftsIn mid ≡ 0 → s .count + length mid ≤ 72
+at-most-72-left text t s r mid post e n = run-length (s .count) mid post (subst (Bounded (s .count)) e (bounded-text text t s r)) n
