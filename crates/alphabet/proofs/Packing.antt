@@ -22,7 +22,7 @@ use Rattle.alphabet.specs.TableB1.{b1}
 use Rattle.alphabet.specs.Baudot.{printedAt, readBaudot}
 use Rattle.alphabet.specs.Dtmf.{withMark, codeFrom, prefixes, keysOf, marksThenDigit, among, notStruck, remaining, names, firstSign, named, readIn, readDtmf}
 use Rattle.alphabet.specs.Normal.{sends}
-use Rattle.alphabet.specs.Packing.{base, packed, entryAt, sendTable, readTable, column, packedRead, unpacked, baudotAt, dtmfAt, keyAt}
+use Rattle.alphabet.specs.Packing.{base, packed, entryAt, sendTable, readTable, shiftOf, packedRead, charIn, baudotAt, dtmfAt, keyAt}
 use Rattle.alphabet.proofs.Rule.{leastShift, codes, ReadBack, entry-place, entry-below, rule-of}
 
 -- the entry of a character
@@ -93,70 +93,84 @@ module _ (t : List ℕ) (is : t ≡ sendTable) (a : Alphabet) (c b : ℕ) (h : c
   pub lookup-code : 256 ≤ getD t (b + c) 0 → Code (getD t (b + c) 0 / 256) (record { 0 = getD t (b + c) 0 % 256 }) ≡ sends a c
   lookup-code g = rw entry-is (sym (packed-code a c h (subst (λ (n : ℕ). 256 ≤ n) entry-is g)))
 
--- a reading that can be packed: its character is below 128, its shift below 127
-abbrev pub packable : Reads → Bool
-packable (Character c) = ltb (c .0) 128
-packable (Shift s) = ltb s 127
-packable NoRow = true
+-- what is read of a DTMF entry: a character below 128, or none
+abbrev charOrNone : Reads → Bool
+charOrNone (Character c) = ltb (c .0) 128
+charOrNone (Shift s) = false
+charOrNone NoRow = true
 
-pub unpack-packed : (r : Reads) → T (packable r) → unpacked (packedRead r) ≡ r
-unpack-packed (Character c) t = simp (lt-ltb (c .0) 128 (ltb→lt (c .0) 128 t))
-unpack-packed (Shift s) t =
-    let h = ltb→lt s 127 t in
-    let a : ltb (128 + s) 128 ≡ false = le-ltb (128 + s) 128 (omega arith) in
-    let b : eqb (128 + s) 255 ≡ false = ne-eqb (128 + s) 255 (λ (e : 128 + s ≡ 255). omega arith) in
-    let d : 128 + s - 128 ≡ s = omega arith in
-    simp (a, b, d)
-unpack-packed NoRow t = refl
-
-baudot-test : T (passes (λ (i : ℕ). packable (readBaudot (1 + i / 32) (i % 32))) 64 0)
-unfolding passes bits bitsFrom leftRows rightRows a1 printedAt readBaudot
-baudot-test = tt
-
-dtmf-test : T (passes (λ (i : ℕ). packable (readDtmf i)) 256 0)
+dtmf-test : T (passes (λ (i : ℕ). charOrNone (readDtmf i)) 256 0)
 unfolding passes leftRows rightRows rows b1 keys withMark codeFrom marksThenDigit among notStruck remaining names firstSign named readIn readDtmf
 dtmf-test = tt
 
-pub dtmf-read : (i : ℕ) → i < 256 → unpacked (dtmfAt i) ≡ readDtmf i
-unfolding dtmfAt
-dtmf-read i h = unpack-packed (readDtmf i) (passes-at (λ (k : ℕ). packable (readDtmf k)) 256 dtmf-test i h)
+-- what the lookup of a DTMF code makes of an entry e
+module _ (i e : ℕ) (h : i < 256) (found : e ≡ dtmfAt i) where
+  found-is : e ≡ packedRead (readDtmf i)
+  unfolding dtmfAt
+  found-is = found
+
+  fine : T (charOrNone (readDtmf i))
+  fine = passes-at (λ (k : ℕ). charOrNone (readDtmf k)) 256 dtmf-test i h
+
+  pub dtmf-char : e < 128 → Character (record { 0 = e }) ≡ readDtmf i
+  dtmf-char g = rw found-is (go (readDtmf i) fine (subst (λ (n : ℕ). n < 128) found-is g))
+    where
+      go : (r : Reads) → T (charOrNone r) → packedRead r < 128 → Character (record { 0 = packedRead r }) ≡ r
+      go (Character c) t h = refl
+      go (Shift s) t h = absurd t
+      go NoRow t h = absurd (omega arith)
+
+  pub dtmf-none : 128 ≤ e → NoRow ≡ readDtmf i
+  dtmf-none g = go (readDtmf i) fine (subst (λ (n : ℕ). 128 ≤ n) found-is g)
+    where
+      go : (r : Reads) → T (charOrNone r) → 128 ≤ packedRead r → NoRow ≡ r
+      go (Character c) t h = let l = ltb→lt (c .0) 128 t in absurd (omega arith)
+      go (Shift s) t h = absurd t
+      go NoRow t h = refl
+
+read-as-letters : (s k : ℕ) → eqb s 2 ≡ false → readBaudot 1 k ≡ readBaudot s k
+unfolding readBaudot
+read-as-letters s k e = simp e
 
 -- a shift other than figures reads as letters
-pub reads-letters : (s k : ℕ) → (s ≡ 2 → ⊥) → readBaudot s k ≡ readBaudot 1 k
+pub reads-shift : (s k : ℕ) → readBaudot (shiftOf s) k ≡ readBaudot s k
+reads-shift s k = go (eqb s 2) refl
+  where
+    go : (b : Bool) → eqb s 2 ≡ b → readBaudot (cond b 2 1) k ≡ readBaudot s k
+    go true e = simp (eqb-true s 2 e)
+    go false e = read-as-letters s k e
+
+pub shift-range : (s : ℕ) → (1 ≤ shiftOf s) × (shiftOf s ≤ 2)
+shift-range s = go (eqb s 2)
+  where
+    go : (b : Bool) → (1 ≤ cond b 2 1) × (cond b 2 1 ≤ 2)
+    go true = (omega arith, omega arith)
+    go false = (omega arith, omega arith)
+
+-- the codes that select a shift
+pub reads-figures-code : (s k : ℕ) → k ≡ 0b11011 → Shift 2 ≡ readBaudot s k
 unfolding readBaudot
-reads-letters s k n = simp (ne-eqb s 2 n)
+reads-figures-code s k e = simp e
 
-baudot-at : (i : ℕ) → i < 64 → unpacked (baudotAt i) ≡ readBaudot (1 + i / 32) (i % 32)
-unfolding baudotAt
-baudot-at i h =
-    unpack-packed (readBaudot (1 + i / 32) (i % 32)) (passes-at (λ (k : ℕ). packable (readBaudot (1 + k / 32) (k % 32))) 64 baudot-test i h)
+pub reads-letters-code : (s k : ℕ) → k ≡ 0b11111 → Shift 1 ≡ readBaudot s k
+unfolding readBaudot
+reads-letters-code s k e = simp e
 
-pub column-below : (s k : ℕ) → k < 32 → column s + k < 64
-column-below s k h = go (eqb s 2)
-  where
-    go : (b : Bool) → cond b 32 0 + k < 64
-    go true = omega arith
-    go false = omega arith
+-- any other reads as a character, which the table t has
+module _ (s k : ℕ) (l : k ≡ 0b11111 → ⊥) (f : k ≡ 0b11011 → ⊥) where
+  other-char : Character (record { 0 = charIn (readBaudot s k) }) ≡ readBaudot s k
+  unfolding readBaudot
+  other-char = simp (ne-eqb k 0b11111 l, ne-eqb k 0b11011 f)
 
-pub baudot-read : (s k : ℕ) → k < 32 → unpacked (baudotAt (column s + k)) ≡ readBaudot s k
-baudot-read s k h = go (eqb s 2) refl
-  where
-    go : (b : Bool) → eqb s 2 ≡ b → unpacked (baudotAt (cond b 32 0 + k)) ≡ readBaudot s k
-    go true e =
-        let d : 1 + (32 + k) / 32 ≡ 2 = omega arith in
-        let m : (32 + k) % 32 ≡ k = omega arith in
-        baudot-at (32 + k) (omega arith) ∙ (simp (d, m, eqb-true s 2 e))
-    go false e =
-        let d : 1 + (0 + k) / 32 ≡ 1 = omega arith in
-        let m : (0 + k) % 32 ≡ k = omega arith in
-        baudot-at (0 + k) (omega arith) ∙ (simp (d, m)) ∙ sym (reads-letters s k (eqb-false s 2 e))
-
--- and by the table t
-pub table-read : (t : List ℕ) → t ≡ readTable → (s k n : ℕ) → k < 32 → n ≡ column s → unpacked (getD t (n + k) 0) ≡ readBaudot s k
-unfolding readTable
-table-read t is s k n h e =
-    ap (λ (l : List ℕ). unpacked (getD l (n + k) 0)) is ∙ ap (λ (m : ℕ). unpacked (getD readTable (m + k) 0)) e
-    ∙ ap unpacked (tabulate-at baudotAt 0 64 (column s + k) (column-below s k h)) ∙ baudot-read s k h
+  pub table-char : (t : List ℕ) → t ≡ readTable → 1 ≤ s → s ≤ 2 → k < 32
+      → Character (record { 0 = getD t ((s - 1) * 32 + k) 0 }) ≡ readBaudot s k
+  unfolding readTable baudotAt
+  table-char t is lo hi h =
+      let d : 1 + ((s - 1) * 32 + k) / 32 ≡ s = omega arith in
+      let m : ((s - 1) * 32 + k) % 32 ≡ k = omega arith in
+      let e : getD t ((s - 1) * 32 + k) 0 ≡ charIn (readBaudot s k) =
+      ap (λ (x : List ℕ). getD x ((s - 1) * 32 + k) 0) is ∙ tabulate-at baudotAt 0 64 ((s - 1) * 32 + k) (omega arith) ∙ (simp (d, m)) in
+      ap (λ (n : ℕ). Character (record { 0 = n })) e ∙ other-char
 
 unfoldable allMarks : List ℕ → Bool
 allMarks [] = true

@@ -1,8 +1,8 @@
 -- How the tables of this crate hold their entries. Above the crate a table is only named, to be lent to a lookup.
-use Prim.Native.Nat.{ℕ, _+_, _*_, _-_, _/_, _%_}
+use Prim.Native.Nat.{ℕ, _+_, _*_, _/_, _%_}
 use mathlib.Core.Bool.{cond}
 use mathlib.Core.List.{List, [], _∷_, _++_}
-use lib.Dec.{eqb, ltb}
+use lib.Dec.{eqb}
 use lib.ListN.{getD}
 use Rattle.lists.specs.Tables.{tabulate}
 use Rattle.alphabet.specs.declared.Alphabet.{Alphabet}
@@ -38,20 +38,22 @@ entryAt i = packed (sends (alphabetAt (i / 128)) (i % 128))
 unfoldable pub sendTable : List ℕ
 sendTable = tabulate entryAt 384 0
 
--- where the codes of a shift begin
-abbrev pub column : ℕ → ℕ
-column shift = cond (eqb shift 2) 32 0
+-- letters for any shift but figures
+abbrev pub shiftOf : ℕ → ℕ
+shiftOf shift = cond (eqb shift 2) 2 1
 
 abbrev pub packedRead : Reads → ℕ
 packedRead (Character c) = c .0
-packedRead (Shift s) = 128 + s
+packedRead (Shift s) = 255
 packedRead NoRow = 255
 
-abbrev pub unpacked : ℕ → Reads
-unpacked e = cond (ltb e 128) (Character (record { 0 = e })) (cond (eqb e 255) NoRow (Shift (e - 128)))
+abbrev pub charIn : Reads → ℕ
+charIn (Character c) = c .0
+charIn (Shift s) = 0
+charIn NoRow = 0
 
 unfoldable pub baudotAt : ℕ → ℕ
-baudotAt i = packedRead (readBaudot (1 + i / 32) (i % 32))
+baudotAt i = charIn (readBaudot (1 + i / 32) (i % 32))
 
 -- the whole table of reading Baudot
 unfoldable pub readTable : List ℕ

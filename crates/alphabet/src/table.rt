@@ -5,11 +5,12 @@ use crate::LineCode;
 use crate::Reads;
 use crate::Sends;
 ghost use mathlib.Core.Path.{_≡_};
-ghost use Prim.Native.Nat.{_+_, _<_};
+ghost use Prim.Native.Nat.{_≤_, _<_};
+ghost use Rattle.alphabet.specs.declared.Reads.the-variants.{Character};
 ghost use Rattle.alphabet.specs.Baudot.{readBaudot};
 ghost use Rattle.alphabet.specs.Dtmf.{readDtmf};
 ghost use Rattle.alphabet.specs.Normal.{sends, reads, readBack};
-ghost use Rattle.alphabet.specs.Packing.{base, sendTable, readTable, column, dtmfAt, unpacked};
+ghost use Rattle.alphabet.specs.Packing.{base, sendTable, readTable, shiftOf, dtmfAt};
 
 // The 384 entries: 128 for each alphabet. 0 for a character that sends nothing, else 256 times its shift plus its code.
 const SEND: [u16; 384] = [
@@ -399,7 +400,7 @@ const SEND: [u16; 384] = [
     0x37f,
 ];
 
-// Table A.1, letters and then figures: a character, or 128 plus the shift that is selected.
+// The characters of Table A.1, letters and then figures; 0 for a code that selects a shift.
 const READ_BAUDOT: [u8; 64] = [
     0x08,
     0x45,
@@ -428,11 +429,11 @@ const READ_BAUDOT: [u8; 64] = [
     0x4f,
     0x42,
     0x47,
-    0x82,
+    0x00,
     0x4d,
     0x58,
     0x56,
-    0x81,
+    0x00,
     0x08,
     0x33,
     0x0a,
@@ -460,11 +461,11 @@ const READ_BAUDOT: [u8; 64] = [
     0x39,
     0x3f,
     0x2b,
-    0x82,
+    0x00,
     0x2e,
     0x2f,
     0x3b,
-    0x81,
+    0x00,
 ];
 
 // The rows of Table B.1 that remain, by their code: a character, or 255 without a row.
@@ -778,36 +779,26 @@ pub fn lookup(a: Alphabet, c: Char) -> Sends
     lookup_in(&table, a, c)
 }
 
-// Where the codes of a shift begin: figures behind letters.
-fn column(shift: u8) -> usize
-    ensures { λ r. ⌜ r ≡ column shift ⌝ }
+// The character of a five-bit code that selects no shift, in letters (1) or figures (2), by the lent table.
+pub fn read_char(table: &[u8; 64], shift: u8, code: LineCode) -> Char
+    requires { ⌜ now table ≡ readTable ⌝ }
+    requires { ⌜ (1 ≤ shift) × (shift ≤ 2) ⌝ }
+    requires { ⌜ code .0 < 32 ⌝ }
+    requires { ⌜ (code .0 ≡ 0b11111 → ⊥) × (code .0 ≡ 0b11011 → ⊥) ⌝ }
+    ensures { λ r. ⌜ Character r ≡ readBaudot shift (code .0) ⌝ }
+{
+    let at = (shift as usize - 1) * 32 + code.0 as usize;
+    Char(table[at])
+}
+
+// Letters for any shift but figures.
+fn shift_of(shift: u8) -> u8
+    ensures { λ r. ⌜ r ≡ shiftOf shift ⌝ }
 {
     if shift == 2 {
-        return 32;
+        return 2;
     }
-    0
-}
-
-fn unpacked(entry: u8) -> Reads
-    ensures { λ r. ⌜ r ≡ unpacked entry ⌝ }
-{
-    if entry < 128 {
-        return Reads::Character(Char(entry));
-    }
-    if entry == 255 {
-        return Reads::NoRow;
-    }
-    Reads::Shift(entry - 128)
-}
-
-// What a five-bit code reads as in a shift, by the lent table.
-pub fn read_baudot_in(table: &[u8; 64], shift: u8, code: LineCode) -> Reads
-    requires { ⌜ now table ≡ readTable ⌝ }
-    requires { ⌜ code .0 < 32 ⌝ }
-    ensures { λ r. ⌜ r ≡ readBaudot shift (code .0) ⌝ }
-{
-    let at = column(shift) + code.0 as usize;
-    unpacked(table[at])
+    1
 }
 
 // What a five-bit code reads as in a shift.
@@ -815,8 +806,15 @@ pub fn read_baudot(shift: u8, code: LineCode) -> Reads
     requires { ⌜ code .0 < 32 ⌝ }
     ensures { λ r. ⌜ r ≡ readBaudot shift (code .0) ⌝ }
 {
+    if code.0 == 0b11111 {
+        return Reads::Shift(1);
+    }
+    if code.0 == 0b11011 {
+        return Reads::Shift(2);
+    }
     let table = read_table();
-    read_baudot_in(&table, shift, code)
+    let c = read_char(&table, shift_of(shift), code);
+    Reads::Character(c)
 }
 
 fn dtmf_entry(at: usize) -> u8
@@ -830,7 +828,11 @@ fn dtmf_entry(at: usize) -> u8
 pub fn read_dtmf(code: LineCode) -> Reads
     ensures { λ r. ⌜ r ≡ readDtmf (code .0) ⌝ }
 {
-    unpacked(dtmf_entry(code.0 as usize))
+    let e = dtmf_entry(code.0 as usize);
+    if e < 128 {
+        return Reads::Character(Char(e));
+    }
+    Reads::NoRow
 }
 
 // The normal form of a character: what is read from its code in its own shift; NoRow where it sends nothing.

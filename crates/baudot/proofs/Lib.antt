@@ -3,3 +3,9 @@ pub mod Left
 pub mod OpeningRule
 pub mod Answers
 pub mod ReadingRule
+pub mod RoundTrip
+pub mod Runs
+pub mod Cuts
+pub mod BothShifts
+pub mod Examples
+pub mod ListingRule

@@ -49,7 +49,7 @@ quiet-turn text n q h e =
 pub quiet-silent : (text : List ℕ) (n : ℕ) → Quiet text n → (n < length text → isCode (sends Baudot (getD text n 0)) ≡ true) → Silent text n
 quiet-silent text n q c = record { within = q .within; same-codes = q .same-codes; same-sender = q .same-sender; then-code = c }
 
-abbrev running-letters : Running (sender 1 0)
+abbrev pub running-letters : Running (sender 1 0)
 running-letters = record { shift-low = omega arith; shift-in = omega arith; count-in = omega arith }
 
 -- a fresh sender sends 11111, and goes on as a sender in letters
@@ -75,7 +75,7 @@ module _ (s : Sender) (fresh : s .shift ≡ 0) where
           let z = ne-eqb (wanted (sender 1 0) own) 0 (λ (e : wanted (sender 1 0) own ≡ 0). omega arith) in
           (simp (wants-letters own, z, a .then-none), simp (wants-letters own, z, a .then-none))
 
-  fresh-for : (c : ℕ) → c < 128 → isCode (sends Baudot c) ≡ true
+  pub fresh-for : (c : ℕ) → c < 128 → isCode (sends Baudot c) ≡ true
       → (codesFor s (sends Baudot c) ≡ 0b11111 ∷ codesFor (sender 1 0) (sends Baudot c)) × (senderFor s (sends Baudot c) ≡ senderFor (sender 1 0) (sends Baudot c))
   fresh-for c h b = go (sends Baudot c) refl b
     where

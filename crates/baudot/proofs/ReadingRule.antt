@@ -41,16 +41,30 @@ module _ (codes : List ℕ) (s i : ℕ) where
   unfolding shiftAfter
   shift-end h = rw (drop-of-length-le codes h)
 
+-- a shift of letters or figures
+abbrev pub InShift : ℕ → Type 0
+InShift s = (1 ≤ s) × (s ≤ 2)
+
+shift-kept : (s k : ℕ) → InShift s → InShift (shiftBy s (readBaudot s k))
+unfolding readBaudot
+shift-kept s k r = go (eqb k 0b11111) refl (eqb k 0b11011) refl
+  where
+    go : (a : Bool) → eqb k 0b11111 ≡ a → (b : Bool) → eqb k 0b11011 ≡ b → InShift (shiftBy s (readBaudot s k))
+    go true e b f = simp e (omega arith, omega arith)
+    go false e true f = simp (e, f) (omega arith, omega arith)
+    go false e false f = simp (e, f) r
+
 -- From the shift s₀ on a list of codes is read into the slice text₀; at the index i this is left.
 pub record Reading (codes text₀ : List ℕ) (s₀ : ℕ) (text : List ℕ) (t : Taken) (i : ℕ) : Type 0 where
+  pub in-shift : InShift (t .shift)
   pub size : length text ≡ length text₀
   pub place : t .at + length (textOf (t .shift) (drop i codes)) ≡ length (textOf s₀ codes)
   pub shift : shiftAfter (t .shift) (drop i codes) ≡ shiftAfter s₀ codes
   pub slice : sets text (t .at) (textOf (t .shift) (drop i codes)) ≡ sets text₀ 0 (textOf s₀ codes)
 
 module _ (codes text₀ : List ℕ) (s₀ : ℕ) where
-  pub reading-start : Reading codes text₀ s₀ text₀ (record { at = 0; shift = s₀ }) 0
-  reading-start = record { size = refl; place = omega arith; shift = refl; slice = refl }
+  pub reading-start : InShift s₀ → Reading codes text₀ s₀ text₀ (record { at = 0; shift = s₀ }) 0
+  reading-start h = record { in-shift = h; size = refl; place = omega arith; shift = refl; slice = refl }
 
   module _ (text : List ℕ) (t : Taken) (i : ℕ) (r : Reading codes text₀ s₀ text t i) where
     abbrev here : List ℕ
@@ -69,6 +83,7 @@ module _ (codes text₀ : List ℕ) (s₀ : ℕ) where
         let p = r .place in
         rw (e, f)
         (record {
+          in-shift = shift-kept (t .shift) (getD codes i 0) (r .in-shift);
           size = length-sets text (t .at) here ∙ r .size;
           place = omega arith;
           shift = sym (shift-left codes (t .shift) i h) ∙ r .shift;
@@ -92,7 +107,7 @@ module _ (codes text₀ : List ℕ) (s₀ : ℕ) where
     slice-end h = ap (sets text (t .at)) (sym (text-end codes (t .shift) i h)) ∙ r .slice
 
 -- a code is a shift code or reads as one character
-one-of : (s k : ℕ) → length (charsOf (readBaudot s k)) + shiftOne k ≡ 1
+pub one-of : (s k : ℕ) → length (charsOf (readBaudot s k)) + shiftOne k ≡ 1
 unfolding readBaudot
 one-of s k = go (eqb k 0b11111) refl (eqb k 0b11011) refl
   where

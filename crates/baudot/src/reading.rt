@@ -24,25 +24,27 @@ pub struct Taken {
 // A code, read at a place.
 fn put_code(table: &[u8; 64], text: &mut [u8], at: usize, shift: u8, code: LineCode) -> Taken
     requires { ⌜ now table ≡ readTable ⌝ }
+    requires { ⌜ (1 ≤ shift) × (shift ≤ 2) ⌝ }
     requires { ⌜ code .0 < 32 ⌝ }
     requires { ⌜ at + length (charsOf (readBaudot shift (code .0))) ≤ length (now text) ⌝ }
     ensures { λ r. ⌜ r ≡ record { at = at + length (charsOf (readBaudot shift (code .0))); shift = shiftBy shift (readBaudot shift (code .0)) } ⌝ }
     ensures { λ r. ⌜ now (text .exit) ≡ sets (now (text .entry)) at (charsOf (readBaudot shift (code .0))) ⌝ }
 {
-    let r = alphabet::table::read_baudot_in(table, shift, code);
-    match r {
-        Reads::Character(c) => {
-            text[at] = c.0;
-            Taken { at: at + 1, shift }
-        }
-        Reads::Shift(s) => Taken { at, shift: s },
-        Reads::NoRow => Taken { at, shift },
+    if code.0 == 0b11111 {
+        return Taken { at, shift: 1 };
     }
+    if code.0 == 0b11011 {
+        return Taken { at, shift: 2 };
+    }
+    let c = alphabet::table::read_char(table, shift, code);
+    text[at] = c.0;
+    Taken { at: at + 1, shift }
 }
 
 // A list of codes, read from the front.
 fn put_codes(table: &[u8; 64], codes: &[u8], shift: u8, text: &mut [u8]) -> Taken
     requires { ⌜ now table ≡ readTable ⌝ }
+    requires { ⌜ (1 ≤ shift) × (shift ≤ 2) ⌝ }
     requires { ⌜ allCodes (now codes) ≡ true ⌝ }
     requires { ⌜ length (textOf shift (now codes)) ≤ length (now text) ⌝ }
     ensures { λ r. ⌜ r ≡ record { at = length (textOf shift (now (codes .entry))); shift = shiftAfter shift (now (codes .entry)) } ⌝ }

@@ -3,27 +3,20 @@ use borrow.Author.Tests.{lt-ltb, le-ltb}
 use Rattle.alphabet.specs.Dtmf.{withMark}
 use Rattle.alphabet.proofs.dtmf.with_mark.Statement.{statement}
 use Rattle.alphabet.proofs.dtmf.with_mark.Tie as tie
-use Rattle.alphabet.proofs.dtmf.with_mark.Reads as reads
-use Rattle.alphabet.proofs.dtmf.with_mark.Lts as lts
 
--- src/dtmf.rt:82:16
 mul-result : tie.Need-mul-result
 mul-result c = search needs
 
--- src/dtmf.rt:82:30
 sub-result : tie.Need-sub-result
 sub-result c = search needs
 
--- src/dtmf.rt:82:16
 add-result : tie.Need-add-result
 add-result c = search needs
 
--- src/dtmf.rt:82:9
 returns : tie.Need-returns
 unfolding withMark
 returns c = simp (lt-ltb _ _ (c .if1 .taken))
 
--- src/dtmf.rt:77:1
 returns-2 : tie.Need-returns-2
 unfolding withMark
 returns-2 c = simp (le-ltb _ _ (c .if1 .left))

@@ -4,56 +4,44 @@ use Rattle.alphabet.proofs.Packing.{lookup-below, lookup-small, lookup-
 use borrow.Author.Needs.{needs}
 use Rattle.alphabet.proofs.table.lookup_in.Statement.{statement}
 use Rattle.alphabet.proofs.table.lookup_in.Tie as tie
-use Rattle.alphabet.proofs.table.lookup_in.Reads as reads
-use Rattle.alphabet.proofs.table.lookup_in.Lts as lts
-use Rattle.alphabet.proofs.table.base.Reads as base-reads
 
--- src/table.rt:761:14
 base-requires : tie.Need-base-requires
 base-requires c κs = search needs
 
--- src/table.rt:761:24
 cast-at : tie.Need-cast-at
 cast-at c = search needs
 
--- src/table.rt:761:14
 add-at : tie.Need-add-at
 add-at c =
     let s = c .before .before in
     let l = lookup-below (s .args .table .now) (s .pre .0) (s .args .a) (s .args .c .0) _ (s .pre .1) (c .before .base .ensures) in
     omega arith
 
--- src/table.rt:762:13
 mul-e : tie.Need-mul-e
 mul-e c =
     let s = c .before .before in
     let l = lookup-below (s .args .table .now) (s .pre .0) (s .args .a) (s .args .c .0) _ (s .pre .1) (c .before .base .ensures) in
     omega arith
 
--- src/table.rt:762:13
 element-copy-out-e : tie.Need-element-copy-out-e
 element-copy-out-e c =
     let s = c .before .before in
     lookup-below (s .args .table .now) (s .pre .0) (s .args .a) (s .args .c .0) _ (s .pre .1) (c .before .base .ensures)
 
--- src/table.rt:764:9
 returns : tie.Need-returns
 returns c =
     let s = c .before .before .before .before in
     lookup-nothing (s .args .table .now) (s .pre .0) (s .args .a) (s .args .c .0) _ (s .pre .1) (c .before .before .before .base .ensures) (c .if1 .taken)
 
--- src/table.rt:767:16
 cast-t12 : tie.Need-cast-t12
 cast-t12 c =
     let s = c .before .before .before .before in
     let l = lookup-small (s .args .table .now) (s .pre .0) (s .args .a) (s .args .c .0) _ (s .pre .1) (c .before .before .before .base .ensures) in
     omega arith
 
--- src/table.rt:768:24
 cast-t14 : tie.Need-cast-t14
 cast-t14 c = search needs
 
--- src/table.rt:756:1
 returns-2 : tie.Need-returns-2
 returns-2 c =
     let s = c .before .before .before .before in

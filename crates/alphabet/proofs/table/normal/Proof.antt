@@ -4,65 +4,48 @@ use Rattle.alphabet.proofs.Normal.{nothing-read, code-read, baudot-code
 use borrow.Author.Needs.{needs}
 use Rattle.alphabet.proofs.table.normal.Statement.{statement}
 use Rattle.alphabet.proofs.table.normal.Tie as tie
-use Rattle.alphabet.proofs.table.normal.Reads as reading
-use Rattle.alphabet.proofs.table.normal.Lts as lts
-use Rattle.alphabet.proofs.table.lookup.Reads as lookup-reads
-use Rattle.alphabet.proofs.table.read_baudot.Reads as read-baudot-reads
-use Rattle.alphabet.proofs.table.read_dtmf.Reads as read-dtmf-reads
 
--- src/table.rt:820:9
 lookup-requires : tie.Need-lookup-requires
 lookup-requires c κs = search needs
 
--- src/table.rt:821:23
 enum-known-s : tie.Need-enum-known-s
 enum-known-s c = search needs
 
--- src/table.rt:822:9
 enum-told : tie.Need-enum-told
 enum-told c = search needs
 
--- src/table.rt:822:9
 returns : tie.Need-returns
 returns c = nothing-read _ _ _ (c .before .before .lookup .ensures) (c .enum-told .given .1)
 
--- src/table.rt:825:29
 enum-told-2 : tie.Need-enum-told-2
 enum-told-2 c = search needs
 
--- src/table.rt:825:29
 read-baudot-requires : tie.Need-read-baudot-requires
 read-baudot-requires c κs =
     let k = c .before .before .before in
     baudot-code-in _ _ _ _ _ (search needs) (k .before .before .lookup .ensures) (k .s .given .1) (c .enum-told2 .given .1)
 
--- src/table.rt:826:27
 enum-told-3 : tie.Need-enum-told-3
 enum-told-3 c = search needs
 
--- src/table.rt:826:27
 read-dtmf-requires : tie.Need-read-dtmf-requires
 read-dtmf-requires c κs = search needs
 
--- src/table.rt:827:43
 enum-told-4 : tie.Need-enum-told-4
 enum-told-4 c = search needs
 
--- src/table.rt:816:1
 returns-2 : tie.Need-returns-2
 unfolding reads
 returns-2 c =
     let k = c .before .before .before .before in
     code-read _ _ _ _ _ _ _ (k .before .before .lookup .ensures) (k .s .given .1) (c .before .enum-told2 .given .1) (c .read-baudot .ensures)
 
--- src/table.rt:816:1
 returns-3 : tie.Need-returns-3
 unfolding reads
 returns-3 c =
     let k = c .before .before .before .before in
     code-read _ _ _ _ _ _ _ (k .before .before .lookup .ensures) (k .s .given .1) (c .before .enum-told3 .given .1) (c .read-dtmf .ensures)
 
--- src/table.rt:816:1
 returns-4 : tie.Need-returns-4
 unfolding reads
 returns-4 c =

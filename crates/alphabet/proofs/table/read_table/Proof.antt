@@ -7,10 +7,7 @@ use Rattle.lists.specs.Tables.{tabulate}
 use Rattle.alphabet.specs.Packing.{baudotAt, readTable}
 use Rattle.alphabet.proofs.table.read_table.Statement.{statement}
 use Rattle.alphabet.proofs.table.read_table.Tie as tie
-use Rattle.alphabet.proofs.table.read_table.Reads as reads
-use Rattle.alphabet.proofs.table.read_table.Lts as lts
 
--- src/table.rt:738:1
 returns : tie.Need-returns
 unfolding tabulate readTable baudotAt bits bitsFrom leftRows rightRows a1 printedAt readBaudot
 returns c = refl

@@ -11,10 +11,7 @@ use Rattle.lists.specs.Tables.{tabulate}
 use Rattle.alphabet.specs.Packing.{entryAt, sendTable}
 use Rattle.alphabet.proofs.table.send_table.Statement.{statement}
 use Rattle.alphabet.proofs.table.send_table.Tie as tie
-use Rattle.alphabet.proofs.table.send_table.Reads as reads
-use Rattle.alphabet.proofs.table.send_table.Lts as lts
 
--- src/table.rt:731:1
 returns : tie.Need-returns
 unfolding tabulate sendTable entryAt sends bits bitsFrom leftRows rightRows rows a2 b1 b2 printedAt sendBaudot keys withMark codeFrom marksThenDigit among notStruck remaining names firstSign named sendIn hasRow sendFrom sendDtmf
 returns c = refl

@@ -12,8 +12,6 @@ use Rattle.lists.specs.Lists.{allAtMost}
 use Rattle.lists.proofs.Lists.{at-most-left, at-most-end}
 use Rattle.baudot.proofs.checks.all_at_most.Statement.{statement}
 use Rattle.baudot.proofs.checks.all_at_most.Tie as tie
-use Rattle.baudot.proofs.checks.all_at_most.Reads as reads
-use Rattle.baudot.proofs.checks.all_at_most.Lts as lts
 
 turn-bad : (m : ℕ) (xs : List ℕ) (i : ℕ) (ok : Bool) → i < length xs → m < getD xs i 0
     → (false && allAtMost m (drop (i + 1) xs)) ≡ (ok && allAtMost m (drop i xs))
@@ -29,23 +27,18 @@ Inv-loop xs m ok₀ i₀ ok i = (ok && allAtMost m (drop i xs)) ≡ allAtMost m 
 abbrev μ-loop : tie.MeasureT-loop
 μ-loop xs m ok₀ i₀ ok i = length xs - i
 
--- src/checks.rt:11:5
 loop-holds : tie.Need-loop-holds Inv-loop μ-loop
 loop-holds c = refl
 
--- src/checks.rt:12:16
 shared-slice-read-if1 : tie.Need-shared-slice-read-if1 Inv-loop μ-loop
 shared-slice-read-if1 c = search needs
 
--- src/checks.rt:15:9
 add-i : tie.Need-add-i Inv-loop μ-loop
 add-i c = search needs
 
--- src/checks.rt:11:5
 loop-less : tie.Need-loop-less Inv-loop μ-loop
 loop-less c = search needs
 
--- src/checks.rt:11:5
 loop-again : tie.Need-loop-again Inv-loop μ-loop
 loop-again c =
     let l = c .before .before .before in
@@ -54,7 +47,6 @@ loop-again c =
     ⊎-elim (λ w. rw (w .1) (turn-bad (a .m) (a .xs .now) (l .loop .i) (l .loop .ok) t (w .0 .taken) ∙ l .loop .inv))
     (λ w. rw (w .1) (turn-good (a .m) (a .xs .now) (l .loop .i) (l .loop .ok) t (w .0 .left) ∙ l .loop .inv)) (c .if1 .came)
 
--- src/checks.rt:6:1
 returns : tie.Need-returns Inv-loop μ-loop
 returns c = sym (sym (c .before .loop .inv) ∙ ap (λ (b : Bool). c .before .loop .ok && b) (at-most-end _ _ _ (c .loop-test .left)) ∙ and-true (c .before .loop .ok))
 

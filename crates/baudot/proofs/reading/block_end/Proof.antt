@@ -3,22 +3,16 @@ use borrow.Author.Tests.{le-leb, lt-leb}
 use borrow.Author.Needs.{needs}
 use Rattle.baudot.proofs.reading.block_end.Statement.{statement}
 use Rattle.baudot.proofs.reading.block_end.Tie as tie
-use Rattle.baudot.proofs.reading.block_end.Reads as reads
-use Rattle.baudot.proofs.reading.block_end.Lts as lts
 
--- src/reading.rt:89:8
 sub-if1 : tie.Need-sub-if1
 sub-if1 c = search needs
 
--- src/reading.rt:90:9
 returns : tie.Need-returns
 returns c = simp (le-leb _ _ (c .if1 .taken))
 
--- src/reading.rt:92:5
 add-result : tie.Need-add-result
 add-result c = search needs
 
--- src/reading.rt:85:1
 returns-2 : tie.Need-returns-2
 returns-2 c = simp (lt-leb _ _ (c .if1 .left))
 

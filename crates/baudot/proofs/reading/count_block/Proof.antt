@@ -8,9 +8,6 @@ use Rattle.baudot.specs.Counting.{shiftsIn}
 use Rattle.baudot.proofs.ReadingRule.{shifts-left, shifts-end, shifts-most}
 use Rattle.baudot.proofs.reading.count_block.Statement.{statement}
 use Rattle.baudot.proofs.reading.count_block.Tie as tie
-use Rattle.baudot.proofs.reading.count_block.Reads as reads
-use Rattle.baudot.proofs.reading.count_block.Lts as lts
-use Rattle.baudot.proofs.reading.shift_one.Reads as shift-one-reads
 
 abbrev Inv-loop : tie.InvT-loop
 Inv-loop codes n₀ i₀ n i = n + shiftsIn (drop i codes) ≡ shiftsIn codes
@@ -18,19 +15,15 @@ Inv-loop codes n₀ i₀ n i = n + shiftsIn (drop i codes) ≡ shiftsIn codes
 abbrev μ-loop : tie.MeasureT-loop
 μ-loop codes n₀ i₀ n i = length codes - i
 
--- src/reading.rt:77:5
 loop-holds : tie.Need-loop-holds Inv-loop μ-loop
 loop-holds c = omega arith
 
--- src/reading.rt:78:24
 shared-slice-read-shift-one : tie.Need-shared-slice-read-shift-one Inv-loop μ-loop
 shared-slice-read-shift-one c = search needs
 
--- src/reading.rt:78:14
 shift-one-requires : tie.Need-shift-one-requires Inv-loop μ-loop
 shift-one-requires c κs = search needs
 
--- src/reading.rt:78:9
 add-n : tie.Need-add-n Inv-loop μ-loop
 add-n c =
     let l = c .before .before .before in
@@ -38,15 +31,12 @@ add-n c =
     let e = shifts-left (s .args .codes .now) (l .loop .i) (c .before .before .loop-test .taken) in
     omega (arith, e, c .shift-one .ensures, l .loop .inv, shifts-most (s .args .codes .now), s .pre)
 
--- src/reading.rt:79:9
 add-i : tie.Need-add-i Inv-loop μ-loop
 add-i c = search needs
 
--- src/reading.rt:77:5
 loop-less : tie.Need-loop-less Inv-loop μ-loop
 loop-less c = search needs
 
--- src/reading.rt:77:5
 loop-again : tie.Need-loop-again Inv-loop μ-loop
 loop-again c =
     let l = c .before .before .before in
@@ -54,7 +44,6 @@ loop-again c =
     let e = shifts-left (s .args .codes .now) (l .loop .i) (c .before .before .loop-test .taken) in
     omega (arith, e, c .shift-one .ensures, l .loop .inv, shifts-most (s .args .codes .now), s .pre)
 
--- src/reading.rt:71:1
 returns : tie.Need-returns Inv-loop μ-loop
 returns c = let e = shifts-end (c .before .before .before .args .codes .now) (c .before .loop .i) (c .loop-test .left) in omega (arith, e, c .before .loop .inv)
 

@@ -8,10 +8,6 @@ use Rattle.baudot.specs.Counting.{shiftsIn}
 use Rattle.baudot.proofs.ReadingRule.{block-of, shifts-block, shifts-end, shifts-most}
 use Rattle.baudot.proofs.reading.count_shifts.Statement.{statement}
 use Rattle.baudot.proofs.reading.count_shifts.Tie as tie
-use Rattle.baudot.proofs.reading.count_shifts.Reads as reads
-use Rattle.baudot.proofs.reading.count_shifts.Lts as lts
-use Rattle.baudot.proofs.reading.block_end.Reads as block-end-reads
-use Rattle.baudot.proofs.reading.count_block.Reads as count-block-reads
 
 abbrev Inv-loop : tie.InvT-loop
 Inv-loop codes n₀ i₀ n i = (i ≤ length codes) × (n + shiftsIn (drop i codes) ≡ shiftsIn codes)
@@ -19,15 +15,12 @@ Inv-loop codes n₀ i₀ n i = (i ≤ length codes) × (n + shiftsIn (drop i cod
 abbrev μ-loop : tie.MeasureT-loop
 μ-loop codes n₀ i₀ n i = length codes - i
 
--- src/reading.rt:101:5
 loop-holds : tie.Need-loop-holds Inv-loop μ-loop
 loop-holds c = (omega arith, omega arith)
 
--- src/reading.rt:102:13
 block-end-requires : tie.Need-block-end-requires Inv-loop μ-loop
 block-end-requires c κs = search needs
 
--- src/reading.rt:103:26
 sub-count-block : tie.Need-sub-count-block Inv-loop μ-loop
 sub-count-block c =
     let s = c .before .before .before .before in
@@ -35,7 +28,6 @@ sub-count-block c =
     let b = block-of (l .loop .i) (length (s .args .codes .now)) _ (c .before .loop-test .taken) (c .block-end .ensures) in
     omega (arith, b .after, b .within)
 
--- src/reading.rt:103:26
 part-count-block-start : tie.Need-part-count-block-start Inv-loop μ-loop
 part-count-block-start c =
     let s = c .before .before .before .before in
@@ -43,7 +35,6 @@ part-count-block-start c =
     let b = block-of (l .loop .i) (length (s .args .codes .now)) _ (c .before .loop-test .taken) (c .block-end .ensures) in
     omega (arith, b .after, b .within)
 
--- src/reading.rt:103:26
 part-count-block-end : tie.Need-part-count-block-end Inv-loop μ-loop
 part-count-block-end c =
     let s = c .before .before .before .before in
@@ -51,7 +42,6 @@ part-count-block-end c =
     let b = block-of (l .loop .i) (length (s .args .codes .now)) _ (c .before .loop-test .taken) (c .block-end .ensures) in
     omega (arith, b .after, b .within)
 
--- src/reading.rt:103:14
 count-block-requires : tie.Need-count-block-requires Inv-loop μ-loop
 count-block-requires c κs =
     let s = c .before .before .before .before .before in
@@ -59,11 +49,9 @@ count-block-requires c κs =
     let b = block-of (l .loop .i) (length (s .args .codes .now)) _ (c .before .before .loop-test .taken) (c .before .block-end .ensures) in
     rw length-take (omega (arith, b .short))
 
--- src/reading.rt:103:14
 cast-n : tie.Need-cast-n Inv-loop μ-loop
 cast-n c = search needs
 
--- src/reading.rt:103:9
 add-n : tie.Need-add-n Inv-loop μ-loop
 add-n c =
     let s = c .before .before .before .before .before .before in
@@ -73,7 +61,6 @@ add-n c =
     let m = shifts-most (s .args .codes .now) in
     omega (arith, e, c .count-block .ensures, l .loop .inv .1, m)
 
--- src/reading.rt:101:5
 loop-less : tie.Need-loop-less Inv-loop μ-loop
 loop-less c =
     let s = c .before .before .before .before .before .before in
@@ -81,7 +68,6 @@ loop-less c =
     let b = block-of (l .loop .i) (length (s .args .codes .now)) _ (c .before .before .before .loop-test .taken) (c .before .before .block-end .ensures) in
     omega (arith, b .after, b .within)
 
--- src/reading.rt:101:5
 loop-again : tie.Need-loop-again Inv-loop μ-loop
 loop-again c =
     let s = c .before .before .before .before .before .before in
@@ -91,7 +77,6 @@ loop-again c =
     let m = shifts-most (s .args .codes .now) in
     (b .within, omega (arith, e, c .count-block .ensures, l .loop .inv .1))
 
--- src/reading.rt:96:1
 returns : tie.Need-returns Inv-loop μ-loop
 returns c = let e = shifts-end (c .before .before .before .args .codes .now) (c .before .loop .i) (c .loop-test .left) in omega (arith, e, c .before .loop .inv .1)
 

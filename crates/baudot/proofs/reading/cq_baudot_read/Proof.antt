@@ -1,5 +1,6 @@
 -- `reading::cq_baudot_read` meets its contract: each refusal, and success.
 use mathlib.Core.Path.{_≡_, _∙_, sym}
+use Prim.Native.Nat.{_≤_}
 use native.Mathlib.Omega.{arith}
 use borrow.Author.Tests.{leb-true, leb-false, not-true, not-false}
 use Rattle.baudot.proofs.Answers.{read-refused, fresh-shift, far-shift, no-codes, no-text-room, read-yes, read-accepted}
@@ -57,10 +58,14 @@ read-table-requires c κs = search needs
 put-codes-requires : tie.Need-put-codes-requires
 put-codes-requires c κs =
     let a = c .before .before .before .before .before .before .before .before .before .before .before .args in
-    let f = c .before .before .before in (
-      c .before .before .read-table .ensures,
-      (sym (c .before .before .before .before .before .before .all-at-most .ensures) ∙ not-false _ (c .before .before .before .before .before .if3 .left), leb-true _ _ (sym (f .before .fits2 .ensures (a .shift)) ∙ not-false _ (f .if4 .left))),
-    )
+    let f = c .before .before .before in
+    let e = f .before .before in
+    let n = e .before .before .before .if1 .left in
+    let m = e .before .before .if2 .left in
+    let z : 1 ≤ a .shift = omega (arith, n) in
+    let t = sym (e .before .all-at-most .ensures) ∙ not-false _ (e .if3 .left) in
+    let h = leb-true _ _ (sym (f .before .fits2 .ensures (a .shift)) ∙ not-false _ (f .if4 .left)) in
+    (c .before .before .read-table .ensures, ((z, m), (t, h)))
 
 same-length : tie.Need-same-length
 same-length c = search needs

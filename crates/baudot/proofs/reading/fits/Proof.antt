@@ -10,25 +10,18 @@ use Rattle.baudot.proofs.ReadingRule.{text-count, text-short, shifts-mo
 use borrow.Author.Needs.{needs}
 use Rattle.baudot.proofs.reading.fits.Statement.{statement}
 use Rattle.baudot.proofs.reading.fits.Tie as tie
-use Rattle.baudot.proofs.reading.fits.Reads as reads
-use Rattle.baudot.proofs.reading.fits.Lts as lts
-use Rattle.baudot.proofs.reading.count_shifts.Reads as count-shifts-reads
 
--- src/reading.rt:115:9
 returns : tie.Need-returns
 returns c =
     let a = c .before .before .args in
     λ s. sym (le-leb (length (textOf s (a .codes .now))) (a .room) (omega (arith, c .if1 .taken, text-short s (a .codes .now))))
 
--- src/reading.rt:117:19
 count-shifts-requires : tie.Need-count-shifts-requires
 count-shifts-requires c κs = search needs
 
--- src/reading.rt:117:5
 sub-result : tie.Need-sub-result
 sub-result c = omega (arith, c .count-shifts .ensures, shifts-most (c .before .before .before .args .codes .now))
 
--- src/reading.rt:110:1
 returns-2 : tie.Need-returns-2
 returns-2 c =
     let a = c .before .before .before .args in

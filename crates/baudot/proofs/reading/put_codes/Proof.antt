@@ -15,7 +15,7 @@ abbrev μ-loop : tie.MeasureT-loop
 μ-loop table codes shift text₀ t₀ i₀ text t i = length codes - i
 
 loop-holds : tie.Need-loop-holds Inv-loop μ-loop
-loop-holds c = reading-start _ _ _
+loop-holds c = reading-start _ _ _ (c .before .before .pre .1 .0)
 
 shared-slice-read-t12 : tie.Need-shared-slice-read-t12 Inv-loop μ-loop
 shared-slice-read-t12 c = search needs
@@ -25,7 +25,7 @@ put-code-requires c κs =
     let l = c .before .before .before in
     let s = c .before .before .before .before .before .before in
     let t = c .before .before .loop-test .taken in
-    (s .pre .0, (omega (arith, at-most-at 31 (s .args .codes .now) (s .pre .1 .0) (l .loop .i) t), reading-room _ _ _ _ _ _ (l .loop .inv) t (s .pre .1 .1)))
+    (s .pre .0, (l .loop .inv .in-shift, (omega (arith, at-most-at 31 (s .args .codes .now) (s .pre .1 .1 .0) (l .loop .i) t), reading-room _ _ _ _ _ _ (l .loop .inv) t (s .pre .1 .1 .1))))
 
 add-i : tie.Need-add-i Inv-loop μ-loop
 add-i c = search needs

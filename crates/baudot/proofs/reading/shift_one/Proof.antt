@@ -2,18 +2,13 @@
 use borrow.Author.Tests.{ne-eqb}
 use Rattle.baudot.proofs.reading.shift_one.Statement.{statement}
 use Rattle.baudot.proofs.reading.shift_one.Tie as tie
-use Rattle.baudot.proofs.reading.shift_one.Reads as reads
-use Rattle.baudot.proofs.reading.shift_one.Lts as lts
 
--- src/reading.rt:62:9
 returns : tie.Need-returns
 returns c = simp (c .if1 .taken)
 
--- src/reading.rt:65:9
 returns-2 : tie.Need-returns-2
 returns-2 c = simp (c .if2 .taken)
 
--- src/reading.rt:58:1
 returns-3 : tie.Need-returns-3
 returns-3 c = simp (ne-eqb _ _ (c .before .if1 .left), ne-eqb _ _ (c .if2 .left))
 

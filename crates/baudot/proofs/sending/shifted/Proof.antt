@@ -1,14 +1,10 @@
 use borrow.Author.Tests.{ne-eqb}
 use Rattle.baudot.proofs.sending.shifted.Statement.{statement}
 use Rattle.baudot.proofs.sending.shifted.Tie as tie
-use Rattle.baudot.proofs.sending.shifted.Reads as reads
-use Rattle.baudot.proofs.sending.shifted.Lts as lts
 
--- src/sending.rt:66:9
 returns : tie.Need-returns
 returns c = simp (c .if1 .taken)
 
--- src/sending.rt:62:1
 returns-2 : tie.Need-returns-2
 returns-2 c = simp (ne-eqb _ _ (c .if1 .left))
 
