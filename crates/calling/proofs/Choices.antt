@@ -1,6 +1,6 @@
 -- Choices by a test.
 use mathlib.Core.Path.{_≡_, refl}
-use mathlib.Core.Bool.{Bool, true, false, cond, _&&_}
+use mathlib.Core.Bool.{Bool, true, false, cond}
 
 -- a test is true or false
 pub by-test : {A : Type 0} (b : Bool) → (b ≡ true → A) → (b ≡ false → A) → A
@@ -16,11 +16,3 @@ either P false p q = q
 pub either-by : {A : Type 0} (P : A → Type 0) (b : Bool) {x y : A} → (b ≡ true → P x) → (b ≡ false → P y) → P (cond b x y)
 either-by P true f g = f refl
 either-by P false f g = g refl
-
-pub first-true : (a b : Bool) → a && b ≡ true → a ≡ true
-first-true true b e = refl
-first-true false b e = e
-
-pub second-true : (a b : Bool) → a && b ≡ true → b ≡ true
-second-true true b e = e
-second-true false b e = cc

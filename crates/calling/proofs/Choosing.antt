@@ -1,17 +1,18 @@
 -- A tone shorter than its length is no choice; one that reaches it is, in that ms, and it is for good.
 use mathlib.Core.Path.{_≡_, _∙_, refl, sym, ap}
-use mathlib.Core.Bool.{Bool, true, false, cond, _&&_, _||_}
+use mathlib.Core.Bool.{Bool, true, false, cond, _&&_, _||_, and-true, and-false, or-true}
 use mathlib.Core.List.{List, [], _∷_, _++_}
 use Prim.Native.Nat.{ℕ, zero, suc, _+_, _≤_, _<_}
 use native.Mathlib.Omega.{arith}
 use borrow.Author.Tests.{eq-eqb, ne-eqb, lt-ltb, le-ltb, eqb-true, eqb-false, ltb-true, ltb-false}
 use lib.Dec.{eqb, ltb}
 use lib.ListN.{length, replicate}
+use Rattle.lists.proofs.Lists.{and-left, and-right}
 use Rattle.calling.specs.declared.Calling.{Calling}
 use Rattle.calling.specs.Timetable.{nothing}
 use Rattle.calling.specs.Tones.{none, lengthOf}
 use Rattle.calling.specs.Set.{fresh, pause, enough, msAfter, chosen, stateAfter, after, sentOf}
-use Rattle.calling.proofs.Choices.{by-test, first-true, second-true}
+use Rattle.calling.proofs.Choices.{by-test}
 use Rattle.calling.proofs.OneMs.{counted-more, counted-most, counted-other, tone-after, ms-after, choice-after, does-chosen}
 
 -- a choice is for good: every later ms leaves the state as it is ..
@@ -45,18 +46,6 @@ allShort t n (h ∷ hs) = tooShort h (inARow t n h) && allShort h (inARow t n h)
 neither-first : (a b : Bool) → a || b ≡ false → a ≡ false
 neither-first true b e = e
 neither-first false b e = refl
-
-only-first : (a : Bool) → a && true ≡ false → a ≡ false
-only-first true e = e
-only-first false e = refl
-
-and-false : (a : Bool) → a && false ≡ false
-and-false true = refl
-and-false false = refl
-
-either-true : (a : Bool) → (a || true) && true ≡ true
-either-true true = refl
-either-true false = refl
 
 -- A count of n ms that is exact below k, and reaches k when n does.
 record Bounded (ms n k : ℕ) : Type 0 where
@@ -133,18 +122,18 @@ unfolding after allShort
 none-made [] s t n c k e = c
 none-made (h ∷ hs) s t n c k e =
     let m = inARow t n h in
-    let d = short-ms s h t n c k (first-true (tooShort h m) (allShort h m hs) e) in
-    none-made hs (stateAfter s h) h m (d .0) (d .1) (second-true (tooShort h m) (allShort h m hs) e)
+    let d = short-ms s h t n c k (and-left (tooShort h m) (allShort h m hs) e) in
+    none-made hs (stateAfter s h) h m (d .0) (d .1) (and-right (tooShort h m) (allShort h m hs) e)
 
 made : (hs : List ℕ) (h : ℕ) (ys : List ℕ) (s : Calling) (t n : ℕ) → s .choice ≡ 0 → Counts s t n
     → allShort t n hs ≡ true → allShort t n (hs ++ (h ∷ [])) ≡ false → after s (hs ++ (h ∷ ys)) .choice ≡ h
 unfolding after allShort
-made [] h ys s t n c k e f = long-ms s h t n ys c k (only-first (tooShort h (inARow t n h)) f)
+made [] h ys s t n c k e f = long-ms s h t n ys c k (sym (and-true (tooShort h (inARow t n h))) ∙ f)
 made (x ∷ hs) h ys s t n c k e f =
     let m = inARow t n x in
-    let b = first-true (tooShort x m) (allShort x m hs) e in
+    let b = and-left (tooShort x m) (allShort x m hs) e in
     let d = short-ms s x t n c k b in
-    made hs h ys (stateAfter s x) x m (d .0) (d .1) (second-true (tooShort x m) (allShort x m hs) e) (simp b at f)
+    made hs h ys (stateAfter s x) x m (d .0) (d .1) (and-right (tooShort x m) (allShort x m hs) e) (simp b at f)
 
 counts-own : (s : Calling) → Counts s (s .tone) (s .ms)
 counts-own s = record { tone-is = refl; ms-is = record { below = λ _. refl; above = λ g. g } }
@@ -185,7 +174,7 @@ row-short : (n k t : ℕ) → k + n < lengthOf t → allShort t k (replicate n t
 unfolding allShort
 row-short zero k t h = refl
 row-short (suc n) k t h =
-    simp (eq-eqb t t refl, lt-ltb (k + 1) (lengthOf t) (omega arith), row-short n (k + 1) t (omega arith)) (either-true (eqb t none))
+    simp (eq-eqb t t refl, lt-ltb (k + 1) (lengthOf t) (omega arith), row-short n (k + 1) t (omega arith)) (and-true (eqb t none || true) ∙ or-true (eqb t none))
 
 -- and one ms more is not, if they reach its length
 row-long : (n k t : ℕ) → (t ≡ none → ⊥) → suc (k + n) ≡ lengthOf t → allShort t k (replicate n t ++ (t ∷ [])) ≡ false
@@ -199,7 +188,7 @@ first-short : (n u m t : ℕ) → (t ≡ u → ⊥) → n < lengthOf t → allSh
 unfolding allShort
 first-short zero u m t other h = refl
 first-short (suc n) u m t other h =
-    simp (ne-eqb t u other, lt-ltb 1 (lengthOf t) (omega arith), row-short n 1 t (omega arith)) (either-true (eqb t none))
+    simp (ne-eqb t u other, lt-ltb 1 (lengthOf t) (omega arith), row-short n 1 t (omega arith)) (and-true (eqb t none || true) ∙ or-true (eqb t none))
 
 first-long : (n u m t : ℕ) → (t ≡ u → ⊥) → (t ≡ none → ⊥) → suc n ≡ lengthOf t → allShort u m (replicate n t ++ (t ∷ [])) ≡ false
 unfolding allShort

@@ -1,7 +1,6 @@
 pub mod Choices
 pub mod Places
 pub mod OneMs
-pub mod AllTones
 pub mod Fold
 pub mod Answers
 pub mod Range

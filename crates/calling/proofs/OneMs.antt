@@ -4,13 +4,14 @@ use mathlib.Core.Bool.{Bool, true, false}
 use Prim.Native.Nat.{ℕ, _+_, _≤_, _<_}
 use borrow.Author.Tests.{eq-eqb, ne-eqb, eqb-true, eqb-false, lt-ltb, le-ltb, leb-true}
 use lib.Dec.{eqb, leb}
+use Rattle.lists.proofs.Lists.{and-left, and-right}
 use Rattle.calling.specs.declared.Calling.{Calling}
 use Rattle.calling.specs.declared.Stepped.{Stepped}
 use Rattle.calling.specs.Timetable.{nothing, valueAt, placeAfter}
 use Rattle.calling.specs.Tones.{none, lengthOf}
 use Rattle.calling.specs.Counting.{counted}
 use Rattle.calling.specs.Set.{calling, pause, pauseOver, msAfter, reached, chosen, sentIn, stateAfter}
-use Rattle.calling.proofs.Choices.{by-test, first-true, second-true}
+use Rattle.calling.proofs.Choices.{by-test}
 
 -- another tone starts its own count at 1; the same is counted on up to the most, and stays there
 pub counted-other : (t m h k : ℕ) → (h ≡ t → ⊥) → counted t m h k ≡ 1
@@ -83,8 +84,8 @@ module _ (s : Calling) (h : ℕ) where
       unfolding stateAfter sentIn
       does-timetable p =
           let e = eq-eqb _ _ c in
-          let t : s .tone ≡ none = eqb-true _ _ (first-true (eqb (s .tone) none) (leb pause (s .ms)) p) in
-          let m : pause ≤ s .ms = leb-true _ _ (second-true (eqb (s .tone) none) (leb pause (s .ms)) p) in
+          let t : s .tone ≡ none = eqb-true _ _ (and-left (eqb (s .tone) none) (leb pause (s .ms)) p) in
+          let m : pause ≤ s .ms = leb-true _ _ (and-right (eqb (s .tone) none) (leb pause (s .ms)) p) in
           let k = counted-most (s .tone) (s .ms) none pause (sym t) m in
           rw n (record { leaves = simp (e, p, k) (λ i. calling (sym t i) (s .ms) (placeAfter (s .place)) 0); says = simp (e, p) })
 

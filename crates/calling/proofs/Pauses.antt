@@ -9,12 +9,13 @@ use native.Mathlib.Omega.{arith}
 use borrow.Author.Tests.{ne-eqb, lt-leb, le-leb, eqb-true, eqb-false, lt-ltb, ltb-true}
 use lib.Dec.{eqb, ltb}
 use lib.ListN.{length, replicate, length-replicate}
+use Rattle.lists.proofs.Lists.{and-left, and-right}
 use Rattle.calling.specs.declared.Calling.{Calling}
 use Rattle.calling.specs.Timetable.{nothing}
 use Rattle.calling.specs.Tones.{none}
 use Rattle.calling.specs.Counting.{counted}
 use Rattle.calling.specs.Set.{pause, pauseOver, sentIn, stateAfter, after, sentOf}
-use Rattle.calling.proofs.Choices.{by-test, first-true, second-true}
+use Rattle.calling.proofs.Choices.{by-test}
 use Rattle.calling.proofs.OneMs.{counted-more, counted-other, no-choice-before, tone-after, ms-after, does-chosen, does-tone, does-pause}
 use Rattle.calling.proofs.Cuts.{after-append, sent-append}
 use Rattle.calling.proofs.Periods.{periods, Runs, runs-sent-first}
@@ -84,9 +85,9 @@ waiting : (hs : List ℕ) (s : Calling) (n : ℕ) → (s .choice ≡ 0 → noneM
 unfolding waits sentOf
 waiting [] s n w e = refl
 waiting (h ∷ hs) s n w e =
-    let short = ltb-true _ _ (first-true (ltb n pause) (waits (noneAfter n h) hs) e) in
+    let short = ltb-true _ _ (and-left (ltb n pause) (waits (noneAfter n h) hs) e) in
     let now = waits-sent s h n w short in
-    let later = waiting hs (stateAfter s h) (noneAfter n h) (waits-next s h n w short) (second-true (ltb n pause) (waits (noneAfter n h) hs) e) in
+    let later = waiting hs (stateAfter s h) (noneAfter n h) (waits-next s h n w short) (and-right (ltb n pause) (waits (noneAfter n h) hs) e) in
     λ i. now i ∷ later i
 
 -- from the ms of a tone on nothing is sent until 400 ms of none in a row have passed

@@ -6,6 +6,7 @@ use Prim.Native.Nat.{ℕ, _+_, _≤_, _<_}
 use native.Mathlib.Omega.{arith}
 use borrow.Author.Tests.{le-leb, lt-ltb, leb-true, ltb-true, eqb-true}
 use lib.Dec.{eqb, leb, ltb}
+use Rattle.lists.proofs.Lists.{and-left, and-right, at-most-head, at-most-tail}
 use Rattle.calling.specs.declared.Calling.{Calling}
 use Rattle.calling.specs.declared.Ran.{Ran}
 use Rattle.calling.specs.Timetable.{timetable, total, period, placeAfter}
@@ -13,7 +14,7 @@ use Rattle.calling.specs.Tones.{none, lengths, lengthIn, lengthOf, allTo
 use Rattle.calling.specs.Counting.{counted}
 use Rattle.calling.specs.Set.{fresh, inRange, enough, msAfter, chosen, sends, stateAfter, after}
 use Rattle.calling.specs.Entry.{answerTo, ranOf}
-use Rattle.calling.proofs.Choices.{either, either-by, first-true, second-true}
+use Rattle.calling.proofs.Choices.{either, either-by}
 use Rattle.calling.proofs.Answers.{succeeds}
 
 -- the period is 11,200 ms
@@ -37,15 +38,15 @@ bounds-of s e =
     let c = leb 1 (s .ms) in
     let d = leb (s .ms) 1_700 in
     let f = ltb (s .place) period in
-    let e₁ = first-true (a && b && c && d) f e in
-    let e₂ = first-true (a && b && c) d e₁ in
-    let e₃ = first-true (a && b) c e₂ in
+    let e₁ = and-left (a && b && c && d) f e in
+    let e₂ = and-left (a && b && c) d e₁ in
+    let e₃ = and-left (a && b) c e₂ in
     record {
-      choice-in = leb-true _ _ (first-true a b e₃);
-      tone-in = leb-true _ _ (second-true a b e₃);
-      ms-low = leb-true 1 _ (second-true (a && b) c e₂);
-      ms-in = leb-true _ _ (second-true (a && b && c) d e₁);
-      place-in = ltb-true _ _ (second-true (a && b && c && d) f e);
+      choice-in = leb-true _ _ (and-left a b e₃);
+      tone-in = leb-true _ _ (and-right a b e₃);
+      ms-low = leb-true 1 _ (and-right (a && b) c e₂);
+      ms-in = leb-true _ _ (and-right (a && b && c) d e₁);
+      place-in = ltb-true _ _ (and-right (a && b && c && d) f e);
     }
 
 pub in-range-by : (s : Calling) → Bounds s → inRange s ≡ true
@@ -108,11 +109,9 @@ ms-in-range s h t r =
     r
 
 all-in-range : (s : Calling) (hs : List ℕ) → allTones hs ≡ true → Bounds s → Bounds (after s hs)
-unfolding allTones after
+unfolding after
 all-in-range s [] e r = r
-all-in-range s (h ∷ hs) e r =
-    all-in-range (stateAfter s h) hs (second-true (leb h 11) (allTones hs) e)
-    (ms-in-range s h (leb-true _ _ (first-true (leb h 11) (allTones hs) e)) r)
+all-in-range s (h ∷ hs) e r = all-in-range (stateAfter s h) hs (at-most-tail 11 h hs e) (ms-in-range s h (at-most-head 11 h hs e) r)
 
 -- a fresh state is in range
 pub fresh-in-range : inRange fresh ≡ true

@@ -1,9 +1,10 @@
 -- Document 01, "The calling set (5.1)": what is heard. Each heard ms is one of: 0 none, 1 ANSam, 2 ANS, 3 2225 Hz, 4 1650,
 -- 5 1300, 6 1270, 7 980, 8 Baudot 45.45, 9 Baudot 50, 10 DTMF, 11 EDT.
 use Prim.Native.Nat.{ℕ}
-use mathlib.Core.Bool.{Bool, true, cond, _&&_}
+use mathlib.Core.Bool.{Bool, cond}
 use mathlib.Core.List.{List, [], _∷_}
-use lib.Dec.{eqb, leb}
+use lib.Dec.{eqb}
+use Rattle.lists.specs.Lists.{allAtMost}
 
 abbrev pub none : ℕ
 none = 0
@@ -37,6 +38,5 @@ unfoldable pub lengthOf : ℕ → ℕ
 lengthOf tone = lengthIn tone lengths
 
 -- Question 11: every heard ms is 0 to 11.
-unfoldable pub allTones : List ℕ → Bool
-allTones [] = true
-allTones (h ∷ hs) = leb h 11 && allTones hs
+abbrev pub allTones : List ℕ → Bool
+allTones hs = allAtMost 11 hs

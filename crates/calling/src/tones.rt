@@ -21,16 +21,17 @@ pub fn length(tone: u8) -> u16
     1
 }
 
-// Is every heard ms none or a tone?
+// Is every heard ms none or a tone? Every one is looked at, so that the loop is compiled to vector instructions.
 pub fn valid(tones: &[u8]) -> bool
     ensures { λ r. ⌜ r ≡ allTones (now (tones .entry)) ⌝ }
 {
+    let mut ok = true;
     let mut i: usize = 0;
     while i < tones.len() {
         if LAST < tones[i] {
-            return false;
+            ok = false;
         }
         i += 1;
     }
-    true
+    ok
 }

@@ -1,27 +1,35 @@
--- `tones::valid` meets its contract. The invariant: the test from this place on decides.
-use mathlib.Core.Path.{_≡_, _∙_, refl, sym}
-use Prim.Native.Nat.{_-_}
+-- `tones::valid` meets its contract. The invariant: the tones passed and those left together say it of all.
+use mathlib.Core.Path.{_≡_, _∙_, refl, sym, ap}
+use mathlib.Core.Bool.{Bool, false, _&&_, and-true, and-false}
+use mathlib.Core.List.{List}
+use mathlib.Core.Logic.{⊎-elim}
+use Prim.Native.Nat.{ℕ, _+_, _-_, _≤_, _<_}
 use borrow.Author.Needs.{needs}
-use lib.ListN.{length, drop}
+use borrow.Author.Tests.{le-leb, lt-leb}
+use lib.ListN.{length, getD, drop}
+use Rattle.lists.proofs.Lists.{at-most-left, at-most-end}
 use Rattle.calling.specs.Tones.{allTones}
-use Rattle.calling.proofs.AllTones.{tones-bad, tones-good, tones-end}
 use Rattle.calling.proofs.tones.valid.Statement.{statement}
 use Rattle.calling.proofs.tones.valid.Tie as tie
 
+module _ (hs : List ℕ) (i : ℕ) (ok : Bool) (h : i < length hs) where
+  turn-bad : 11 < getD hs i 0 → (false && allTones (drop (i + 1) hs)) ≡ (ok && allTones (drop i hs))
+  turn-bad g = sym (and-false ok) ∙ ap (λ (b : Bool). ok && b) (sym (at-most-left 11 hs i h ∙ (simp (lt-leb (getD hs i 0) 11 g))))
+
+  turn-good : getD hs i 0 ≤ 11 → (ok && allTones (drop (i + 1) hs)) ≡ (ok && allTones (drop i hs))
+  turn-good g = ap (λ (b : Bool). ok && b) (sym (at-most-left 11 hs i h ∙ (simp (le-leb (getD hs i 0) 11 g))))
+
 abbrev Inv-loop : tie.InvT-loop
-Inv-loop tones i₀ i = allTones (drop i tones) ≡ allTones tones
+Inv-loop tones ok₀ i₀ ok i = (ok && allTones (drop i tones)) ≡ allTones tones
 
 abbrev μ-loop : tie.MeasureT-loop
-μ-loop tones i₀ i = length tones - i
+μ-loop tones ok₀ i₀ ok i = length tones - i
 
 loop-holds : tie.Need-loop-holds Inv-loop μ-loop
 loop-holds c = refl
 
 shared-slice-read-if1 : tie.Need-shared-slice-read-if1 Inv-loop μ-loop
 shared-slice-read-if1 c = search needs
-
-returns : tie.Need-returns Inv-loop μ-loop
-returns c = sym (sym (c .before .before .before .loop .inv) ∙ tones-bad _ _ (c .before .before .loop-test .taken) (c .if1 .taken))
 
 add-i : tie.Need-add-i Inv-loop μ-loop
 add-i c = search needs
@@ -30,21 +38,17 @@ loop-less : tie.Need-loop-less Inv-loop μ-loop
 loop-less c = search needs
 
 loop-again : tie.Need-loop-again Inv-loop μ-loop
-loop-again c = sym (tones-good _ _ (c .before .before .loop-test .taken) (c .if1 .left)) ∙ c .before .before .before .loop .inv
+loop-again c =
+    let l = c .before .before .before in
+    let t = c .before .before .loop-test .taken in
+    let a = l .before .args in
+    ⊎-elim (λ w. rw (w .1) (turn-bad (a .tones .now) (l .loop .i) (l .loop .ok) t (w .0 .taken) ∙ l .loop .inv))
+    (λ w. rw (w .1) (turn-good (a .tones .now) (l .loop .i) (l .loop .ok) t (w .0 .left) ∙ l .loop .inv)) (c .if1 .came)
 
-returns-2 : tie.Need-returns-2 Inv-loop μ-loop
-returns-2 c = sym (sym (c .before .loop .inv) ∙ tones-end _ _ (c .loop-test .left))
+returns : tie.Need-returns Inv-loop μ-loop
+returns c =
+    sym
+    (sym (c .before .loop .inv) ∙ ap (λ (b : Bool). c .before .loop .ok && b) (at-most-end _ _ _ (c .loop-test .left)) ∙ and-true (c .before .loop .ok))
 
 pub valid-spec : {M : Type 1} → statement M
-valid-spec =
-    tie.close
-    (tie.spec
-    Inv-loop
-    μ-loop
-    loop-holds
-    shared-slice-read-if1
-    returns
-    add-i
-    loop-less
-    loop-again
-    returns-2)
+valid-spec = tie.close (tie.spec Inv-loop μ-loop loop-holds shared-slice-read-if1 add-i loop-less loop-again returns)
