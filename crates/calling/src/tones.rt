@@ -7,16 +7,24 @@ pub const NONE: u8 = 0;
 // The last of the tones.
 pub const LAST: u8 = 11;
 
-// The ms that a tone must last in a row, up to tone 7; the others must last 1.
-const LENGTHS: [u16; 8] = [1, 1, 1, 500, 500, 1_700, 700, 1_500];
-
-// The ms that a tone must last in a row to be the choice.
+// The ms that a tone must last in a row to be the choice. By halves, so that few tests decide.
 pub fn length(tone: u8) -> u16
     ensures { λ r. ⌜ r ≡ lengthOf tone ⌝ }
 {
+    if tone < 5 {
+        if tone < 3 {
+            return 1;
+        }
+        return 500;
+    }
+    if tone < 7 {
+        if tone < 6 {
+            return 1_700;
+        }
+        return 700;
+    }
     if tone < 8 {
-        let at = tone as usize;
-        return LENGTHS[at];
+        return 1_500;
     }
     1
 }
