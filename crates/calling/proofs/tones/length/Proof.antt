@@ -20,8 +20,8 @@ unfolding lengths lengthIn lengthOf
 three-and-four t l h =
     by-test (eqb t 3) (λ e. simp e)
     (λ e.
-      let n = eqb-false t 3 e in
-      by-test (eqb t 4) (λ f. simp (e, f)) (λ f. let m = eqb-false t 4 f in absurd (n (omega arith))))
+    let n = eqb-false t 3 e in
+    by-test (eqb t 4) (λ f. simp (e, f)) (λ f. let m = eqb-false t 4 f in absurd (n (omega arith))))
 
 -- the others
 one-row : (t k : ℕ) → k ≤ t → t < suc k → lengthOf t ≡ lengthOf k
