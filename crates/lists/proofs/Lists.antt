@@ -1,6 +1,6 @@
 -- Laws on lists that are written and read from the front.
 use mathlib.Core.Path.{_≡_, _∙_, refl, sym, ap}
-use mathlib.Core.Bool.{Bool, true, false, _&&_}
+use mathlib.Core.Bool.{Bool, true, false, _&&_, and-true, and-false}
 use mathlib.Core.List.{List, [], _∷_, _++_}
 use Prim.Native.Nat.{ℕ, zero, suc, _+_, _≤_, _<_}
 use native.Mathlib.Nat.{add-zero, zero-add, add-suc, suc-add, le-of-suc-le-suc, not-suc-le-zero}
@@ -8,7 +8,7 @@ use native.Mathlib.Numerals.{add-one}
 use lib.Dec.{leb}
 use lib.ListN.{length, getD, set, drop, drop-of-length-le}
 use lib.Seq.{sets, sets-eq, drop-cons}
-use borrow.Author.Tests.{leb-true}
+use borrow.Author.Tests.{leb-true, le-leb, lt-leb}
 use Rattle.lists.specs.Lists.{allAtMost}
 
 -- two runs of values, one behind the other
@@ -54,3 +54,14 @@ pub at-most-drop : (m : ℕ) (xs : List ℕ) (i : ℕ) → allAtMost m xs ≡ tr
 at-most-drop m xs zero e = e
 at-most-drop m [] (suc i) e = e
 at-most-drop m (x ∷ xs) (suc i) e = at-most-drop m xs i (at-most-tail m x xs e)
+
+-- a loop that looks at every number: ok says it of those passed
+module _ (m : ℕ) (xs : List ℕ) (i : ℕ) (ok : Bool) (h : i < length xs) where
+  pub at-most-bad : m < getD xs i 0 → (false && allAtMost m (drop (i + 1) xs)) ≡ (ok && allAtMost m (drop i xs))
+  at-most-bad g = sym (and-false ok) ∙ ap (λ (b : Bool). ok && b) (sym (at-most-left m xs i h ∙ (simp (lt-leb (getD xs i 0) m g))))
+
+  pub at-most-good : getD xs i 0 ≤ m → (ok && allAtMost m (drop (i + 1) xs)) ≡ (ok && allAtMost m (drop i xs))
+  at-most-good g = ap (λ (b : Bool). ok && b) (sym (at-most-left m xs i h ∙ (simp (le-leb (getD xs i 0) m g))))
+
+pub at-most-all : (m : ℕ) (xs : List ℕ) (i : ℕ) (ok : Bool) → length xs ≤ i → (ok && allAtMost m (drop i xs)) ≡ allAtMost m xs → ok ≡ allAtMost m xs
+at-most-all m xs i ok h e = sym (and-true ok) ∙ ap (λ (b : Bool). ok && b) (sym (at-most-end m xs i h)) ∙ e

@@ -1,25 +1,14 @@
 -- `checks::all_at_most` meets its contract. The invariant: the bytes passed and those left together say it of all.
-use mathlib.Core.Path.{_≡_, _∙_, refl, sym, ap}
-use mathlib.Core.Bool.{Bool, false, _&&_, and-true, and-false}
-use mathlib.Core.List.{List}
+use mathlib.Core.Path.{_≡_, _∙_, refl}
+use mathlib.Core.Bool.{_&&_}
 use mathlib.Core.Logic.{⊎-elim}
-use Prim.Native.Nat.{ℕ, _+_, _-_, _≤_, _<_}
+use Prim.Native.Nat.{_-_}
 use borrow.Author.Needs.{needs}
-use borrow.Author.Tests.{le-leb, lt-leb}
-use lib.Dec.{leb}
-use lib.ListN.{length, getD, drop}
+use lib.ListN.{length, drop}
 use Rattle.lists.specs.Lists.{allAtMost}
-use Rattle.lists.proofs.Lists.{at-most-left, at-most-end}
+use Rattle.lists.proofs.Lists.{at-most-bad, at-most-good, at-most-all}
 use Rattle.baudot.proofs.checks.all_at_most.Statement.{statement}
 use Rattle.baudot.proofs.checks.all_at_most.Tie as tie
-
-turn-bad : (m : ℕ) (xs : List ℕ) (i : ℕ) (ok : Bool) → i < length xs → m < getD xs i 0
-    → (false && allAtMost m (drop (i + 1) xs)) ≡ (ok && allAtMost m (drop i xs))
-turn-bad m xs i ok h g = sym (and-false ok) ∙ ap (λ (b : Bool). ok && b) (sym (at-most-left m xs i h ∙ (simp (lt-leb (getD xs i 0) m g))))
-
-turn-good : (m : ℕ) (xs : List ℕ) (i : ℕ) (ok : Bool) → i < length xs → getD xs i 0 ≤ m
-    → (ok && allAtMost m (drop (i + 1) xs)) ≡ (ok && allAtMost m (drop i xs))
-turn-good m xs i ok h g = ap (λ (b : Bool). ok && b) (sym (at-most-left m xs i h ∙ (simp (le-leb (getD xs i 0) m g))))
 
 abbrev Inv-loop : tie.InvT-loop
 Inv-loop xs m ok₀ i₀ ok i = (ok && allAtMost m (drop i xs)) ≡ allAtMost m xs
@@ -44,11 +33,13 @@ loop-again c =
     let l = c .before .before .before in
     let t = c .before .before .loop-test .taken in
     let a = l .before .args in
-    ⊎-elim (λ w. rw (w .1) (turn-bad (a .m) (a .xs .now) (l .loop .i) (l .loop .ok) t (w .0 .taken) ∙ l .loop .inv))
-    (λ w. rw (w .1) (turn-good (a .m) (a .xs .now) (l .loop .i) (l .loop .ok) t (w .0 .left) ∙ l .loop .inv)) (c .if1 .came)
+    ⊎-elim (λ w. rw (w .1) (at-most-bad (a .m) (a .xs .now) (l .loop .i) (l .loop .ok) t (w .0 .taken) ∙ l .loop .inv))
+    (λ w. rw (w .1) (at-most-good (a .m) (a .xs .now) (l .loop .i) (l .loop .ok) t (w .0 .left) ∙ l .loop .inv)) (c .if1 .came)
 
 returns : tie.Need-returns Inv-loop μ-loop
-returns c = sym (sym (c .before .loop .inv) ∙ ap (λ (b : Bool). c .before .loop .ok && b) (at-most-end _ _ _ (c .loop-test .left)) ∙ and-true (c .before .loop .ok))
+returns c =
+    let a = c .before .before .args in
+    at-most-all (a .m) (a .xs .now) _ _ (c .loop-test .left) (c .before .loop .inv)
 
 pub all-at-most-spec : {M : Type 1} → statement M
 all-at-most-spec =
