@@ -26,6 +26,11 @@ tabulate-from f d (suc n) i (suc k) h = tabulate-from f d n (suc i) k (le-of-suc
 pub tabulate-at : {A : Type 0} (f : ℕ → A) (d : A) (n k : ℕ) → k < n → getD (tabulate f n 0) k d ≡ f k
 tabulate-at f d n k h = tabulate-from f d n 0 k h ∙ ap f (zero-add k)
 
+pub tabulate-length : {A : Type 0} (f : ℕ → A) (n i : ℕ) → length (tabulate f n i) ≡ n
+unfolding tabulate
+tabulate-length f zero i = refl
+tabulate-length f (suc n) i = ap suc (tabulate-length f n (suc i))
+
 passes-from : (f : ℕ → Bool) (n i k : ℕ) → T (passes f n i) → k < n → T (f (i + k))
 unfolding passes
 passes-from f zero i k t h = absurd (not-suc-le-zero h)
