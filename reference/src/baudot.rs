@@ -3,19 +3,13 @@
 use crate::annex::{
     Sending, BAUDOT_READS, BAUDOT_SENDS, EITHER, FIGURES, FIGURES_CODE, LETTERS, LETTERS_CODE,
 };
+use crate::answer::{CHARACTER, CODE, RESULT_SLICE, STATE, SUCCESS};
 
 /// The shift of a sender that has sent nothing yet.
 pub const FRESH: u8 = 0;
 
 /// After this many characters the shift code is sent again.
 pub const REPEAT: u8 = 72;
-
-/// The answers.
-pub const SUCCESS: u8 = 0;
-pub const STATE_OUT_OF_RANGE: u8 = 1;
-pub const NOT_SEVEN_BITS: u8 = 3;
-pub const TOO_SHORT: u8 = 9;
-pub const NOT_FIVE_BITS: u8 = 10;
 
 /// What sending gives back: the shift and count reached, and how many codes were written.
 #[repr(C)]
@@ -107,17 +101,17 @@ fn convert(mut text: &[u8], mut shift: u8, mut count: u8, mut put: impl FnMut(u8
 pub fn send(text: &[u8], shift: u8, count: u8, codes: &mut [u8]) -> Sent {
     let refusal = |answer| Sent { answer, shift, count, length: 0 };
     if shift > FIGURES || count > REPEAT {
-        return refusal(STATE_OUT_OF_RANGE);
+        return refusal(STATE);
     }
     if !text.is_ascii() {
-        return refusal(NOT_SEVEN_BITS);
+        return refusal(CHARACTER);
     }
     // At worst every character brings a shift code, and the first one two.
     if codes.len() < 2 * text.len() + 1 {
         let mut needed = 0;
         convert(text, shift, count, |_| needed += 1);
         if codes.len() < needed {
-            return refusal(TOO_SHORT);
+            return refusal(RESULT_SLICE);
         }
     }
     let mut length = 0;
@@ -132,13 +126,13 @@ pub fn send(text: &[u8], shift: u8, count: u8, codes: &mut [u8]) -> Sent {
 pub fn read(codes: &[u8], mut shift: u8, text: &mut [u8]) -> Text {
     let refusal = |answer| Text { answer, shift, length: 0 };
     if shift != LETTERS && shift != FIGURES {
-        return refusal(STATE_OUT_OF_RANGE);
+        return refusal(STATE);
     }
     if codes.iter().fold(0, |bits, code| bits | code) > 0b11111 {
-        return refusal(NOT_FIVE_BITS);
+        return refusal(CODE);
     }
     if text.len() < codes.len() && text.len() < codes.len() - shift_codes(codes) {
-        return refusal(TOO_SHORT);
+        return refusal(RESULT_SLICE);
     }
     let mut reads = &READS[usize::from(shift - 1)];
     let mut length = 0;
@@ -223,11 +217,11 @@ mod tests {
     #[test]
     fn the_first_no_decides_and_a_refusal_writes_nothing() {
         for (text, shift, count, space, answer) in [
-            (b"E\x80", 3, 0, 0, STATE_OUT_OF_RANGE),
-            (b"E\x80", 0, 73, 0, STATE_OUT_OF_RANGE),
-            (b"E\x80", 0, 0, 0, NOT_SEVEN_BITS),
-            (b"E1", 0, 0, 3, TOO_SHORT),
-            (b"EE", 1, 72, 2, TOO_SHORT),
+            (b"E\x80", 3, 0, 0, STATE),
+            (b"E\x80", 0, 73, 0, STATE),
+            (b"E\x80", 0, 0, 0, CHARACTER),
+            (b"E1", 0, 0, 3, RESULT_SLICE),
+            (b"EE", 1, 72, 2, RESULT_SLICE),
         ] {
             let mut codes = vec![0xAA; space];
             let sent = send(text, shift, count, &mut codes);
@@ -235,11 +229,11 @@ mod tests {
             assert!(codes.iter().all(|&code| code == 0xAA));
         }
         for (codes, shift, space, answer) in [
-            ([1, 32], 0, 0, STATE_OUT_OF_RANGE),
-            ([1, 32], 3, 0, STATE_OUT_OF_RANGE),
-            ([1, 32], 1, 0, NOT_FIVE_BITS),
-            ([1, 1], 2, 1, TOO_SHORT),
-            ([27, 1], 1, 0, TOO_SHORT),
+            ([1, 32], 0, 0, STATE),
+            ([1, 32], 3, 0, STATE),
+            ([1, 32], 1, 0, CODE),
+            ([1, 1], 2, 1, RESULT_SLICE),
+            ([27, 1], 1, 0, RESULT_SLICE),
         ] {
             let mut text = vec![0xAA; space];
             let read = read(&codes, shift, &mut text);
@@ -253,7 +247,7 @@ mod tests {
         let mut codes = [0xAA; 4];
         assert_eq!(send(b"A1", FRESH, 0, &mut codes).length, 4);
         let mut text = [0xAA; 2];
-        assert_eq!(read(&codes, FIGURES, &mut text), Text { answer: 0, shift: 2, length: 2 });
+        assert_eq!(read(&codes, FIGURES, &mut text), Text { answer: SUCCESS, shift: 2, length: 2 });
         assert_eq!(&text, b"A1");
         let mut codes = [0xAA; 9];
         assert_eq!(send(b"A1", FRESH, 0, &mut codes).length, 4);

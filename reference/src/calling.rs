@@ -1,11 +1,6 @@
 //! The calling set of V.18, clause 5.1, as document 01 fixes it, ms by ms.
 
-/// The answers.
-pub const SUCCESS: u8 = 0;
-pub const TOO_MANY_MS: u8 = 5;
-pub const SENT_TOO_SHORT: u8 = 7;
-pub const NO_TONE: u8 = 11;
-pub const STATE_OUT_OF_RANGE: u8 = 12;
+use crate::answer::{DURATION, SENT_SLICE, SUCCESS, TONE};
 
 /// The most ms of a run.
 pub const MOST: usize = 4096;
@@ -101,13 +96,13 @@ impl Set {
     /// The ms of a call. A refusal changes nothing.
     pub fn run(&mut self, tones: &[u8], sent: &mut [u8]) -> u8 {
         if tones.len() > MOST {
-            return TOO_MANY_MS;
+            return DURATION;
         }
         if tones.iter().any(|&tone| tone > LAST_TONE) {
-            return NO_TONE;
+            return TONE;
         }
         if sent.len() < tones.len() {
-            return SENT_TOO_SHORT;
+            return SENT_SLICE;
         }
         for (sent, &tone) in sent.iter_mut().zip(tones) {
             *sent = self.hear(tone);
@@ -206,9 +201,9 @@ mod tests {
     fn the_first_no_decides_and_a_refusal_writes_nothing() {
         let mut set = Set::default();
         let mut sent = [9; 2 * MOST];
-        assert_eq!(set.run(&[12; MOST + 1], &mut sent[..1]), TOO_MANY_MS);
-        assert_eq!(set.run(&[0, 12], &mut sent[..1]), NO_TONE);
-        assert_eq!(set.run(&[0, 11], &mut sent[..1]), SENT_TOO_SHORT);
+        assert_eq!(set.run(&[12; MOST + 1], &mut sent[..1]), DURATION);
+        assert_eq!(set.run(&[0, 12], &mut sent[..1]), TONE);
+        assert_eq!(set.run(&[0, 11], &mut sent[..1]), SENT_SLICE);
         assert_eq!(sent, [9; 2 * MOST]);
         assert_eq!(set.run(&[0; MOST], &mut sent[..MOST]), SUCCESS);
         assert_eq!(sent[..MOST], SENT[..MOST]);

@@ -2,10 +2,8 @@
 //! `differential`.
 
 use crate::engine;
-use reference::calling::{
-    length, Set, State, LAST_TONE, MOST, NONE, NO_TONE, SENT_TOO_SHORT, STATE_OUT_OF_RANGE,
-    SUCCESS, TOO_MANY_MS,
-};
+use reference::answer::{CALLING_STATE, DURATION, SENT_SLICE, SUCCESS, TONE};
+use reference::calling::{length, Set, State, LAST_TONE, MOST, NONE};
 use reference::random::Random;
 use std::process::exit;
 
@@ -61,7 +59,7 @@ pub fn compare(random: &mut Random, ms: u64) -> String {
         format!("{name} {}", counts.join(", "))
     };
     let numbered = |counts: &[u64]| counts.iter().copied().enumerate().collect::<Vec<_>>();
-    let answers = [SUCCESS, TOO_MANY_MS, SENT_TOO_SHORT, NO_TONE, STATE_OUT_OF_RANGE]
+    let answers = [SUCCESS, DURATION, SENT_SLICE, TONE, CALLING_STATE]
         .map(|answer| (usize::from(answer), met.answers[usize::from(answer)]));
     format!(
         "calling set: no difference; sessions {}, ms {}; {}; {}; {}",
@@ -84,7 +82,7 @@ impl Session {
         let reference = if self.engine.in_range() {
             self.reference.run(tones, &mut wanted[slice.clone()])
         } else {
-            STATE_OUT_OF_RANGE
+            CALLING_STATE
         };
         let engine = engine::calling_run(&mut self.engine, tones, &mut found[slice]);
         let good = reference == engine

@@ -2,6 +2,7 @@
 //! V.18 and the rulings of document 01 alone.
 
 pub mod annex;
+pub mod answer;
 pub mod baudot;
 pub mod calling;
 pub mod normal;

@@ -5,7 +5,8 @@
 mod engine;
 
 use reference::annex::LETTERS;
-use reference::baudot::{self, FRESH, SUCCESS};
+use reference::answer::SUCCESS;
+use reference::baudot::{self, FRESH};
 use reference::calling::{Set, MOST};
 use reference::random::Random;
 use std::hint::black_box;

@@ -1,7 +1,8 @@
 //! Prints what a calling set sends and chooses: the timetable, each tone around its length, tones
 //! that are interrupted, the silence after a tone, and the refusals.
 
-use reference::calling::{length, Set, State, LAST_TONE, MOST, NONE, STATE_OUT_OF_RANGE};
+use reference::answer::{CALLING_STATE, SUCCESS};
+use reference::calling::{length, Set, State, LAST_TONE, MOST, NONE};
 
 /// A slice for sent ms holds this before a call.
 const PATTERN: u8 = 9;
@@ -52,7 +53,7 @@ fn session(parts: &[(u8, usize)]) {
         let mut rows: Vec<(u8, usize)> = Vec::new();
         for _ in 0..ms {
             let mut sent = [PATTERN];
-            assert_eq!(set.run(&[tone], &mut sent), 0);
+            assert_eq!(set.run(&[tone], &mut sent), SUCCESS);
             match rows.last_mut() {
                 Some(row) if row.0 == sent[0] => row.1 += 1,
                 _ => rows.push((sent[0], 1)),
@@ -67,7 +68,7 @@ fn session(parts: &[(u8, usize)]) {
 
 /// Whether a state is taken.
 fn state(state: State) {
-    let answer = if state.in_range() { 0 } else { STATE_OUT_OF_RANGE };
+    let answer = if state.in_range() { SUCCESS } else { CALLING_STATE };
     let State { tone, ms, place, choice } = state;
     println!("state {tone} {ms} {place} {choice} answer {answer}");
 }
@@ -79,7 +80,7 @@ fn call(state: State, tone: u8, ms: usize, room: usize) {
     let answer = if state.in_range() {
         Set::default().run(&vec![tone; ms], &mut area[..room])
     } else {
-        STATE_OUT_OF_RANGE
+        CALLING_STATE
     };
     let kept = area.iter().filter(|&&value| value == PATTERN).count();
     println!("call {tone} {ms} {room} answer {answer} kept {kept}");

@@ -8,6 +8,7 @@ mod calling_sessions;
 mod engine;
 
 use reference::annex::{FIGURES, LETTERS};
+use reference::answer::{CHARACTER, CODE, RESULT_SLICE, STATE, SUCCESS};
 use reference::baudot::{self, FRESH, REPEAT};
 use reference::normal::Alphabet;
 use reference::random::Random;
@@ -42,20 +43,21 @@ fn main() {
         round_trips += u64::from(round_trip(&mut random));
     }
 
-    let met = |name: &str, tally: &Tally, answers: [usize; 4]| {
+    let met = |name: &str, tally: &Tally, answers: [u8; 4]| {
         let counts = answers.map(|answer| {
-            if tally[answer] == 0 {
+            let count = tally[usize::from(answer)];
+            if count == 0 {
                 println!("{name} never answered {answer}");
                 exit(1);
             }
-            format!("{answer}: {}", tally[answer])
+            format!("{answer}: {count}")
         });
         format!("{name} {}", counts.join(", "))
     };
     println!(
         "no difference; cases {cases}, seed {seed}; {}; {}; read back {round_trips}",
-        met("send", &sends, [0, 1, 3, 9]),
-        met("read", &reads, [0, 1, 9, 10]),
+        met("send", &sends, [SUCCESS, STATE, CHARACTER, RESULT_SLICE]),
+        met("read", &reads, [SUCCESS, STATE, RESULT_SLICE, CODE]),
     );
     println!("{}", calling_sessions::compare(&mut random, (4 * cases).max(1_000_000)));
 }
@@ -121,7 +123,7 @@ fn round_trip(random: &mut Random) -> bool {
     let codes = codes.get(..sent.length).unwrap_or(&codes);
     let read = engine::read(codes, start, &mut back);
     let normal = Alphabet::Baudot.normal_list(&text);
-    let good = (sent.answer, read.answer) == (0, 0)
+    let good = (sent.answer, read.answer) == (SUCCESS, SUCCESS)
         && back.get(..read.length) == Some(&normal)
         && (codes.is_empty() || read.shift == sent.shift);
     if !good {

@@ -1,0 +1,19 @@
+//! The answers of the public entries, by document 01's numbers ("Questions in order").
+
+pub const SUCCESS: u8 = 0;
+/// A shift or a count is out of range.
+pub const STATE: u8 = 1;
+/// A byte is above 127.
+pub const CHARACTER: u8 = 3;
+/// More than 4,096 ms.
+pub const DURATION: u8 = 5;
+/// The sent slice is too short.
+pub const SENT_SLICE: u8 = 7;
+/// The slice for the result of a conversion is too short.
+pub const RESULT_SLICE: u8 = 9;
+/// A code is above 11111.
+pub const CODE: u8 = 10;
+/// A heard value is no tone.
+pub const TONE: u8 = 11;
+/// The state of a calling set is out of range.
+pub const CALLING_STATE: u8 = 12;
