@@ -10,3 +10,4 @@ pub mod mode;
 pub mod normal;
 pub mod random;
 pub mod reader;
+pub mod tape;
