@@ -144,7 +144,7 @@ impl FrameReader {
             }
             Role::Parity => {
                 let ones = self.bits.count_ones() + u32::from(level == MARK);
-                level != QUIET && ones % 2 == 0
+                level != QUIET && ones.is_multiple_of(2)
             }
             Role::Stop | Role::Last => level == MARK,
         };

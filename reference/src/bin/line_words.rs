@@ -131,8 +131,13 @@ impl Cases {
         self.tape.signal(&signal(mode, code));
     }
 
+    /// One of the dozen.
+    fn random_code(&mut self, mode: Mode) -> Code {
+        dozen(mode)[self.random.below(12)].clone()
+    }
+
     fn clean_code(&mut self, mode: Mode) {
-        let code = dozen(mode)[self.random.below(10)].clone();
+        let code = self.random_code(mode);
         self.code(mode, &code);
     }
 
@@ -251,7 +256,7 @@ impl Cases {
             self.tape.fresh(mode);
             for held in [0, 1, 2, 3, 11, 21, 22, 23, 94, 165, 400] {
                 for (end, ms) in [(MARK, 1), (QUIET, 1), (MARK, 2), (MARK, 0)] {
-                    let code = dozen(mode)[self.random.below(10)].clone();
+                    let code = self.random_code(mode);
                     self.tape.signal(&signal(mode, &code)[..cut]);
                     self.tape.level(level, 1);
                     self.tape.level(SPACE, held);
@@ -269,7 +274,7 @@ impl Cases {
         places.extend((0..mode.elements()).map(|place| mode.sample_at(place)));
         for cut in places {
             for ms in [1, 2, 300] {
-                let clean = signal(mode, &dozen(mode)[self.random.below(10)]);
+                let clean = signal(mode, &self.random_code(mode));
                 self.tape.signal(&clean[..cut]);
                 self.tape.inhibited(ms);
                 // The rest of the frame, as it goes on meanwhile, or a new one.
@@ -307,8 +312,11 @@ impl Cases {
                 }
             }
             let text = [b"TOO 599"[self.random.below(7)], b"Ab9 (\n"[self.random.below(6)]];
-            for code in text_codes(mode, &text[..1 + self.random.below(2)]) {
-                self.code(mode, &code);
+            let text = &text[..1 + self.random.below(2)];
+            // In Baudot now and then without the 11111 in front.
+            let skip = usize::from(mode != Mode::Edt && self.random.one_in(2));
+            for code in text_codes(mode, text).iter().skip(skip) {
+                self.code(mode, code);
             }
         }
     }
