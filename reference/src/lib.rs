@@ -1,13 +1,18 @@
-//! Reference for the textphone alphabets, the Baudot conversions, the line signal with its readers
-//! and the calling set, written from V.18 and the rulings of document 01 alone.
+//! Reference for the textphone alphabets, the Baudot conversions, the line signal with its readers,
+//! the station and the calling set, written from V.18 and the rulings of document 01 alone; and a
+//! check of demand 3 on random lists of calls.
 
 pub mod annex;
 pub mod answer;
 pub mod baudot;
 pub mod calling;
+pub mod demand3;
+pub mod demand3_lists;
 pub mod line;
 pub mod mode;
 pub mod normal;
 pub mod random;
 pub mod reader;
+pub mod send_model;
+pub mod station;
 pub mod tape;

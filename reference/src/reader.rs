@@ -1,7 +1,7 @@
 //! The readers: from the level of each heard ms to the output words (document 01: house words).
 
 use crate::annex::{dtmf_rows, BAUDOT_READS, FIGURES_CODE, LETTERS_CODE};
-use crate::line::{key_number, MARK, QUIET, SPACE};
+use crate::line::{key_number, KEYS, MARK, QUIET, SPACE};
 use crate::mode::Mode;
 use std::sync::LazyLock;
 
@@ -15,6 +15,13 @@ pub trait Hear {
 
     /// An inhibited ms; it gives no word.
     fn inhibited(&mut self);
+
+    /// Some inhibited ms. As many as make a difference are gone through.
+    fn inhibited_for(&mut self, ms: usize) {
+        for _ in 0..ms.min(usize::from(IN_A_ROW)) {
+            self.inhibited();
+        }
+    }
 }
 
 /// The reader of a mode.
@@ -31,6 +38,27 @@ impl Reader {
             Mode::Baudot50 => Reader::Frames(FrameReader::fresh(&BAUDOT_50, Reads::Letters)),
             Mode::Dtmf => Reader::Keys(KeyReader::fresh()),
             Mode::Edt => Reader::Frames(FrameReader::fresh(&EDT, Reads::Characters)),
+        }
+    }
+
+    /// Puts a Baudot reader in letters.
+    pub fn to_letters(&mut self) {
+        if let Reader::Frames(reader @ FrameReader { reads: Reads::Figures, .. }) = self {
+            reader.reads = Reads::Letters;
+        }
+    }
+
+    /// Are its numbers such as reading makes them?
+    pub fn in_range(&self) -> bool {
+        match self {
+            Reader::Frames(FrameReader { frame, next, .. }) => {
+                *next <= frame.last || *next == WAITING
+            }
+            Reader::Keys(KeyReader { level, run, prefix, .. }) => {
+                usize::from(*level) <= KEYS.len()
+                    && *run <= IN_A_ROW
+                    && (NO_PREFIX..=PREFIX_TOO_LONG).contains(prefix)
+            }
         }
     }
 }
@@ -67,14 +95,18 @@ enum Role {
 /// No frame has a sample at this ms or later.
 const LONGEST: usize = 144;
 
-type Roles = [Role; LONGEST];
+/// The samples of a mode at their ms, and the ms of the last one.
+#[derive(Debug, PartialEq, Eq)]
+struct Frame {
+    roles: [Role; LONGEST],
+    last: u8,
+}
 
-static BAUDOT_45: Roles = roles(Mode::Baudot45);
-static BAUDOT_50: Roles = roles(Mode::Baudot50);
-static EDT: Roles = roles(Mode::Edt);
+static BAUDOT_45: Frame = frame(Mode::Baudot45);
+static BAUDOT_50: Frame = frame(Mode::Baudot50);
+static EDT: Frame = frame(Mode::Edt);
 
-/// The samples of a mode at their ms.
-const fn roles(mode: Mode) -> Roles {
+const fn frame(mode: Mode) -> Frame {
     let mut roles = [Role::Between; LONGEST];
     let last = mode.elements() - 1;
     let bits = if last == 6 { 5 } else { 7 };
@@ -93,7 +125,7 @@ const fn roles(mode: Mode) -> Roles {
         };
         element += 1;
     }
-    roles
+    Frame { roles, last: mode.sample_at(last) as u8 }
 }
 
 /// What the bits of a frame are read as; in Baudot this is the shift (document 01: the case).
@@ -115,7 +147,7 @@ const WAITING: u8 = 255;
 /// Reads Baudot and EDT.
 #[derive(Clone, Copy, Debug, PartialEq, Eq)]
 pub struct FrameReader {
-    roles: &'static Roles,
+    frame: &'static Frame,
     reads: Reads,
     /// Which ms of the frame comes next, or `HUNTING`, or `WAITING`.
     next: u8,
@@ -124,8 +156,8 @@ pub struct FrameReader {
 }
 
 impl FrameReader {
-    fn fresh(roles: &'static Roles, reads: Reads) -> FrameReader {
-        FrameReader { roles, reads, next: HUNTING, bits: 0 }
+    fn fresh(frame: &'static Frame, reads: Reads) -> FrameReader {
+        FrameReader { frame, reads, next: HUNTING, bits: 0 }
     }
 
     fn sample(&mut self, role: Role, level: u8) -> Option<u32> {
@@ -194,7 +226,7 @@ impl Hear for FrameReader {
             }
             ms => {
                 self.next = ms + 1;
-                match self.roles[usize::from(ms) % LONGEST] {
+                match self.frame.roles[usize::from(ms) % LONGEST] {
                     Role::Between => None,
                     role => self.sample(role, level),
                 }
@@ -358,12 +390,11 @@ mod tests {
     fn every_baudot_code_is_read_back_at_its_last_sample() {
         for (mode, last) in [(Mode::Baudot45, 143), (Mode::Baudot50, 130)] {
             for (shift, reads) in [LETTERS_CODE, FIGURES_CODE].into_iter().zip(BAUDOT_READS) {
-                for code in 0..32 {
+                for (code, read) in (0..32).zip(reads) {
                     let mut reader = Reader::fresh(mode);
                     assert_eq!(hears(&mut reader, &signal(mode, &five(shift))), []);
-                    let wanted: Vec<_> =
-                        reads[code].iter().map(|&c| (last, u32::from(c))).collect();
-                    assert_eq!(hears(&mut reader, &signal(mode, &five(code as u8))), wanted);
+                    let wanted: Vec<_> = read.map(|c| (last, u32::from(c))).into_iter().collect();
+                    assert_eq!(hears(&mut reader, &signal(mode, &five(code))), wanted);
                 }
             }
         }
@@ -491,9 +522,9 @@ mod tests {
             let end = mode.sample_at(mode.elements() - 1);
             for level in [QUIET, MARK, SPACE] {
                 let mut heard = clean.clone();
-                for ms in 1..end {
+                for (ms, heard) in heard.iter_mut().enumerate().take(end).skip(1) {
                     if !samples.contains(&ms) {
-                        heard[ms] = level;
+                        *heard = level;
                     }
                 }
                 assert_eq!(fresh_words(mode, &heard), [(end, u32::from(b'S'))]);
@@ -594,5 +625,25 @@ mod tests {
         assert_eq!(typed("*11"), [u32::from(b'a'), u32::from(b'b')]);
         assert_eq!(typed("####11"), [FAULT, u32::from(b'b')]);
         assert_eq!(typed("***11"), [FAULT, u32::from(b'b')]);
+    }
+
+    #[test]
+    fn ranges() {
+        for (mode, last) in [(Mode::Baudot45, 143), (Mode::Baudot50, 130), (Mode::Edt, 95)] {
+            for (next, good) in [(0, true), (last, true), (last + 1, false), (WAITING, true)] {
+                let Reader::Frames(reader) = Reader::fresh(mode) else { unreachable!() };
+                assert_eq!(Reader::Frames(FrameReader { next, ..reader }).in_range(), good);
+            }
+        }
+        let fresh = KeyReader::fresh();
+        assert!(Reader::Keys(KeyReader { level: 16, run: 40, prefix: 16, ..fresh }).in_range());
+        for wrong in [
+            KeyReader { level: 17, ..fresh },
+            KeyReader { run: 41, ..fresh },
+            KeyReader { prefix: 0, ..fresh },
+            KeyReader { prefix: 17, ..fresh },
+        ] {
+            assert!(!Reader::Keys(wrong).in_range());
+        }
     }
 }

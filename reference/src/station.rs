@@ -1,0 +1,740 @@
+//! A station of document 01: characters wait to be sent, bursts go out when the line is free, and
+//! what the other end sends is read. A run goes over its ms in stretches: a run of one level in a
+//! burst, the inhibited ms after it, or ms to listen to.
+
+use crate::annex::{dtmf_sends, Sending, BAUDOT_SENDS, EITHER, FIGURES, LETTERS};
+use crate::annex::{FIGURES_CODE, LETTERS_CODE};
+use crate::answer::{
+    CHARACTER, DURATION, LEVEL, MODE, SENT_SLICE, SPACE, STATE, SUCCESS, WORD_SLICE,
+};
+use crate::baudot::{FRESH, REPEAT};
+use crate::line::{elements, key_number, KEY_GAP, KEY_LENGTH, MARK, QUIET};
+use crate::mode::Mode;
+use crate::normal::Alphabet;
+use crate::reader::{Hear, Reader};
+use std::sync::LazyLock;
+
+/// The most characters that wait.
+pub const MOST_WAITING: usize = 256;
+
+/// The most ms of a run.
+pub const MOST_MS: usize = 4096;
+
+/// The ms without signal that make the line free.
+pub const FREE: u16 = 300;
+
+/// The ms for which the receiver stays inhibited after a burst.
+pub const INHIBITED: u16 = 300;
+
+/// What a run gives back: the answer, and how many words it wrote.
+#[derive(Clone, Copy, Debug, PartialEq, Eq)]
+pub struct Ran {
+    pub answer: u8,
+    pub words: usize,
+}
+
+/// The keys of a DTMF code, four bits for each, the first one lowest; 0 if nothing is sent.
+static KEYS_SENT: LazyLock<[u16; 128]> = LazyLock::new(|| {
+    std::array::from_fn(|character| {
+        let keys = dtmf_sends(character as u8).unwrap_or("");
+        keys.chars().rev().fold(0, |packed, key| packed << 4 | u16::from(key_number(key)))
+    })
+});
+
+static BAUDOT_SENT: [Option<Sending>; 128] = BAUDOT_SENDS;
+
+/// Which bytes are characters that send something.
+type Sends = [bool; 256];
+
+static SENDS: LazyLock<[Sends; 3]> = LazyLock::new(|| {
+    let sends = |sends: fn(usize) -> bool| std::array::from_fn(|c| c < 128 && sends(c));
+    [sends(|c| BAUDOT_SENT[c].is_some()), sends(|c| KEYS_SENT[c] != 0), sends(|_| true)]
+});
+
+fn sends(mode: Mode) -> &'static Sends {
+    &SENDS[mode.alphabet() as usize]
+}
+
+/// The characters that wait, in a ring.
+#[derive(Clone, Copy, Debug, PartialEq, Eq)]
+struct Queue {
+    ring: [u8; MOST_WAITING],
+    front: u8,
+    waiting: u16,
+}
+
+impl Queue {
+    fn push(&mut self, character: u8) {
+        let place = usize::from(self.front) + usize::from(self.waiting);
+        self.ring[place % MOST_WAITING] = character;
+        self.waiting += 1;
+    }
+
+    fn front(&self) -> u8 {
+        self.ring[usize::from(self.front)]
+    }
+
+    fn take(&mut self) {
+        self.front = self.front.wrapping_add(1);
+        self.waiting -= 1;
+    }
+
+    /// Does every waiting character send something? At most 256 wait.
+    fn all(&self, sends: &Sends) -> bool {
+        let front = usize::from(self.front);
+        let end = front + usize::from(self.waiting);
+        let good = |part: &[u8]| part.iter().all(|&character| sends[usize::from(character)]);
+        good(&self.ring[front..end.min(MOST_WAITING)])
+            && good(&self.ring[..end.saturating_sub(MOST_WAITING)])
+    }
+}
+
+/// What of a preamble or a code is still to be sent: a level for some ms, then the rest.
+#[derive(Clone, Copy, Debug, PartialEq, Eq)]
+struct Line {
+    level: u8,
+    left: u16,
+    /// In frames the elements behind this one, the next lowest, below a 1; in DTMF the keys behind
+    /// this one, four bits for each.
+    rest: u16,
+}
+
+/// The rest of a frame, or of a preamble, behind which nothing follows.
+const NO_ELEMENT: u16 = 1;
+
+impl Line {
+    fn preamble(mode: Mode) -> Line {
+        Line { level: MARK, left: mode.preamble(), rest: NO_ELEMENT }
+    }
+
+    fn frame(mode: Mode, code: u8) -> Line {
+        let guard = NO_ELEMENT << mode.elements();
+        let mut line = Line { level: QUIET, left: 0, rest: elements(mode, code) | guard };
+        line.next_element(mode);
+        if mode == Mode::Edt {
+            // 100 ms are not eleven times 9.
+            line.left += 1;
+        }
+        line
+    }
+
+    fn keys(packed: u16) -> Line {
+        let mut line = Line { level: QUIET, left: 0, rest: packed };
+        line.next_key();
+        line
+    }
+
+    /// Goes on to the next level; false if nothing follows.
+    fn next(&mut self, mode: Mode) -> bool {
+        if mode == Mode::Dtmf {
+            self.next_key()
+        } else {
+            self.next_element(mode)
+        }
+    }
+
+    fn next_element(&mut self, mode: Mode) -> bool {
+        if self.rest <= NO_ELEMENT {
+            return false;
+        }
+        self.level = 2 - (self.rest & 1) as u8;
+        self.rest >>= 1;
+        let last = self.rest == NO_ELEMENT;
+        self.left = match mode {
+            Mode::Baudot45 if last => 33,
+            Mode::Baudot45 => 22,
+            Mode::Baudot50 if last => 30,
+            Mode::Baudot50 => 20,
+            _ => 9,
+        };
+        true
+    }
+
+    fn next_key(&mut self) -> bool {
+        if self.level != QUIET {
+            (self.level, self.left) = (QUIET, KEY_GAP as u16);
+        } else if self.rest != 0 {
+            (self.level, self.left) = ((self.rest & 15) as u8, KEY_LENGTH as u16);
+            self.rest >>= 4;
+        } else {
+            return false;
+        }
+        true
+    }
+}
+
+/// The shift and the count of a sender.
+#[derive(Clone, Copy, Debug, PartialEq, Eq)]
+struct Sender {
+    shift: u8,
+    count: u8,
+}
+
+impl Sender {
+    /// What goes out next for a character, and whether it is the character's own code.
+    fn code(&mut self, mode: Mode, character: u8) -> (Line, bool) {
+        let character = usize::from(character & 0x7F);
+        match mode.alphabet() {
+            Alphabet::Baudot => {
+                let Sending { shifts, code } =
+                    BAUDOT_SENT[character].unwrap_or(Sending { shifts: EITHER, code: 0 });
+                match self.shift_code(shifts) {
+                    Some(code) => (Line::frame(mode, code), false),
+                    None => {
+                        self.count += 1;
+                        (Line::frame(mode, code), true)
+                    }
+                }
+            }
+            Alphabet::Dtmf => (Line::keys(KEYS_SENT[character]), true),
+            Alphabet::Edt => (Line::frame(mode, character as u8), true),
+        }
+    }
+
+    /// The shift code that must come first, if any.
+    fn shift_code(&mut self, shifts: u8) -> Option<u8> {
+        let shift = match self.shift {
+            FRESH => LETTERS,
+            shift if shifts & shift == 0 => shifts,
+            shift if self.count == REPEAT => shift,
+            _ => return None,
+        };
+        *self = Sender { shift, count: 0 };
+        Some(if shift == LETTERS { LETTERS_CODE } else { FIGURES_CODE })
+    }
+}
+
+#[derive(Clone, Copy, Debug, PartialEq, Eq)]
+pub struct Station {
+    mode: Mode,
+    in_burst: bool,
+    /// The ms in a row without signal, as far as they matter.
+    silence: u16,
+    /// The inhibited ms still to come after a burst.
+    inhibited: u16,
+    sender: Sender,
+    line: Line,
+    reader: Reader,
+    queue: Queue,
+}
+
+impl Station {
+    pub fn fresh(mode: Mode) -> Station {
+        Station {
+            mode,
+            in_burst: false,
+            silence: FREE,
+            inhibited: 0,
+            sender: Sender { shift: FRESH, count: 0 },
+            line: Line { level: QUIET, left: 0, rest: 0 },
+            reader: Reader::fresh(mode),
+            queue: Queue { ring: [0; MOST_WAITING], front: 0, waiting: 0 },
+        }
+    }
+
+    /// A fresh station of a mode given by its number; of mode 1 if there is no such mode.
+    pub fn open(mode: u8) -> (u8, Station) {
+        match Mode::from_number(mode) {
+            Some(mode) => (SUCCESS, Station::fresh(mode)),
+            None => (MODE, Station::fresh(Mode::Baudot45)),
+        }
+    }
+
+    /// How many characters wait.
+    pub fn waiting(&self) -> usize {
+        usize::from(self.queue.waiting)
+    }
+
+    /// Question 1.
+    pub fn in_range(&self) -> bool {
+        let Station { mode, silence, inhibited, sender, line, reader, queue, .. } = self;
+        usize::from(queue.waiting) <= MOST_WAITING
+            && queue.all(sends(*mode))
+            && *silence <= FREE
+            && *inhibited <= INHIBITED
+            && sender.shift <= FIGURES
+            && sender.count <= REPEAT
+            && line.level <= mode.highest_level()
+            && line.left <= mode.preamble().max(KEY_LENGTH as u16)
+            && reader.in_range()
+    }
+
+    /// Puts the characters of a text that send something behind those waiting.
+    pub fn offer(&mut self, text: &[u8]) -> u8 {
+        if !self.in_range() {
+            return STATE;
+        }
+        if !text.is_ascii() {
+            return CHARACTER;
+        }
+        let sends = sends(self.mode);
+        let some = text.iter().copied().filter(|&character| sends[usize::from(character)]);
+        if self.waiting() + some.clone().count() > MOST_WAITING {
+            return SPACE;
+        }
+        some.for_each(|character| self.queue.push(character));
+        if self.mode.alphabet() == Alphabet::Baudot && text.contains(&0x7F) {
+            self.reader.to_letters();
+        }
+        SUCCESS
+    }
+
+    /// Hears some ms. Writes as many sent ms, and the words from the front.
+    pub fn run(&mut self, heard: &[u8], sent: &mut [u8], words: &mut [u32]) -> Ran {
+        let refusal = |answer| Ran { answer, words: 0 };
+        if !self.in_range() {
+            return refusal(STATE);
+        }
+        if heard.len() > MOST_MS {
+            return refusal(DURATION);
+        }
+        let highest = self.mode.highest_level();
+        if heard.iter().fold(0, |most, &level| level.max(most)) > highest {
+            return refusal(LEVEL);
+        }
+        if sent.len() < heard.len() {
+            return refusal(SENT_SLICE);
+        }
+        if words.len() < heard.len() {
+            return refusal(WORD_SLICE);
+        }
+        let mut count = 0;
+        let (mut heard, mut sent) = (heard, &mut sent[..heard.len()]);
+        while !heard.is_empty() {
+            if !self.in_burst && self.queue.waiting > 0 && self.silence >= FREE {
+                self.in_burst = true;
+                self.line = Line::preamble(self.mode);
+            }
+            let ms = if self.in_burst {
+                self.send(sent)
+            } else if self.inhibited > 0 {
+                self.stay_inhibited(sent)
+            } else {
+                self.listen(heard, sent, words, &mut count)
+            };
+            heard = &heard[ms..];
+            sent = &mut sent[ms..];
+        }
+        Ran { answer: SUCCESS, words: count }
+    }
+
+    /// Sends up to the end of the slice or of the burst; gives back how many ms.
+    fn send(&mut self, sent: &mut [u8]) -> usize {
+        let mut done = 0;
+        while done < sent.len() {
+            if self.line.left == 0 {
+                self.begin_code();
+            }
+            let ms = usize::from(self.line.left).min(sent.len() - done);
+            sent[done..done + ms].fill(self.line.level);
+            self.line.left -= ms as u16;
+            done += ms;
+            if self.line.left == 0 && !self.line.next(self.mode) && self.queue.waiting == 0 {
+                self.in_burst = false;
+                self.inhibited = INHIBITED;
+                break;
+            }
+        }
+        self.silence = FREE.min(self.silence.saturating_add(done as u16));
+        self.reader.inhibited_for(done);
+        done
+    }
+
+    /// Begins the code that the front character wants next, and takes it with its own.
+    fn begin_code(&mut self) {
+        let own;
+        (self.line, own) = self.sender.code(self.mode, self.queue.front());
+        if own {
+            self.queue.take();
+        }
+    }
+
+    /// Inhibited ms outside a burst; gives back how many.
+    fn stay_inhibited(&mut self, sent: &mut [u8]) -> usize {
+        let mut ms = usize::from(self.inhibited).min(sent.len());
+        if self.queue.waiting > 0 {
+            ms = ms.min(usize::from(FREE - self.silence));
+        }
+        sent[..ms].fill(QUIET);
+        self.inhibited -= ms as u16;
+        self.silence = FREE.min(self.silence + ms as u16);
+        self.reader.inhibited_for(ms);
+        ms
+    }
+
+    /// Listens to all ms, or until a burst may begin; gives back how many.
+    fn listen(
+        &mut self,
+        heard: &[u8],
+        sent: &mut [u8],
+        words: &mut [u32],
+        count: &mut usize,
+    ) -> usize {
+        let ms = if self.queue.waiting > 0 { free_after(self.silence, heard) } else { heard.len() };
+        let heard = &heard[..ms];
+        match &mut self.reader {
+            Reader::Frames(reader) => read(reader, heard, words, count),
+            Reader::Keys(reader) => read(reader, heard, words, count),
+        }
+        sent[..ms].fill(QUIET);
+        self.silence = silence_after(self.silence, heard);
+        ms
+    }
+}
+
+/// Reads all ms with a reader and writes the words behind the first `count`.
+fn read(reader: &mut impl Hear, heard: &[u8], words: &mut [u32], count: &mut usize) {
+    for &level in heard {
+        if let Some(word) = reader.hear(level) {
+            words[*count] = word;
+            *count += 1;
+        }
+    }
+}
+
+/// After how many of the ms the line is free; all of them if it does not become so.
+fn free_after(mut silence: u16, heard: &[u8]) -> usize {
+    for (ms, &level) in heard.iter().enumerate() {
+        silence = if level == QUIET { silence + 1 } else { 0 };
+        if silence >= FREE {
+            return ms + 1;
+        }
+    }
+    heard.len()
+}
+
+/// The silence after some heard ms.
+fn silence_after(silence: u16, heard: &[u8]) -> u16 {
+    let last = heard.len().saturating_sub(usize::from(FREE));
+    match heard[last..].iter().rposition(|&level| level != QUIET) {
+        Some(signal) => (heard.len() - last - signal - 1) as u16,
+        None => FREE.min(silence.saturating_add((heard.len() - last) as u16)),
+    }
+}
+
+#[cfg(test)]
+mod tests {
+    use super::*;
+    use crate::line::{preamble, runs, signal, text_codes, Code, SPACE as SPACE_LEVEL};
+    use crate::reader::FAULT;
+
+    /// Runs a list of heard ms in calls of at most 4,096; gives back what was sent and the words.
+    fn hears(station: &mut Station, heard: &[u8]) -> (Vec<u8>, Vec<u32>) {
+        let (mut all_sent, mut all_words) = (Vec::new(), Vec::new());
+        for heard in heard.chunks(MOST_MS) {
+            let (mut sent, mut words) = ([9; MOST_MS], [9; MOST_MS]);
+            let ran = station.run(heard, &mut sent, &mut words);
+            assert_eq!(ran.answer, SUCCESS);
+            assert!(sent[heard.len()..].iter().all(|&level| level == 9));
+            assert!(words[ran.words..].iter().all(|&word| word == 9));
+            all_sent.extend(&sent[..heard.len()]);
+            all_words.extend(&words[..ran.words]);
+        }
+        (all_sent, all_words)
+    }
+
+    fn quiet(station: &mut Station, ms: usize) -> Vec<u8> {
+        hears(station, &vec![QUIET; ms]).0
+    }
+
+    /// A burst of a fresh sender.
+    fn burst(mode: Mode, text: &[u8]) -> Vec<u8> {
+        let mut burst = preamble(mode);
+        text_codes(mode, text).iter().for_each(|code| burst.extend(signal(mode, code)));
+        burst
+    }
+
+    /// A station of the mode that has been offered a text.
+    fn offered(mode: Mode, text: &[u8]) -> Station {
+        let mut station = Station::fresh(mode);
+        assert_eq!(station.offer(text), SUCCESS);
+        station
+    }
+
+    #[test]
+    fn opening() {
+        for mode in Mode::ALL {
+            assert_eq!(Station::open(mode.number()), (SUCCESS, Station::fresh(mode)));
+            assert!(Station::fresh(mode).in_range());
+        }
+        for number in [0, 5, 255] {
+            assert_eq!(Station::open(number), (MODE, Station::fresh(Mode::Baudot45)));
+        }
+    }
+
+    #[test]
+    fn up_to_256_wait() {
+        for mode in Mode::ALL {
+            let full = offered(mode, &[b'e'; 256]);
+            assert_eq!(full.waiting(), 256);
+            let mut fresh = Station::fresh(mode);
+            assert_eq!(fresh.offer(&[b'e'; 257]), SPACE);
+            assert_eq!(fresh, Station::fresh(mode));
+            let mut station = full;
+            assert_eq!(station.offer(b"e"), SPACE);
+            assert_eq!(station, full);
+            assert_eq!(station.offer(b""), SUCCESS);
+            assert_eq!(station, full);
+        }
+        // What sends nothing does not wait.
+        let mut station = offered(Mode::Baudot45, &[0; 1000]);
+        assert_eq!(station, Station::fresh(Mode::Baudot45));
+        let text = [[0; 300], [b'E'; 300]].concat();
+        assert_eq!(station.offer(&text[..556]), SUCCESS);
+        assert_eq!(station.waiting(), 256);
+        assert_eq!(station.offer(b"\x00\x7F"), SUCCESS);
+    }
+
+    #[test]
+    fn the_burst_of_a_fresh_station() {
+        for mode in Mode::ALL {
+            let text = b"Too 599 E*@";
+            let mut station = offered(mode, text);
+            let wanted = burst(mode, text);
+            let sent = quiet(&mut station, wanted.len() + 1000);
+            assert_eq!(sent[..wanted.len()], wanted);
+            assert!(sent[wanted.len()..].iter().all(|&level| level == QUIET));
+            assert_eq!(station.waiting(), 0);
+        }
+    }
+
+    #[test]
+    fn the_codes_are_those_of_the_bare_conversion() {
+        let text: Vec<u8> = (0..250).map(|i| if i % 90 < 80 { b'E' } else { b'9' }).collect();
+        let wanted = burst(Mode::Baudot50, &text);
+        let sent = quiet(&mut offered(Mode::Baudot50, &text), wanted.len());
+        assert_eq!(sent, wanted);
+    }
+
+    #[test]
+    fn characters_keep_their_order_over_more_than_256() {
+        let text: Vec<u8> = (0..700).map(|i| (i % 128) as u8).collect();
+        for mode in [Mode::Dtmf, Mode::Edt] {
+            let wanted = burst(mode, &text);
+            let (mut station, mut sent, mut offered) = (Station::fresh(mode), Vec::new(), 0);
+            while sent.len() < wanted.len() {
+                while offered < 700 && station.offer(&text[offered..][..35]) == SUCCESS {
+                    offered += 35;
+                }
+                let ms = (wanted.len() - sent.len()).min(1000);
+                sent.extend(quiet(&mut station, ms));
+            }
+            assert_eq!(sent, wanted);
+            assert_eq!(station.waiting(), 0);
+        }
+    }
+
+    #[test]
+    fn a_character_is_taken_at_the_first_ms_of_its_own_code() {
+        // The preamble and 11111 come first; then with 1 comes 11011.
+        let mut station = offered(Mode::Baudot45, b"E1");
+        for (ms, waiting) in [(150 + 165, 2), (1, 1), (164 + 165, 1), (1, 0)] {
+            quiet(&mut station, ms);
+            assert_eq!(station.waiting(), waiting);
+        }
+        // In DTMF the key of the prefix belongs to the code.
+        let mut station = offered(Mode::Dtmf, b":");
+        quiet(&mut station, 1);
+        assert_eq!(station.waiting(), 0);
+        let mut station = offered(Mode::Edt, b"AA");
+        for (ms, waiting) in [(300, 2), (1, 1), (99, 1), (1, 0)] {
+            quiet(&mut station, ms);
+            assert_eq!(station.waiting(), waiting);
+        }
+    }
+
+    #[test]
+    fn an_offer_before_the_last_ms_of_a_burst_goes_on_without_gap() {
+        for mode in Mode::ALL {
+            let (both, first) = (burst(mode, b"EE"), burst(mode, b"E"));
+            let mut station = offered(mode, b"E");
+            let mut sent = quiet(&mut station, first.len() - 1);
+            assert_eq!(station.offer(b"E"), SUCCESS);
+            sent.extend(quiet(&mut station, both.len() - sent.len()));
+            assert_eq!(sent, both);
+        }
+    }
+
+    #[test]
+    fn an_offer_after_the_last_ms_of_a_burst_needs_a_new_one() {
+        for mode in Mode::ALL {
+            let first = burst(mode, b"E");
+            let e = signal(mode, text_codes(mode, b"E").last().unwrap());
+            let mut station = offered(mode, b"E");
+            let mut sent = quiet(&mut station, first.len());
+            assert_eq!(station.offer(b"E"), SUCCESS);
+            let wanted = [&first[..], &preamble(mode), &e].concat();
+            sent.extend(quiet(&mut station, wanted.len() - sent.len()));
+            assert_eq!(sent, wanted);
+        }
+    }
+
+    #[test]
+    fn a_burst_waits_for_a_free_line() {
+        for mode in Mode::ALL {
+            let mut station = Station::fresh(mode);
+            hears(&mut station, &[1]);
+            assert_eq!(station.offer(b"E"), SUCCESS);
+            assert_eq!(runs(&quiet(&mut station, 299)), [(QUIET, 299)]);
+            // One ms of signal, and it starts anew.
+            assert_eq!(hears(&mut station, &[2]).0, [QUIET]);
+            assert_eq!(runs(&quiet(&mut station, 300)), [(QUIET, 300)]);
+            assert_ne!(quiet(&mut station, 1), [QUIET]);
+            // In the burst and after it signal does not count.
+            let rest = vec![1; burst(mode, b"E").len() + 200];
+            hears(&mut station, &rest);
+            assert_eq!(station.offer(b"E"), SUCCESS);
+            assert_ne!(quiet(&mut station, 1), [QUIET]);
+        }
+    }
+
+    /// A code that is only just read from its first ms on, and its word.
+    fn shortest(mode: Mode) -> (Vec<u8>, u32) {
+        let (code, word) = match mode {
+            Mode::Dtmf => return (vec![1; 40], u32::from(b'b')),
+            Mode::Edt => (Code::SevenBits(0x7F), 0x7F),
+            _ => (Code::FiveBits(0b01111), u32::from(b'K')),
+        };
+        let mut heard = signal(mode, &code);
+        let start = mode.sample_at(0) + 1..mode.sample_at(1);
+        heard[start].fill(MARK);
+        (heard, word)
+    }
+
+    #[test]
+    fn nothing_is_read_in_a_burst_and_for_300_ms_after_it() {
+        for mode in Mode::ALL {
+            let (code, word) = shortest(mode);
+            let length = burst(mode, b"E").len();
+            for (late, wanted) in [(0, vec![]), (150, vec![]), (299, vec![]), (300, vec![word])] {
+                let mut heard = vec![QUIET; length + late];
+                heard.extend(&code);
+                assert_eq!(hears(&mut offered(mode, b"E"), &heard).1, wanted);
+            }
+            let echo = [code, vec![QUIET; length]].concat();
+            assert_eq!(hears(&mut offered(mode, b"E"), &echo[..length]).1, []);
+        }
+    }
+
+    #[test]
+    fn the_own_echo_does_not_set_the_shift() {
+        let mode = Mode::Baudot45;
+        let echo = burst(mode, b"1");
+        let mut station = offered(mode, b"1");
+        let mut heard = echo.clone();
+        heard.extend([QUIET; 300]);
+        heard.extend(signal(mode, &Code::FiveBits(0b00001)));
+        assert_eq!(hears(&mut station, &heard).1, [u32::from(b'E')]);
+    }
+
+    #[test]
+    fn del_puts_the_own_reader_in_letters() {
+        for mode in [Mode::Baudot45, Mode::Baudot50] {
+            let mut station = Station::fresh(mode);
+            hears(&mut station, &signal(mode, &Code::FiveBits(FIGURES_CODE)));
+            let e = signal(mode, &Code::FiveBits(0b00001));
+            assert_eq!(hears(&mut station, &e).1, [u32::from(b'3')]);
+            // Not if the offer is refused.
+            assert_eq!(station.offer(&[[0x7F; 257], [b'E'; 257]].concat()), SPACE);
+            assert_eq!(station.offer(b"\x7F\x80"), CHARACTER);
+            assert_eq!(hears(&mut station, &e).1, [u32::from(b'3')]);
+            assert_eq!(station.offer(b"\x7F"), SUCCESS);
+            assert_eq!(hears(&mut station, &e).1, [u32::from(b'E')]);
+            assert_eq!(station.waiting(), 0);
+        }
+        // Elsewhere it is a character like others.
+        assert_eq!(offered(Mode::Dtmf, b"\x7F").waiting(), 1);
+        assert_eq!(offered(Mode::Edt, b"\x7F").waiting(), 1);
+    }
+
+    #[test]
+    fn faults_are_words() {
+        let mut station = Station::fresh(Mode::Edt);
+        assert_eq!(hears(&mut station, &[SPACE_LEVEL; 200]).1, [FAULT]);
+        let mut station = Station::fresh(Mode::Dtmf);
+        assert_eq!(hears(&mut station, &[16; 200]).1, [FAULT]);
+    }
+
+    #[test]
+    fn the_first_no_decides_and_a_refusal_changes_nothing() {
+        for mode in Mode::ALL {
+            let above = mode.highest_level() + 1;
+            let station = offered(mode, b"E");
+            let mut bad = station;
+            bad.silence = FREE + 1;
+            let (mut sent, mut words) = ([9; MOST_MS + 1], [9; MOST_MS + 1]);
+            for (station, ms, level, sent_length, word_length, answer) in [
+                (bad, MOST_MS + 1, above, 0, 0, STATE),
+                (station, MOST_MS + 1, above, 0, 0, DURATION),
+                (station, MOST_MS, above, 0, 0, LEVEL),
+                (station, MOST_MS, above - 1, MOST_MS - 1, 0, SENT_SLICE),
+                (station, MOST_MS, above - 1, MOST_MS, MOST_MS - 1, WORD_SLICE),
+            ] {
+                let mut after = station;
+                let heard = vec![level; ms];
+                let (sent, words) = (&mut sent[..sent_length], &mut words[..word_length]);
+                assert_eq!(after.run(&heard, sent, words), Ran { answer, words: 0 });
+                assert_eq!(after, station);
+            }
+            assert_eq!((sent, words), ([9; MOST_MS + 1], [9; MOST_MS + 1]));
+            assert_eq!(bad.offer(&[0x80; 300]), STATE);
+            let mut after = station;
+            assert_eq!(after.offer(&[b'E', 0x80].repeat(300)), CHARACTER);
+            assert_eq!(after.offer(&[b'E'; 256]), SPACE);
+            assert_eq!(after.run(&[], &mut [], &mut []), Ran { answer: SUCCESS, words: 0 });
+            assert_eq!(after, station);
+        }
+    }
+
+    #[test]
+    fn question_1() {
+        let changes: [fn(&mut Station); 10] = [
+            |station| station.queue.waiting = 257,
+            // The ring holds 00, which sends nothing.
+            |station| station.queue.waiting = 1,
+            |station| {
+                station.queue.ring[0] = 0x80;
+                station.queue.waiting = 1;
+            },
+            |station| {
+                station.queue.ring[255] = b'E';
+                (station.queue.front, station.queue.waiting) = (255, 2);
+            },
+            |station| station.silence = 301,
+            |station| station.inhibited = 301,
+            |station| station.sender.shift = 3,
+            |station| station.sender.count = 73,
+            |station| station.line.level = 3,
+            |station| station.line.left = 151,
+        ];
+        for change in changes {
+            let mut station = Station::fresh(Mode::Baudot45);
+            change(&mut station);
+            assert!(!station.in_range());
+        }
+    }
+
+    #[test]
+    fn a_run_cut_in_two_gives_the_same() {
+        for mode in Mode::ALL {
+            let mut heard = burst(mode, b"TOO 599");
+            heard.extend([QUIET; 400]);
+            heard.extend(burst(mode, b"Ab1"));
+            heard.extend([QUIET; 400]);
+            let mut whole = Station::fresh(mode);
+            hears(&mut whole, &[1]);
+            whole.offer(b"E9 ");
+            let before = whole;
+            let wanted = hears(&mut whole, &heard);
+            for cut in (0..heard.len()).step_by(7) {
+                let mut station = before;
+                let (mut sent, mut words) = hears(&mut station, &heard[..cut]);
+                let (more_sent, more_words) = hears(&mut station, &heard[cut..]);
+                sent.extend(more_sent);
+                words.extend(more_words);
+                assert_eq!((sent, words), wanted);
+                assert_eq!(station, whole);
+            }
+        }
+    }
+}
