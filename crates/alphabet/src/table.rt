@@ -6,6 +6,7 @@ use crate::Reads;
 use crate::Sends;
 ghost use mathlib.Core.Path.{_≡_};
 ghost use Prim.Native.Nat.{_≤_, _<_};
+ghost use Rattle.alphabet.specs.declared.Alphabet.the-variants as alphabets;
 ghost use Rattle.alphabet.specs.declared.Reads.the-variants.{Character};
 ghost use Rattle.alphabet.specs.Baudot.{readBaudot};
 ghost use Rattle.alphabet.specs.Dtmf.{readDtmf};
@@ -835,6 +836,18 @@ pub fn read_dtmf(code: LineCode) -> Reads
     Reads::NoRow
 }
 
+// What a code reads as, in a shift (which only Baudot looks at).
+pub fn reads(a: Alphabet, shift: u8, code: LineCode) -> Reads
+    requires { ⌜ (a ≡ alphabets.Baudot → code .0 < 32) ⌝ }
+    ensures { λ r. ⌜ r ≡ reads a shift (code .0) ⌝ }
+{
+    match a {
+        Alphabet::Baudot => read_baudot(shift, code),
+        Alphabet::Dtmf => read_dtmf(code),
+        Alphabet::Edt => Reads::Character(Char(code.0)),
+    }
+}
+
 // The normal form of a character: what is read from its code in its own shift; NoRow where it sends nothing.
 pub fn normal(a: Alphabet, c: Char) -> Reads
     requires { ⌜ c .0 < 128 ⌝ }
@@ -844,9 +857,5 @@ pub fn normal(a: Alphabet, c: Char) -> Reads
     let Sends::Code { shift, code } = s else {
         return Reads::NoRow;
     };
-    match a {
-        Alphabet::Baudot => read_baudot(shift, code),
-        Alphabet::Dtmf => read_dtmf(code),
-        Alphabet::Edt => Reads::Character(Char(code.0)),
-    }
+    reads(a, shift, code)
 }

@@ -17,7 +17,8 @@ use Rattle.baudot.specs.declared.Sender.{Sender}
 use Rattle.baudot.specs.declared.BaudotSent.{BaudotSent}
 use Rattle.baudot.specs.Sending.{sender, fresh, codesFor, senderFor, codesOf}
 use Rattle.baudot.specs.Opening.{isCode}
-use Rattle.baudot.specs.Entries.{sent, sendAnswer, sentOf, codesAfter, written}
+use Rattle.lists.specs.Lists.{written}
+use Rattle.baudot.specs.Entries.{sent, sendAnswer, sentOf, codesAfter}
 use Rattle.baudot.specs.Listing.{digit, lineOf, linesOf, listing}
 use Rattle.baudot.proofs.SendingRule.{codes-twice}
 use Rattle.baudot.proofs.OpeningRule.{running-letters, fresh-for}

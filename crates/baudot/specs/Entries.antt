@@ -2,9 +2,10 @@
 -- given and leaves the slice; success writes the result from the front, and the rest of the slice stays.
 use Prim.Native.Nat.{ℕ}
 use mathlib.Core.Bool.{cond, _||_}
-use mathlib.Core.List.{List, _++_}
+use mathlib.Core.List.{List}
 use lib.Dec.{eqb, leb}
-use lib.ListN.{length, drop}
+use lib.ListN.{length}
+use Rattle.lists.specs.Lists.{written}
 use Rattle.alphabet.specs.Normal.{allChars}
 use Rattle.baudot.specs.declared.BaudotSent.{BaudotSent}
 use Rattle.baudot.specs.declared.BaudotText.{BaudotText}
@@ -28,10 +29,6 @@ sentOf text shift count room =
     cond (eqb answer 0)
     (sent 0 (after .shift) (after .count) (length (codesOf (sender shift count) text)))
     (sent answer shift count 0)
-
--- A slice with a result written from its front.
-abbrev pub written : List ℕ → List ℕ → List ℕ
-written result slice = result ++ drop (length result) slice
 
 unfoldable pub codesAfter : List ℕ → ℕ → ℕ → List ℕ → List ℕ
 codesAfter text shift count codes =

@@ -1,5 +1,4 @@
 // The bare Baudot conversions: text to five-bit codes, and codes to text.
-pub mod checks;
 pub mod listing;
 pub mod reading;
 pub mod sending;

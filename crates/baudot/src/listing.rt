@@ -1,8 +1,8 @@
 // The lines of the listing program.
 ghost use mathlib.Core.Path.{_≡_};
-ghost use mathlib.Core.List.{_++_};
 ghost use Prim.Native.Nat.{_+_, _*_, _≤_, _<_};
-ghost use lib.ListN.{length, drop};
+ghost use lib.ListN.{length};
+ghost use Rattle.lists.specs.Lists.{written};
 ghost use lib.Seq.{sets};
 ghost use Rattle.baudot.specs.Listing.{digit, lineOf, linesOf, listing};
 
@@ -43,7 +43,7 @@ pub fn list_codes(text: &[u8], codes: &mut [u8], lines: &mut [u8]) -> usize
     requires { ⌜ 2 * length (now text) + 1 ≤ length (now codes) ⌝ }
     requires { ⌜ 6 * length (now codes) ≤ length (now lines) ⌝ }
     ensures { λ r. ⌜ r ≡ length (listing (now (text .entry))) ⌝ }
-    ensures { λ r. ⌜ now (lines .exit) ≡ listing (now (text .entry)) ++ drop (length (listing (now (text .entry)))) (now (lines .entry)) ⌝ }
+    ensures { λ r. ⌜ now (lines .exit) ≡ written (listing (now (text .entry))) (now (lines .entry)) ⌝ }
 {
     let s = crate::sending::cq_baudot_send(text, 0, 0, codes);
     if s.answer != 0 {

@@ -145,7 +145,7 @@ pub extern "C" fn cq_baudot_read(codes: &[u8], shift: u8, text: &mut [u8]) -> Ba
     if 2 < shift {
         return refused(1, shift);
     }
-    if !crate::checks::all_at_most(codes, 31) {
+    if !lists::checks::all_at_most(codes, 31) {
         return refused(10, shift);
     }
     if !fits(codes, text.len()) {

@@ -291,7 +291,7 @@ pub extern "C" fn cq_baudot_send(text: &[u8], shift: u8, count: u8, codes: &mut 
     if CHARACTERS_PER_SHIFT < count {
         return refused(1, shift, count);
     }
-    if !crate::checks::all_at_most(text, 127) {
+    if !lists::checks::all_at_most(text, 127) {
         return refused(3, shift, count);
     }
     let table = alphabet::table::send_table();

@@ -172,7 +172,7 @@ pub fn run(s: Calling, tones: &[u8], sent: &mut [u8]) -> Ran
             answer: 5,
         };
     }
-    if !tones::valid(tones) {
+    if !lists::checks::all_at_most(tones, tones::LAST) {
         return Ran {
             state: s,
             answer: 11,

@@ -1,6 +1,6 @@
 // The tones that are heard, and how long each must last.
 ghost use mathlib.Core.Path.{_≡_};
-ghost use Rattle.calling.specs.Tones.{lengthOf, allTones};
+ghost use Rattle.calling.specs.Tones.{lengthOf};
 
 pub const NONE: u8 = 0;
 
@@ -27,19 +27,4 @@ pub fn length(tone: u8) -> u16
         return 1_500;
     }
     1
-}
-
-// Is every heard ms none or a tone? Every one is looked at, so that the loop is compiled to vector instructions.
-pub fn valid(tones: &[u8]) -> bool
-    ensures { λ r. ⌜ r ≡ allTones (now (tones .entry)) ⌝ }
-{
-    let mut ok = true;
-    let mut i: usize = 0;
-    while i < tones.len() {
-        if LAST < tones[i] {
-            ok = false;
-        }
-        i += 1;
-    }
-    ok
 }

@@ -10,8 +10,8 @@ use lib.Seq.{getD-append-add}
 use borrow.Author.Tests.{ltb-true, ltb-false}
 use Rattle.lists.specs.Tables.{tabulate, passes}
 use Rattle.lists.proofs.Tables.{both-left, both-right, tabulate-at, passes-at}
-use Rattle.line.specs.Signal.{levelOf, digits, held, baudotSignal, sum, edtElements, edtSignal, keysSignal, signal}
-use Rattle.line.specs.Frames.{codes, longest, edtFrame}
+use Rattle.line.specs.Signal.{levelOf, digits, held, baudotSignal, sum, parityOf, edtElements, edtSignal, heldKeys, keysSignal, signal}
+use Rattle.line.specs.Packing.{codes, longest, edtFrame}
 use Rattle.alphabet.specs.declared.Mode.{Mode}
 use Rattle.alphabet.specs.declared.Mode.the-variants.{Baudot45, Baudot50, Dtmf, Edt}
 use Rattle.alphabet.specs.Modes.{alphabetOf}
@@ -61,6 +61,21 @@ module _ (e n : ℕ) (t : T (baudotTest e n)) (k : ℕ) (h : k < 32) where
   pub baudot-at : (m : ℕ) → m < n → getD (baudotSignal e k) m 0 ≡ frameLevel (192 + 2 * k) (m / e)
   baudot-at m g = ap (λ (l : List ℕ). getD l m 0) baudot-list ∙ tabulate-at (λ (i : ℕ). frameLevel (192 + 2 * k) (i / e)) 0 n m g
 
+-- the parity of seven digits, as the code adds it up
+abbrev pub foldedSum : ℕ → ℕ
+foldedSum c = (c + c / 2 + c / 4 + c / 8 + c / 16 + c / 32 + c / 64) % 2
+
+parityTest : Bool
+parityTest = passes (λ (c : ℕ). eqb (foldedSum c) (parityOf c)) 128 0
+
+parity-test : T parityTest
+unfolding parityTest passes digits sum
+parity-test = tt
+
+pub parity-sum : (c : ℕ) → c < 128 → foldedSum c ≡ parityOf c
+unfolding parityTest
+parity-sum c h = eqb→eq (foldedSum c) (parityOf c) (passes-at (λ (i : ℕ). eqb (foldedSum i) (parityOf i)) 128 parity-test c h)
+
 -- an EDT code's elements by its frame
 edtTest : Bool
 edtTest =
@@ -91,10 +106,6 @@ behind-held n x l m h =
     ap (λ (i : ℕ). getD (replicate n x ++ l) i 0) e ∙ getD-append-add (replicate n x) l (m - n) 0
 
 -- a key sequence by its ms, with keys of any length and any quiet behind them
-heldKeys : ℕ → ℕ → List ℕ → List ℕ
-heldKeys on off [] = []
-heldKeys on off (k ∷ ks) = replicate on k ++ (replicate off 0 ++ heldKeys on off ks)
-
 keys-first : (on off k : ℕ) (ks : List ℕ) (m : ℕ) → m < on → getD (heldKeys on off (k ∷ ks)) m 0 ≡ k
 unfolding heldKeys
 keys-first on off k ks m h = in-held on k (replicate off 0 ++ heldKeys on off ks) m h
@@ -109,15 +120,11 @@ unfolding heldKeys
 keys-next on off k ks m h =
     behind-held on k (replicate off 0 ++ heldKeys on off ks) m (omega arith) ∙ behind-held off 0 (heldKeys on off ks) (m - on) (omega arith)
 
-signal-held : (ks : List ℕ) → keysSignal ks ≡ heldKeys 70 50 ks
-unfolding keysSignal heldKeys
-signal-held [] = refl
-signal-held (k ∷ ks) = ap (λ (l : List ℕ). replicate 70 k ++ (replicate 50 0 ++ l)) (signal-held ks)
-
-held-on : (ks : List ℕ) (m : ℕ) → m % 120 < 70 → getD (heldKeys 70 50 ks) m 0 ≡ getD ks (m / 120) 0
+-- 70 of each 120 ms are the key's, the others quiet
+pub keys-on : (ks : List ℕ) (m : ℕ) → m % 120 < 70 → getD (heldKeys 70 50 ks) m 0 ≡ getD ks (m / 120) 0
 unfolding heldKeys
-held-on [] m h = refl
-held-on (k ∷ ks) m h = go (ltb m 120) refl (held-on ks (m - 70 - 50))
+keys-on [] m h = refl
+keys-on (k ∷ ks) m h = go (ltb m 120) refl (keys-on ks (m - 70 - 50))
   where
     go : (b : Bool) → ltb m 120 ≡ b → ((m - 70 - 50) % 120 < 70 → getD (heldKeys 70 50 ks) (m - 70 - 50) 0 ≡ getD ks ((m - 70 - 50) / 120) 0)
         → getD (heldKeys 70 50 (k ∷ ks)) m 0 ≡ getD (k ∷ ks) (m / 120) 0
@@ -130,21 +137,14 @@ held-on (k ∷ ks) m h = go (ltb m 120) refl (held-on ks (m - 70 - 50))
         let z : m / 120 ≡ suc ((m - 70 - 50) / 120) = omega arith in
         keys-next 70 50 k ks m (omega arith) ∙ i (omega arith) ∙ ap (λ (n : ℕ). getD (k ∷ ks) n 0) (sym z)
 
-held-off : (ks : List ℕ) (m : ℕ) → 70 ≤ m % 120 → getD (heldKeys 70 50 ks) m 0 ≡ 0
+pub keys-off : (ks : List ℕ) (m : ℕ) → 70 ≤ m % 120 → getD (heldKeys 70 50 ks) m 0 ≡ 0
 unfolding heldKeys
-held-off [] m h = refl
-held-off (k ∷ ks) m h = go (ltb m 120) refl (held-off ks (m - 70 - 50))
+keys-off [] m h = refl
+keys-off (k ∷ ks) m h = go (ltb m 120) refl (keys-off ks (m - 70 - 50))
   where
     go : (b : Bool) → ltb m 120 ≡ b → (70 ≤ (m - 70 - 50) % 120 → getD (heldKeys 70 50 ks) (m - 70 - 50) 0 ≡ 0) → getD (heldKeys 70 50 (k ∷ ks)) m 0 ≡ 0
     go true e i = let l = ltb-true m 120 e in keys-quiet 70 50 k ks m (omega arith) (omega arith)
     go false e i = let l = ltb-false m 120 e in keys-next 70 50 k ks m (omega arith) ∙ i (omega arith)
-
--- 70 of each 120 ms are the key's, the others quiet
-pub keys-on : (ks : List ℕ) (m : ℕ) → m % 120 < 70 → getD (keysSignal ks) m 0 ≡ getD ks (m / 120) 0
-keys-on ks m h = ap (λ (l : List ℕ). getD l m 0) (signal-held ks) ∙ held-on ks m h
-
-pub keys-off : (ks : List ℕ) (m : ℕ) → 70 ≤ m % 120 → getD (keysSignal ks) m 0 ≡ 0
-keys-off ks m h = ap (λ (l : List ℕ). getD l m 0) (signal-held ks) ∙ held-off ks m h
 
 -- the level of a mode's code, from its frame
 baudot-level : (e n : ℕ) → T (baudotTest e n) → (k m f r : ℕ) → k < 32 → m < n → f ≡ 192 + 2 * k → r ≡ frameLevel f (m / e)

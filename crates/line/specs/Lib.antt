@@ -1,2 +1,11 @@
+pub mod Steps
 pub mod Signal
+pub mod Packing
+pub mod Samples
 pub mod Frames
+pub mod Keys
+pub mod Reader
+pub mod Words
+pub mod Range
+pub mod Text
+pub mod Resting

@@ -7,7 +7,7 @@ use lib.ListN.{getD, replicate}
 use Rattle.lists.specs.Tables.{tabulate}
 use Rattle.alphabet.specs.declared.Mode.{Mode}
 use Rattle.alphabet.specs.declared.Mode.the-variants.{Baudot45, Baudot50, Dtmf, Edt}
-use Rattle.alphabet.specs.Modes.{elementOf}
+use Rattle.alphabet.specs.Modes.{elementOf, preambleOf}
 use Rattle.alphabet.specs.Dtmf.{keysOf}
 
 -- A sent or heard ms: 0 quiet, 1 mark, 2 space; in DTMF 0 quiet or a key.
@@ -43,18 +43,26 @@ unfoldable pub sum : List ℕ → ℕ
 sum [] = 0
 sum (d ∷ ds) = d + sum ds
 
--- "EDT alphabet": start, seven bits lowest first, even parity, two stop elements: eleven.
+-- "EDT alphabet": even parity: with it the sum of the digits is even.
+abbrev pub parityOf : ℕ → ℕ
+parityOf c = sum (digits 7 c) % 2
+
+-- Start, seven bits lowest first, even parity, two stop elements: eleven.
 unfoldable pub edtElements : ℕ → List ℕ
-edtElements c = 0 ∷ digits 7 c ++ sum (digits 7 c) % 2 ∷ 1 ∷ 1 ∷ []
+edtElements c = 0 ∷ digits 7 c ++ parityOf c ∷ 1 ∷ 1 ∷ []
 
 -- An EDT code: 100 ms; ms m belongs to element floor(11 m / 100).
 unfoldable pub edtSignal : ℕ → List ℕ
 edtSignal c = tabulate (λ (m : ℕ). levelOf (getD (edtElements c) (11 * m / 100) 1)) 100 0
 
+-- Keys one after the other, each `on` ms, then `off` quiet.
+unfoldable pub heldKeys : ℕ → ℕ → List ℕ → List ℕ
+heldKeys on off [] = []
+heldKeys on off (k ∷ ks) = replicate on k ++ (replicate off quiet ++ heldKeys on off ks)
+
 -- A DTMF key: 70 ms, then 50 quiet.
-unfoldable pub keysSignal : List ℕ → List ℕ
-keysSignal [] = []
-keysSignal (k ∷ ks) = replicate 70 k ++ (replicate 50 quiet ++ keysSignal ks)
+abbrev pub keysSignal : List ℕ → List ℕ
+keysSignal ks = heldKeys 70 50 ks
 
 -- The line signal of a code.
 unfoldable pub signal : Mode → ℕ → List ℕ
@@ -62,3 +70,12 @@ signal Baudot45 k = baudotSignal (elementOf Baudot45) k
 signal Baudot50 k = baudotSignal (elementOf Baudot50) k
 signal Dtmf k = keysSignal (keysOf k)
 signal Edt k = edtSignal k
+
+-- "The station's turn": the preamble (there: lead), all of mark.
+abbrev pub preamble : Mode → List ℕ
+preamble mode = replicate (preambleOf mode) mark
+
+-- Codes follow without gap.
+unfoldable pub signals : Mode → List ℕ → List ℕ
+signals mode [] = []
+signals mode (k ∷ ks) = signal mode k ++ signals mode ks

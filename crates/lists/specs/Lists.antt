@@ -1,10 +1,15 @@
--- Tests over the elements of a list.
+-- Tests over the elements of a list; a result that is written into a slice.
 use mathlib.Core.Bool.{Bool, true, _&&_}
-use mathlib.Core.List.{List, [], _∷_}
+use mathlib.Core.List.{List, [], _∷_, _++_}
 use Prim.Native.Nat.{ℕ}
 use lib.Dec.{leb}
+use lib.ListN.{length, drop}
 
 -- every number is at most m
 unfoldable pub allAtMost : ℕ → List ℕ → Bool
 allAtMost m [] = true
 allAtMost m (x ∷ xs) = leb x m && allAtMost m xs
+
+-- a slice with a result written from its front
+abbrev pub written : List ℕ → List ℕ → List ℕ
+written result slice = result ++ drop (length result) slice

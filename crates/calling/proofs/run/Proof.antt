@@ -15,7 +15,7 @@ in-range : (c : tie.Else1) → inRange (c .before .before .before .before .args 
 in-range c = sym (c .before .in-range .ensures) ∙ not-false _ (c .if1 .left)
 
 all-tones : (c : tie.Else3) → allTones (c .before .before .before .before .before .before .before .args .tones .now) ≡ true
-all-tones c = sym (c .before .valid .ensures) ∙ not-false _ (c .if3 .left)
+all-tones c = sym (c .before .all-at-most .ensures) ∙ not-false _ (c .if3 .left)
 
 in-range-requires : tie.Need-in-range-requires
 in-range-requires c κs = search needs
@@ -27,14 +27,14 @@ returns c =
 returns-2 : tie.Need-returns-2
 returns-2 c = refused _ _ _ 5 (λ z. omega arith) (answer-5 _ _ _ (in-range (c .before)) (c .if2 .taken))
 
-valid-requires : tie.Need-valid-requires
-valid-requires c κs = search needs
+all-at-most-requires : tie.Need-all-at-most-requires
+all-at-most-requires c κs = search needs
 
 returns-3 : tie.Need-returns-3
 returns-3 c =
     let b = c .before .before in
     refused _ _ _ 11 (λ z. omega arith)
-    (answer-11 _ _ _ (in-range (b .before)) (b .if2 .left) (sym (c .before .valid .ensures) ∙ not-true _ (c .if3 .taken)))
+    (answer-11 _ _ _ (in-range (b .before)) (b .if2 .left) (sym (c .before .all-at-most .ensures) ∙ not-true _ (c .if3 .taken)))
 
 returns-4 : tie.Need-returns-4
 returns-4 c =
@@ -62,7 +62,7 @@ run-spec =
     in-range-requires
     returns
     returns-2
-    valid-requires
+    all-at-most-requires
     returns-3
     returns-4
     run-all-requires
