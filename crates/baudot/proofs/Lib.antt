@@ -7,5 +7,4 @@ pub mod RoundTrip
 pub mod Runs
 pub mod Cuts
 pub mod BothShifts
-pub mod Examples
 pub mod ListingRule

@@ -4,4 +4,3 @@ pub mod Reading
 pub mod Counting
 pub mod Entries
 pub mod Listing
-pub mod Examples

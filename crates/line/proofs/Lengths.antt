@@ -92,8 +92,3 @@ module _ (n : ℕ) (h : n < 256) where
 -- the length of a signal in a mode that is known
 pub length-in : (d o : Mode) (k n : ℕ) → d ≡ o → n ≡ length (signal o k) → n ≡ length (signal d k)
 length-in d o k n p q = q ∙ ap (λ (x : Mode). length (signal x k)) (sym p)
-
--- EDT A: elements 0 1000001 0 11
-pub edt-A : edtElements 65 ≡ 0 ∷ 1 ∷ 0 ∷ 0 ∷ 0 ∷ 0 ∷ 0 ∷ 1 ∷ 0 ∷ 1 ∷ 1 ∷ []
-unfolding edtElements digits sum
-edt-A = refl

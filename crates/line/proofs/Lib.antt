@@ -13,3 +13,4 @@ pub mod Chain
 pub mod BaudotChain
 pub mod DtmfChain
 pub mod WholeChain
+pub mod Examples

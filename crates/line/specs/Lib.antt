@@ -9,3 +9,4 @@ pub mod Words
 pub mod Range
 pub mod Text
 pub mod Resting
+pub mod Examples
