@@ -1,16 +1,2 @@
-pub mod Samples
-pub mod Levels
-pub mod Lengths
 pub mod Outcomes
 pub mod Range
-pub mod Steps
-pub mod FrameRules
-pub mod AnyElement
-pub mod KeyRules
-pub mod EdtReading
-pub mod Resting
-pub mod Chain
-pub mod BaudotChain
-pub mod DtmfChain
-pub mod WholeChain
-pub mod Examples

@@ -14,16 +14,17 @@ use Rattle.alphabet.specs.declared.Reads.{Reads}
 use Rattle.alphabet.specs.Modes.{alphabetOf}
 use Rattle.alphabet.specs.Dtmf.{withMark, dtmfCode}
 use Rattle.alphabet.specs.Normal.{reads}
-use Rattle.line.specs.declared.frames.Found.{Found}
-use Rattle.line.specs.declared.frames.Found.the-variants.{Code}
-use Rattle.line.specs.declared.reader.Event.{Event}
-use Rattle.line.specs.declared.reader.Event.the-variants.{Fault, Nothing}
-use Rattle.line.specs.declared.reader.Outcome.{Outcome}
-use Rattle.line.specs.Packing.{FoundIn, outcome}
-use Rattle.line.specs.Range.{frameCodes}
+use Rattle.frames.specs.declared.Found.{Found}
+use Rattle.frames.specs.declared.Found.the-variants.{Code}
+use Rattle.line.specs.declared.Event.{Event}
+use Rattle.line.specs.declared.Event.the-variants.{Fault, Nothing}
+use Rattle.line.specs.declared.Outcome.{Outcome}
+use Rattle.frames.specs.Packing.{FoundIn}
+use Rattle.line.specs.Packing.{outcome}
+use Rattle.frames.specs.Range.{frameCodes}
 use Rattle.line.specs.Reader.{eventOf, keyEvent, prefixAfter, hearFrame, hearKey, hear}
-use Rattle.line.specs.declared.reader.Reader.{Reader}
-use Rattle.line.specs.declared.reader.Reading.{Reading}
+use Rattle.line.specs.declared.Reader.{Reader}
+use Rattle.line.specs.declared.Reading.{Reading}
 
 isBaudot : Alphabet → Bool
 isBaudot Baudot = true

@@ -1,12 +1,4 @@
-pub mod Steps
-pub mod Signal
-pub mod Packing
-pub mod Samples
-pub mod Frames
-pub mod Keys
 pub mod Reader
 pub mod Words
+pub mod Packing
 pub mod Range
-pub mod Text
-pub mod Resting
-pub mod Examples

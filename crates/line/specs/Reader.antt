@@ -13,20 +13,20 @@ use Rattle.alphabet.specs.Baudot.{letters}
 use Rattle.alphabet.specs.Dtmf.{isDigit, isMark, withMark, dtmfCode}
 use Rattle.alphabet.specs.Normal.{reads}
 use Rattle.baudot.specs.Reading.{shiftBy}
-use Rattle.line.specs.declared.frames.Frame.{Frame}
-use Rattle.line.specs.declared.frames.Found.{Found}
-use Rattle.line.specs.declared.frames.Found.the-variants.{Nothing as nothing, Fault as fault, Code}
-use Rattle.line.specs.declared.frames.FrameRead.{FrameRead}
-use Rattle.line.specs.declared.keys.Keys.{Keys}
-use Rattle.line.specs.declared.keys.KeyRead.{KeyRead}
-use Rattle.line.specs.declared.reader.Event.{Event}
-use Rattle.line.specs.declared.reader.Event.the-variants.{Character, Fault, Nothing}
-use Rattle.line.specs.declared.reader.Reader.{Reader}
-use Rattle.line.specs.declared.reader.Reading.{Reading}
-use Rattle.line.specs.Signal.{quiet}
-use Rattle.line.specs.Samples.{samplesOf}
-use Rattle.line.specs.Frames.{hunting, frameStep}
-use Rattle.line.specs.Keys.{ready, keyStep}
+use Rattle.frames.specs.declared.Frame.{Frame}
+use Rattle.frames.specs.declared.Found.{Found}
+use Rattle.frames.specs.declared.Found.the-variants.{Nothing as nothing, Fault as fault, Code}
+use Rattle.frames.specs.declared.FrameRead.{FrameRead}
+use Rattle.keys.specs.declared.Keys.{Keys}
+use Rattle.keys.specs.declared.KeyRead.{KeyRead}
+use Rattle.line.specs.declared.Event.{Event}
+use Rattle.line.specs.declared.Event.the-variants.{Character, Fault, Nothing}
+use Rattle.line.specs.declared.Reader.{Reader}
+use Rattle.line.specs.declared.Reading.{Reading}
+use Rattle.signal.specs.Signal.{quiet}
+use Rattle.frames.specs.Samples.{samplesOf}
+use Rattle.frames.specs.Frames.{hunting, frameStep}
+use Rattle.keys.specs.Keys.{ready, keyStep}
 
 -- A reader: its frame, its keys, its shift (1 letters, 2 figures; document 01: case), its prefix (there: marks).
 abbrev pub reader : Frame → Keys → ℕ → ℕ → Reader

@@ -2,10 +2,10 @@
 use Prim.Native.Nat.{ℕ}
 use mathlib.Core.List.{List, [], _∷_, _++_}
 use Rattle.alphabet.specs.declared.Mode.{Mode}
-use Rattle.line.specs.declared.reader.Event.{Event}
-use Rattle.line.specs.declared.reader.Event.the-variants.{Character, Fault, Nothing}
-use Rattle.line.specs.declared.reader.Reader.{Reader}
-use Rattle.line.specs.Steps.{stateAfter, outputs}
+use Rattle.line.specs.declared.Event.{Event}
+use Rattle.line.specs.declared.Event.the-variants.{Character, Fault, Nothing}
+use Rattle.line.specs.declared.Reader.{Reader}
+use Rattle.lists.specs.Steps.{stateAfter, outputs}
 use Rattle.line.specs.Reader.{hear}
 
 -- Kind 0 in bits 31 to 28, a character in bits 6 to 0.

@@ -1,5 +1,5 @@
 // Output words: 32 bits, the kind in bits 31 to 28.
-use crate::reader::Event;
+use crate::Event;
 ghost use mathlib.Core.Path.{_≡_};
 ghost use Prim.Native.Nat.{_+_, _<_};
 ghost use lib.ListN.{length};

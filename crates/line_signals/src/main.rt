@@ -5,7 +5,7 @@ use alphabet::Mode;
 use libc::STDOUT_FILENO;
 ghost use Prim.Native.Nat.{_+_, _≤_, _<_};
 ghost use Rattle.alphabet.specs.Modes.{alphabetOf};
-ghost use Rattle.line.specs.Packing.{codes};
+ghost use Rattle.signal.specs.Packing.{codes};
 
 // A level, and for how many ms in a row.
 struct Run {
@@ -52,11 +52,11 @@ fn with_ms(r: Run, level: u8) -> Run
 fn print_signal(mode: Mode, code: LineCode)
     requires { ⌜ code .0 < codes (alphabetOf mode) ⌝ }
 {
-    let ms = line::signal::duration(mode, code);
+    let ms = signal::duration(mode, code);
     let mut run = Run { level: 0, ms: 0 };
     let mut at: u16 = 0;
     while at < ms {
-        run = with_ms(run, line::signal::level(mode, code, at));
+        run = with_ms(run, signal::level(mode, code, at));
         at += 1;
     }
     print_run(run);

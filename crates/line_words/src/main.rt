@@ -4,8 +4,8 @@
 use alphabet::Mode;
 use libc::STDIN_FILENO;
 use libc::STDOUT_FILENO;
-use line::reader::Event;
-use line::reader::Reader;
+use line::Event;
+use line::Reader;
 ghost use Prim.Native.Nat.{_≤_};
 ghost use Rattle.line.specs.Range.{ReaderIn};
 
@@ -73,7 +73,7 @@ fn hear(l: Listener, level: u8) -> Listener
 {
     let mode = l.mode;
     let before = l.reader;
-    let r = line::reader::hear(mode, before, level);
+    let r = line::hear(mode, before, level);
     let event = r.event;
     print_word(l.ms, event);
     let reader = r.reader;
@@ -93,7 +93,7 @@ fn inhibit(l: Listener) -> Listener
     let before = l.reader;
     Listener {
         mode,
-        reader: line::reader::inhibited(before),
+        reader: line::inhibited(before),
         ms: std::num::wrapping_add_u64(l.ms, 1),
     }
 }

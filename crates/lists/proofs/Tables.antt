@@ -8,6 +8,10 @@ use lib.Dec.{T}
 use lib.ListN.{length, getD}
 use Rattle.lists.specs.Tables.{tabulate, passes}
 
+pub is-true : (b : Bool) → T b → b ≡ true
+is-true true t = refl
+is-true false t = absurd t
+
 pub both-left : (a b : Bool) → T (a && b) → T a
 both-left true b t = tt
 both-left false b t = t

@@ -8,10 +8,10 @@ use Prim.Native.Nat.{ℕ}
 use native.Mathlib.Omega.{arith}
 use lib.Dec.{T, T-not, eqb, eqb-refl}
 use denote.Enum.Declared
-use Rattle.line.specs.declared.reader.Event.{Event}
-use Rattle.line.specs.declared.reader.Event.the-variants.{Character, Fault, Nothing}
+use Rattle.line.specs.declared.Event.{Event}
+use Rattle.line.specs.declared.Event.the-variants.{Character, Fault, Nothing}
 use Rattle.line.specs.Words.{wordOf}
-use Rattle.line.proofs.reader.Event as declared
+use Rattle.line.proofs.Event as declared
 use borrow.Author.Needs.{needs}
 use Rattle.line.proofs.words.put_word.Statement.{statement}
 use Rattle.line.proofs.words.put_word.Tie as tie

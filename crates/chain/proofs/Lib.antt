@@ -1,0 +1,10 @@
+pub mod FrameRules
+pub mod AnyElement
+pub mod EdtReading
+pub mod KeyRules
+pub mod Resting
+pub mod Chain
+pub mod BaudotChain
+pub mod DtmfChain
+pub mod WholeChain
+pub mod Examples

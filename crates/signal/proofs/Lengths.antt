@@ -1,0 +1,93 @@
+-- How many ms a signal has, and document 01's example of EDT.
+use mathlib.Core.Path.{_≡_, _∙_, refl, sym, ap}
+use mathlib.Core.Bool.{Bool, cond, _&&_}
+use mathlib.Core.List.{List, [], _∷_, _++_}
+use Prim.Native.Nat.{ℕ, zero, suc, _+_, _*_, _/_, _<_, _≤_}
+use native.Mathlib.Omega.{arith}
+use native.Mathlib.Nat.{mul-zero, mul-suc, add-comm}
+use lib.Dec.{T, eqb, leb, ltb, eqb→eq}
+use borrow.Author.Tests.{leb-true}
+use lib.ListN.{length, getD, replicate, length-replicate, length-append}
+use Rattle.lists.specs.Tables.{tabulate, passes}
+use Rattle.lists.proofs.Tables.{is-true, tabulate-length, both-left, both-right, passes-at}
+use Rattle.alphabet.specs.Print.{keys}
+use Rattle.alphabet.specs.declared.Mode.{Mode}
+use Rattle.alphabet.specs.declared.Mode.the-variants.{Baudot45, Baudot50, Dtmf, Edt}
+use Rattle.alphabet.specs.Dtmf.{prefixes, keysOf}
+use Rattle.signal.specs.Signal.{levelOf, digits, held, baudotSignal, sum, edtElements, edtSignal, heldKeys, keysSignal, signal}
+
+digits-length : (n k : ℕ) → length (digits n k) ≡ n
+unfolding digits
+digits-length zero k = refl
+digits-length (suc n) k = ap suc (digits-length n (k / 2))
+
+held-length : (e : ℕ) (ds : List ℕ) → length (held e ds) ≡ e * length ds
+unfolding held
+held-length e [] = sym (mul-zero e)
+held-length e (d ∷ ds) =
+    let a = length-append (replicate e (levelOf d)) (held e ds) in
+    let b = length-replicate e (levelOf d) in
+    let i = held-length e ds in
+    a ∙ ap (λ (n : ℕ). n + length (held e ds)) b ∙ ap (λ (n : ℕ). e + n) i ∙ sym (mul-suc e (length ds) ∙ add-comm (e * length ds) e)
+
+-- start, five elements, stop
+pub baudot-length : (e k : ℕ) → length (baudotSignal e k) ≡ e * 6 + 3 * e / 2
+unfolding baudotSignal
+baudot-length e k =
+    length-append (held e (0 ∷ digits 5 k)) (replicate (3 * e / 2) 1)
+    ∙ ap (λ (n : ℕ). n + length (replicate {A = ℕ} (3 * e / 2) 1)) (held-length e (0 ∷ digits 5 k) ∙ ap (λ (n : ℕ). e * suc n) (digits-length 5 k))
+    ∙ ap (λ (n : ℕ). e * 6 + n) (length-replicate {A = ℕ} (3 * e / 2) 1)
+
+pub baudot-165 : (k : ℕ) → length (signal Baudot45 k) ≡ 165
+unfolding signal
+baudot-165 k = baudot-length 22 k
+
+pub baudot-150 : (k : ℕ) → length (signal Baudot50 k) ≡ 150
+unfolding signal
+baudot-150 k = baudot-length 20 k
+
+pub edt-100 : (c : ℕ) → length (signal Edt c) ≡ 100
+unfolding signal edtSignal
+edt-100 c = tabulate-length (λ (m : ℕ). levelOf (getD (edtElements c) (11 * m / 100) 1)) 100 0
+
+keys-120 : (ks : List ℕ) → length (keysSignal ks) ≡ 120 * length ks
+unfolding heldKeys
+keys-120 [] = refl
+keys-120 (k ∷ ks) =
+    let i = keys-120 ks in
+    let a = length-append (replicate 70 k) (replicate 50 0 ++ keysSignal ks) in
+    let b = length-append {A = ℕ} (replicate 50 0) (keysSignal ks) in
+    let p = length-replicate 70 k in
+    let q = length-replicate {A = ℕ} 50 0 in
+    omega arith
+
+-- each key has 120 ms, the quiet behind it included
+pub dtmf-120 : (c : ℕ) → length (signal Dtmf c) ≡ 120 * length (keysOf c)
+unfolding signal
+dtmf-120 c = keys-120 (keysOf c)
+
+-- the keys of a code by its prefix
+abbrev pub keyCount : ℕ → ℕ
+keyCount p = cond (eqb p 0) 1 (cond (ltb p 3) 2 (cond (ltb p 7) 3 (cond (ltb p 15) 4 1)))
+
+keyCountTest : Bool
+keyCountTest = passes (λ (n : ℕ). eqb (length (keysOf n)) (keyCount (n / 16)) && leb (length (keysOf n)) 4) 256 0
+
+key-count-test : T keyCountTest
+unfolding keyCountTest passes keysOf keys prefixes
+key-count-test = tt
+
+module _ (n : ℕ) (h : n < 256) where
+  both : T (eqb (length (keysOf n)) (keyCount (n / 16)) && leb (length (keysOf n)) 4)
+  unfolding keyCountTest
+  both = passes-at (λ (i : ℕ). eqb (length (keysOf i)) (keyCount (i / 16)) && leb (length (keysOf i)) 4) 256 key-count-test n h
+
+  pub key-count : length (keysOf n) ≡ keyCount (n / 16)
+  key-count = eqb→eq _ _ (both-left (eqb (length (keysOf n)) (keyCount (n / 16))) (leb (length (keysOf n)) 4) both)
+
+  pub four-keys : length (keysOf n) ≤ 4
+  four-keys = leb-true _ 4 (is-true _ (both-right (eqb (length (keysOf n)) (keyCount (n / 16))) (leb (length (keysOf n)) 4) both))
+
+-- the length of a signal in a mode that is known
+pub length-in : (d o : Mode) (k n : ℕ) → d ≡ o → n ≡ length (signal o k) → n ≡ length (signal d k)
+length-in d o k n p q = q ∙ ap (λ (x : Mode). length (signal x k)) (sym p)

@@ -1,0 +1,24 @@
+-- How the code goes about it: a frame as one number, the first element lowest; the bounds that its functions ask for.
+use Prim.Native.Nat.{ℕ, _+_, _*_}
+use Rattle.alphabet.specs.declared.Alphabet.{Alphabet}
+use Rattle.alphabet.specs.declared.Alphabet.the-variants.{Baudot, Dtmf as dtmf, Edt as edt}
+use Rattle.alphabet.specs.declared.Mode.{Mode}
+use Rattle.alphabet.specs.declared.Mode.the-variants.{Baudot45, Baudot50, Dtmf, Edt}
+use Rattle.signal.specs.Signal.{parityOf}
+
+-- the codes of an alphabet are below this
+abbrev pub codes : Alphabet → ℕ
+codes Baudot = 32
+codes dtmf = 256
+codes edt = 128
+
+-- no signal of a mode has more ms than this
+abbrev pub longest : Mode → ℕ
+longest Baudot45 = 165
+longest Baudot50 = 150
+longest Dtmf = 480
+longest Edt = 100
+
+-- the digits of an EDT frame: two stops 1, the parity, the code, start 0
+abbrev pub edtFrame : ℕ → ℕ
+edtFrame c = 1536 + 256 * parityOf c + 2 * c
