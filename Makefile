@@ -2,7 +2,7 @@
 # make test      the gate: every proof and every test, from nothing
 # make lib       target/staticlib/libbaudot.a and libcalling.a, for hosts in C
 # make bench     speed of the engine beside the reference
-# make vectors   rewrites the expected table listings from the reference
+# make vectors   rewrites the expected output of the test programs from the reference
 #
 # Needs rt, gcc and cargo, and no network. No target needs another one first.
 
@@ -32,8 +32,9 @@ bench: lib
 	target/cargo/release/bench
 
 vectors:
-	$(CARGO_BUILD) --bin tables --bin calling_tables
-	target/cargo/release/tables >target/tables
-	cp target/tables crates/alphabet_tables/stdout
-	target/cargo/release/calling_tables >target/calling_tables
-	cp target/calling_tables crates/calling_tables/stdout
+	$(CARGO_BUILD) --bin tables --bin calling_tables --bin line_signals --bin line_words
+	target/cargo/release/tables >target/vectors && cp target/vectors crates/alphabet_tables/stdout
+	target/cargo/release/calling_tables >target/vectors && cp target/vectors crates/calling_tables/stdout
+	target/cargo/release/line_signals >target/vectors && cp target/vectors crates/line_signals/stdout
+	target/cargo/release/line_words input >target/vectors && cp target/vectors crates/line_words/stdin
+	target/cargo/release/line_words words <crates/line_words/stdin >target/vectors && cp target/vectors crates/line_words/stdout
