@@ -1,0 +1,2 @@
+pub mod Waiters
+pub mod Laws

@@ -1,0 +1,140 @@
+-- Laws on the characters that wait.
+use mathlib.Core.Path.{_≡_, _∙_, refl, sym, ap}
+use mathlib.Core.Bool.{Bool, true, false, cond, _&&_}
+use mathlib.Core.List.{List, [], _∷_, _++_}
+use Prim.Native.Nat.{ℕ, zero, suc, _+_, _-_, _<_, _≤_}
+use native.Mathlib.Omega.{arith}
+use native.Mathlib.Nat.{add-zero, add-assoc}
+use native.Mathlib.Numerals.{add-one}
+use lib.Dec.{leb}
+use lib.ListN.{length, getD, set, drop, drop-of-length-le, length-append, length-drop, length-set}
+use lib.Seq.{sets, drop-cons, drop-drop, drop-set-lt, getD-drop, length-sets}
+use Rattle.lists.proofs.Lists.{sets-append, sets-front}
+use Rattle.alphabet.specs.declared.Alphabet.{Alphabet}
+use Rattle.queue.specs.Queue.{waits, waiters, allWait, moved}
+
+module _ (a : Alphabet) where
+  -- one character after the other
+  pub waiters-cons : (c : ℕ) (cs : List ℕ) → waiters a (c ∷ cs) ≡ waiters a (c ∷ []) ++ waiters a cs
+  unfolding waiters
+  waiters-cons c cs = go (waits a c)
+    where
+      go : (b : Bool) → cond b (c ∷ waiters a cs) (waiters a cs) ≡ cond b (c ∷ []) [] ++ waiters a cs
+      go true = refl
+      go false = refl
+
+  pub waiters-append : (cs ds : List ℕ) → waiters a (cs ++ ds) ≡ waiters a cs ++ waiters a ds
+  unfolding waiters
+  waiters-append [] ds = refl
+  waiters-append (c ∷ cs) ds = go (waits a c) (waiters-append cs ds)
+    where
+      go : (b : Bool) → waiters a (cs ++ ds) ≡ waiters a cs ++ waiters a ds → cond b (c ∷ waiters a (cs ++ ds)) (waiters a (cs ++ ds)) ≡ cond b (c ∷ waiters a cs) (waiters a cs) ++ waiters a ds
+      go true e = ap (λ (l : List ℕ). c ∷ l) e
+      go false e = e
+
+  -- one that waits, and one that does not
+  pub waiter : (c : ℕ) → waits a c ≡ true → waiters a (c ∷ []) ≡ c ∷ []
+  unfolding waiters
+  waiter c e = rw e refl
+
+  pub no-waiter : (c : ℕ) → waits a c ≡ false → waiters a (c ∷ []) ≡ []
+  unfolding waiters
+  no-waiter c e = rw e refl
+
+  -- what is left of a text at a place
+  pub waiters-left : (text : List ℕ) (i : ℕ) → i < length text → waiters a (drop i text) ≡ waiters a (getD text i 0 ∷ []) ++ waiters a (drop (i + 1) text)
+  waiters-left text i h = rw (add-one, drop-cons text i 0 h) (waiters-cons (getD text i 0) (drop (suc i) text))
+
+  pub waiters-end : (text : List ℕ) (i : ℕ) → length text ≤ i → waiters a (drop i text) ≡ []
+  unfolding waiters
+  waiters-end text i h = rw (drop-of-length-le text h)
+
+  pub left-length : (text : List ℕ) (i : ℕ) → i < length text → length (waiters a (drop i text)) ≡ length (waiters a (getD text i 0 ∷ [])) + length (waiters a (drop (i + 1) text))
+  left-length text i h = ap length (waiters-left text i h) ∙ length-append (waiters a (getD text i 0 ∷ [])) (waiters a (drop (i + 1) text))
+
+  -- the test over what is left
+  pub wait-left : (cs : List ℕ) (i : ℕ) → i < length cs → allWait a (drop i cs) ≡ (waits a (getD cs i 0) && allWait a (drop (i + 1) cs))
+  unfolding allWait
+  wait-left cs i h = rw (add-one, drop-cons cs i 0 h)
+
+  pub wait-end : (cs : List ℕ) (i : ℕ) → length cs ≤ i → allWait a (drop i cs) ≡ true
+  unfolding allWait
+  wait-end cs i h = rw (drop-of-length-le cs h)
+
+  pub waiters-most : (cs : List ℕ) → length (waiters a cs) ≤ length cs
+  unfolding waiters
+  waiters-most [] = omega arith
+  waiters-most (c ∷ cs) = go (waits a c) (waiters-most cs)
+    where
+      go : (b : Bool) → length (waiters a cs) ≤ length cs → length (cond b (c ∷ waiters a cs) (waiters a cs)) ≤ suc (length cs)
+      go true h = omega arith
+      go false h = omega arith
+
+  -- characters that are written at a place: what is left of the text, behind what stands there, is the whole
+  pub record Putting (text chars₀ : List ℕ) (at : ℕ) (chars : List ℕ) (n i : ℕ) : Type 0 where
+    pub size : length chars ≡ length chars₀
+    pub left : n + length (waiters a (drop i text)) ≡ at + length (waiters a text)
+    pub whole : sets chars n (waiters a (drop i text)) ≡ sets chars₀ at (waiters a text)
+
+  pub putting-start : (text chars₀ : List ℕ) (at : ℕ) → Putting text chars₀ at chars₀ at 0
+  putting-start text chars₀ at = record { size = refl; left = refl; whole = refl }
+
+  module _ (text chars₀ : List ℕ) (at : ℕ) (chars : List ℕ) (n i : ℕ) (p : Putting text chars₀ at chars n i) where
+    pub putting-room : i < length text → at + length (waiters a text) ≤ length chars₀ → n + length (waiters a (getD text i 0 ∷ [])) ≤ length chars
+    putting-room h r =
+        let e = left-length text i h in
+        let l = p .left in
+        let s = p .size in
+        omega arith
+
+    pub putting-turn : (chars′ : List ℕ) (n′ : ℕ) → i < length text → n′ ≡ n + length (waiters a (getD text i 0 ∷ []))
+        → chars′ ≡ sets chars n (waiters a (getD text i 0 ∷ [])) → Putting text chars₀ at chars′ n′ (i + 1)
+    putting-turn chars′ n′ h e f =
+        let w = waiters a (getD text i 0 ∷ []) in
+        let rest = waiters a (drop (i + 1) text) in
+        let l = p .left in
+        let k = left-length text i h in
+        record {
+          size = ap length f ∙ length-sets chars n w ∙ p .size;
+          left = omega arith;
+          whole = (λ j. sets (f j) (e j) rest) ∙ sym (sets-append chars n w rest) ∙ ap (λ (v : List ℕ). sets chars n v) (sym (waiters-left text i h)) ∙ p .whole;
+        }
+
+    pub putting-end : length text ≤ i → chars ≡ sets chars₀ at (waiters a text)
+    putting-end h = ap (λ (v : List ℕ). sets chars n v) (sym (waiters-end text i h)) ∙ p .whole
+
+-- characters that move up: those ahead stand as they were, and moving them up gives the whole
+pub record Moving (chars₀ chars : List ℕ) (i : ℕ) : Type 0 where
+  pub size : length chars ≡ length chars₀
+  pub first : 1 ≤ i
+  pub ahead : drop i chars ≡ drop i chars₀
+  pub whole : sets chars (i - 1) (drop i chars₀) ≡ sets chars₀ 0 (drop 1 chars₀)
+
+pub moving-start : (chars₀ : List ℕ) → Moving chars₀ chars₀ 1
+moving-start chars₀ = record { size = refl; first = omega arith; ahead = refl; whole = refl }
+
+module _ (chars₀ chars : List ℕ) (i : ℕ) (m : Moving chars₀ chars i) where
+  same-char : i < length chars → getD chars i 0 ≡ getD chars₀ i 0
+  same-char h =
+      let e = ap (λ (l : List ℕ). getD l 0 0) (m .ahead) in
+      ap (λ (k : ℕ). getD chars k 0) (sym (add-zero i)) ∙ sym (getD-drop i chars 0 0) ∙ e ∙ getD-drop i chars₀ 0 0 ∙ ap (λ (k : ℕ). getD chars₀ k 0) (add-zero i)
+
+  pub moving-turn : i < length chars → Moving chars₀ (set chars (i - 1) (getD chars i 0)) (i + 1)
+  moving-turn h =
+      let f = m .first in
+      let s = m .size in
+      let up : i + 1 - 1 ≡ suc (i - 1) = omega arith in
+      let d : drop i chars₀ ≡ getD chars i 0 ∷ drop (i + 1) chars₀ = drop-cons chars₀ i 0 (omega arith) ∙ sym (λ j. same-char h j ∷ drop (add-one i j) chars₀) in
+      let next : drop (i + 1) chars ≡ drop (i + 1) chars₀ = sym (drop-drop 1 i chars) ∙ ap (drop 1) (m .ahead) ∙ drop-drop 1 i chars₀ in
+      record {
+        size = length-set chars (i - 1) (getD chars i 0) ∙ s;
+        first = omega arith;
+        ahead = drop-set-lt (i + 1) chars (i - 1) (getD chars i 0) (omega arith) ∙ next;
+        whole = ap (λ (k : ℕ). sets (set chars (i - 1) (getD chars i 0)) k (drop (i + 1) chars₀)) up ∙ ap (λ (v : List ℕ). sets chars (i - 1) v) (sym d) ∙ m .whole;
+      }
+
+  pub moving-end : 1 ≤ length chars₀ → length chars ≤ i → chars ≡ moved chars₀
+  moving-end o h =
+      let s = m .size in
+      let n : length (drop 1 chars₀) ≤ length chars₀ = (let e = length-drop 1 chars₀ in omega arith) in
+      ap (λ (v : List ℕ). sets chars (i - 1) v) (sym (drop-of-length-le chars₀ {i = i} (omega arith))) ∙ m .whole ∙ sets-front chars₀ (drop 1 chars₀) n

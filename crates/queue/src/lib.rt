@@ -1,0 +1,176 @@
+// Characters that wait to be sent: at most 256, the front one first.
+use alphabet::Alphabet;
+use alphabet::Char;
+use alphabet::Sends;
+ghost use mathlib.Core.Path.{_≡_};
+ghost use mathlib.Core.Bool.{true};
+ghost use mathlib.Core.List.{[], _∷_};
+ghost use Prim.Native.Nat.{_+_, _≤_, _<_};
+ghost use lib.ListN.{length, getD};
+ghost use lib.Seq.{sets};
+ghost use Rattle.alphabet.specs.Packing.{sendTable};
+ghost use Rattle.queue.specs.Queue.{isCode, waits, waiters, allWait, moved, most, inRange, offerOf, front, taken};
+
+pub struct Queue {
+    pub waiting: u16,
+    pub chars: [u8; 256],
+}
+
+pub const MOST: u16 = 256;
+
+// Is it a code?
+fn is_code(sends: Sends) -> bool
+    ensures { λ r. ⌜ r ≡ isCode sends ⌝ }
+{
+    match sends {
+        Sends::Nothing => false,
+        Sends::Code { shift, code } => true,
+    }
+}
+
+// Does a character wait when it is offered? One that sends nothing never does.
+pub fn waits(table: &[u16; 384], a: Alphabet, c: u8) -> bool
+    requires { ⌜ now table ≡ sendTable ⌝ }
+    ensures { λ r. ⌜ r ≡ waits a c ⌝ }
+{
+    if 127 < c {
+        return false;
+    }
+    is_code(alphabet::table::lookup_in(table, a, Char(c)))
+}
+
+// How many characters of a text wait.
+pub fn count_waiters(table: &[u16; 384], a: Alphabet, text: &[u8]) -> usize
+    requires { ⌜ now table ≡ sendTable ⌝ }
+    ensures { λ r. ⌜ r ≡ length (waiters a (now (text .entry))) ⌝ }
+{
+    let mut n: usize = 0;
+    let mut i: usize = 0;
+    while i < text.len() {
+        if waits(table, a, text[i]) {
+            n += 1;
+        }
+        i += 1;
+    }
+    n
+}
+
+// A character, written at a place if it waits; the next place.
+fn put_char(table: &[u16; 384], a: Alphabet, c: u8, chars: &mut [u8], at: usize) -> usize
+    requires { ⌜ now table ≡ sendTable ⌝ }
+    requires { ⌜ at + length (waiters a (c ∷ [])) ≤ length (now chars) ⌝ }
+    ensures { λ r. ⌜ r ≡ at + length (waiters a (c ∷ [])) ⌝ }
+    ensures { λ r. ⌜ now (chars .exit) ≡ sets (now (chars .entry)) at (waiters a (c ∷ [])) ⌝ }
+{
+    if waits(table, a, c) {
+        chars[at] = c;
+        return at + 1;
+    }
+    at
+}
+
+// The characters of a text that wait, written from a place on.
+fn put_waiters(table: &[u16; 384], a: Alphabet, text: &[u8], chars: &mut [u8], at: usize)
+    requires { ⌜ now table ≡ sendTable ⌝ }
+    requires { ⌜ at + length (waiters a (now text)) ≤ length (now chars) ⌝ }
+    ensures { λ r. ⌜ now (chars .exit) ≡ sets (now (chars .entry)) at (waiters a (now (text .entry))) ⌝ }
+{
+    let mut n = at;
+    let mut i: usize = 0;
+    while i < text.len() {
+        n = put_char(table, a, text[i], chars, n);
+        i += 1;
+    }
+}
+
+// Is each a character that waits?
+fn all_wait(table: &[u16; 384], a: Alphabet, chars: &[u8]) -> bool
+    requires { ⌜ now table ≡ sendTable ⌝ }
+    ensures { λ r. ⌜ r ≡ allWait a (now (chars .entry)) ⌝ }
+{
+    let mut i: usize = 0;
+    while i < chars.len() {
+        if !waits(table, a, chars[i]) {
+            return false;
+        }
+        i += 1;
+    }
+    true
+}
+
+// All but the first move up one place.
+fn move_up(chars: &mut [u8])
+    requires { ⌜ 1 ≤ length (now chars) ⌝ }
+    ensures { λ r. ⌜ now (chars .exit) ≡ moved (now (chars .entry)) ⌝ }
+{
+    let mut i: usize = 1;
+    while i < chars.len() {
+        let c = chars[i];
+        chars[i - 1] = c;
+        i += 1;
+    }
+}
+
+// Question 1 of a queue.
+pub fn in_range(a: Alphabet, q: Queue) -> bool
+    ensures { λ r. ⌜ r ≡ inRange a q ⌝ }
+{
+    if MOST < q.waiting {
+        return false;
+    }
+    let n = q.waiting as usize;
+    let chars = q.chars;
+    let table = alphabet::table::send_table();
+    all_wait(&table, a, &chars[..n])
+}
+
+// A queue after an offer, and whether there was space.
+pub struct Offered {
+    pub accepted: bool,
+    pub queue: Queue,
+}
+
+// The characters of a text that wait, put behind those waiting, if there is space for all of them.
+pub fn offer(a: Alphabet, q: Queue, text: &[u8]) -> Offered
+    requires { ⌜ q .waiting ≤ most ⌝ }
+    ensures { λ r. ⌜ r ≡ offerOf a q (now (text .entry)) ⌝ }
+{
+    let table = alphabet::table::send_table();
+    let n = count_waiters(&table, a, text);
+    let before = q.waiting as usize;
+    if MOST as usize - before < n {
+        return Offered {
+            accepted: false,
+            queue: q,
+        };
+    }
+    let mut chars = q.chars;
+    put_waiters(&table, a, text, &mut chars, before);
+    Offered {
+        accepted: true,
+        queue: Queue {
+            waiting: (before + n) as u16,
+            chars,
+        },
+    }
+}
+
+// The character in front.
+pub fn front(q: Queue) -> Char
+    ensures { λ r. ⌜ r .0 ≡ front q ⌝ }
+{
+    Char(q.chars[0])
+}
+
+// The queue without the character in front.
+pub fn take(q: Queue) -> Queue
+    requires { ⌜ 1 ≤ q .waiting ⌝ }
+    ensures { λ r. ⌜ r ≡ taken q ⌝ }
+{
+    let mut chars = q.chars;
+    move_up(&mut chars);
+    Queue {
+        waiting: q.waiting - 1,
+        chars,
+    }
+}
