@@ -18,10 +18,10 @@ use Rattle.frames.specs.declared.Found.{Found}
 use Rattle.frames.specs.declared.Found.the-variants.{Nothing, Fault, Code}
 use Rattle.frames.specs.declared.FrameRead.{FrameRead}
 use Rattle.frames.specs.Packing.{FoundIn}
-use Rattle.frames.specs.Samples.{Placed, placed, sampleAt, samplesOf, baudotKinds, baudotPlace, edtKinds, edtPlace}
+use Rattle.frames.specs.Samples.{Placed, placed, sampleAt, samplesOf, baudotKinds, baudotPlace, baudotSamples, edtKinds, edtPlace, edtSamples}
 use Rattle.frames.specs.Frames.{inFrame, hunting, waiting, gives, goesOn, faulty, parityHeard, withDigit, sampled, frameStep}
 use Rattle.frames.specs.Range.{lastMs, frameCodes, FrameIn, FrameOf}
-use Rattle.frames.proofs.Samples.{allKinds, kinds-pass}
+use Rattle.frames.proofs.Samples.{allKinds, kinds-pass, baudot-on}
 
 pub digits-128 : (mode : Mode) (f : Frame) → FrameOf mode f → f .digits < 128
 digits-128 Baudot45 f h = let d = h .digits-in in omega arith
@@ -129,28 +129,29 @@ module _ (samples : List Placed) (n : ℕ) (pos : 1 ≤ n) (weigh : (m : ℕ) �
           let p = h .place-in in
           rw (e, g) (later (eqb (f .place - 1) (lastMs samples)) refl (omega arith))
 
--- the samples of Baudot and EDT are such
-weigh-45 : (m : ℕ) → weighs 32 (sampleAt (samplesOf Baudot45) m) ≡ true
-unfolding samplesOf baudotKinds allKinds
-weigh-45 m = is-true _ (kinds-pass (weighs 32) tt (baudotPlace 22) baudotKinds 0 m tt)
+-- the samples of Baudot are such, for any element length from 2 on
+weigh-baudot : (e m : ℕ) → weighs 32 (sampleAt (baudotSamples e) m) ≡ true
+unfolding baudotKinds allKinds
+weigh-baudot e m = is-true _ (kinds-pass (weighs 32) tt (baudotPlace e) baudotKinds 0 m tt)
 
-weigh-50 : (m : ℕ) → weighs 32 (sampleAt (samplesOf Baudot50) m) ≡ true
-unfolding samplesOf baudotKinds allKinds
-weigh-50 m = is-true _ (kinds-pass (weighs 32) tt (baudotPlace 20) baudotKinds 0 m tt)
+pub frame-baudot : (e : ℕ) → 2 ≤ e → (f : Frame) (heard : ℕ) → FrameIn (baudotPlace e 6) 32 f → FrameIn (baudotPlace e 6) 32 (frameStep (baudotSamples e) f heard .frame)
+unfolding lastMs placed baudotKinds
+frame-baudot e big f heard h = step-in (baudotSamples e) 32 (omega arith) (weigh-baudot e) (omega arith) (baudot-on e (omega arith) 6) f heard h
 
-weigh-edt : (m : ℕ) → weighs 128 (sampleAt (samplesOf Edt) m) ≡ true
-unfolding samplesOf edtKinds allKinds
+-- those of EDT too
+weigh-edt : (m : ℕ) → weighs 128 (sampleAt edtSamples m) ≡ true
+unfolding edtKinds allKinds
 weigh-edt m = is-true _ (kinds-pass (weighs 128) tt edtPlace edtKinds 0 m tt)
 
--- one ms keeps the frame in range
+-- one ms keeps the frame of a mode in range
 pub frame-45 : (f : Frame) (heard : ℕ) → FrameOf Baudot45 f → FrameOf Baudot45 (frameStep (samplesOf Baudot45) f heard .frame)
-unfolding samplesOf lastMs placed baudotKinds sampleAt
-frame-45 f heard h = step-in (samplesOf Baudot45) 32 (omega arith) weigh-45 (omega arith) refl f heard h
+unfolding samplesOf lastMs placed baudotKinds
+frame-45 f heard h = frame-baudot 22 (omega arith) f heard h
 
 pub frame-50 : (f : Frame) (heard : ℕ) → FrameOf Baudot50 f → FrameOf Baudot50 (frameStep (samplesOf Baudot50) f heard .frame)
-unfolding samplesOf lastMs placed baudotKinds sampleAt
-frame-50 f heard h = step-in (samplesOf Baudot50) 32 (omega arith) weigh-50 (omega arith) refl f heard h
+unfolding samplesOf lastMs placed baudotKinds
+frame-50 f heard h = frame-baudot 20 (omega arith) f heard h
 
 pub frame-edt : (f : Frame) (heard : ℕ) → FrameOf Edt f → FrameOf Edt (frameStep (samplesOf Edt) f heard .frame)
 unfolding samplesOf lastMs placed edtKinds sampleAt
-frame-edt f heard h = step-in (samplesOf Edt) 128 (omega arith) weigh-edt (omega arith) refl f heard h
+frame-edt f heard h = step-in edtSamples 128 (omega arith) weigh-edt (omega arith) refl f heard h
