@@ -191,7 +191,7 @@ shape-test : T (passes shaped 256 0)
 unfolding passes marksThenDigit keysOf keys prefixes
 shape-test = tt
 
-shape-keys : (n : ℕ) → Shape n → marksThenDigit (keysOf n) ≡ true
+pub shape-keys : (n : ℕ) → Shape n → marksThenDigit (keysOf n) ≡ true
 shape-keys n h =
     is-true _ (simp (lt-ltb (n / 16) 15 (h .marks-in), le-leb 1 (n % 16) (h .digit-low), le-leb (n % 16) 10 (h .digit-high)) at (passes-at shaped 256 shape-test n (h .in-byte)))
 

@@ -1,0 +1,207 @@
+-- Document 01, "Demand 3 is a single claim": the send model (there: a station's book), ms by ms. It is kept from offers that
+-- succeed and heard ms alone, and never looks at a station.
+use Prim.Native.Nat.{ℕ, zero, suc, _-_}
+use mathlib.Core.Bool.{Bool, true, false, cond, not, _&&_, _||_}
+use mathlib.Core.List.{List, [], _∷_, _++_, map}
+use lib.Dec.{eqb, leb, ltb}
+use Rattle.alphabet.specs.declared.LineCode.{LineCode}
+use Rattle.alphabet.specs.declared.Mode.{Mode}
+use Rattle.alphabet.specs.declared.Mode.the-variants.{Baudot45, Baudot50, Dtmf, Edt}
+use Rattle.alphabet.specs.declared.Sends.{Sends}
+use Rattle.alphabet.specs.declared.Sends.the-variants.{Nothing, Code}
+use Rattle.alphabet.specs.Modes.{alphabetOf}
+use Rattle.alphabet.specs.Normal.{sends}
+use Rattle.baudot.specs.declared.Sender.{Sender}
+use Rattle.baudot.specs.Opening.{isCode}
+use Rattle.baudot.specs.Sending.{fresh, wanted, shiftCode, shifted, counted}
+use Rattle.signal.specs.Signal.{quiet, signal, preamble}
+
+-- What is on the line in a burst: the preamble (there: lead), a shift code (there: case code), a character's own code.
+pub data Part : Type 0 where
+  Preamble ShiftCode OwnCode : Part
+
+-- In no burst; or in one, with the part on the line and the ms of it that are left.
+pub data OnLine : Type 0 where
+  Idle : OnLine
+  Sending : Part → List ℕ → OnLine
+
+-- The characters that wait, front first; what is on the line; the sender; the ms of silence in a row; the inhibited ms that
+-- are still to come after a burst.
+pub record Model : Type 0 where
+  pub waiting : List ℕ
+  pub onLine : OnLine
+  pub sender : Sender
+  pub silence : ℕ
+  pub inhibitedMs : ℕ
+
+-- It starts with none waiting, no burst, a fresh sender and 300 ms of silence.
+abbrev pub freshModel : Model
+freshModel = record { waiting = []; onLine = Idle; sender = fresh; silence = 300; inhibitedMs = 0 }
+
+-- Those of an offer that send something; the others never wait.
+unfoldable pub sendable : Mode → List ℕ → List ℕ
+sendable mode [] = []
+sendable mode (c ∷ cs) = cond (isCode (sends (alphabetOf mode) c)) (c ∷ []) [] ++ sendable mode cs
+
+-- An offer that succeeds puts them behind those waiting.
+unfoldable pub offered : Mode → List ℕ → Model → Model
+offered mode cs m = record {
+  waiting = m .waiting ++ sendable mode cs;
+  onLine = m .onLine;
+  sender = m .sender;
+  silence = m .silence;
+  inhibitedMs = m .inhibitedMs;
+}
+
+abbrev pub noneWaits : List ℕ → Bool
+noneWaits [] = true
+noneWaits (c ∷ cs) = false
+
+-- A burst may begin: characters wait, and there were at least 300 ms of silence.
+unfoldable pub mayBegin : List ℕ → ℕ → Bool
+mayBegin waiting silence = not (noneWaits waiting) && leb 300 silence
+
+-- A burst may end with the last ms of a part: a code, and none waits.
+unfoldable pub mayEnd : Part → List ℕ → Bool
+mayEnd Preamble waiting = false
+mayEnd ShiftCode waiting = noneWaits waiting
+mayEnd OwnCode waiting = noneWaits waiting
+
+-- In no burst, one begins with its preamble if it may.
+unfoldable pub begun : Mode → Bool → OnLine → OnLine
+begun mode may Idle = cond may (Sending Preamble (preamble mode)) Idle
+begun mode may (Sending part left) = Sending part left
+
+-- The shift code that the sending rule wants, 0 for none, and the sender after an own code. DTMF and EDT have no shifts.
+abbrev pub shiftWanted : Mode → Sender → ℕ → ℕ
+shiftWanted Baudot45 s own = wanted s own
+shiftWanted Baudot50 s own = wanted s own
+shiftWanted Dtmf s own = 0
+shiftWanted Edt s own = 0
+
+abbrev pub senderAfterOwn : Mode → Sender → Sender
+senderAfterOwn Baudot45 s = counted s
+senderAfterOwn Baudot50 s = counted s
+senderAfterOwn Dtmf s = s
+senderAfterOwn Edt s = s
+
+-- What a ms starts with: those waiting, what is on the line, the sender, and what is taken.
+pub record Loaded : Type 0 where
+  pub waiting : List ℕ
+  pub onLine : OnLine
+  pub sender : Sender
+  pub taken : List ℕ
+
+abbrev pub loaded : List ℕ → OnLine → Sender → List ℕ → Loaded
+loaded waiting onLine sender taken = record { waiting = waiting; onLine = onLine; sender = sender; taken = taken }
+
+-- A shift code takes no character; an own code takes its own.
+abbrev pub shiftBegins : Mode → ℕ → List ℕ → Sender → ℕ → Loaded
+shiftBegins mode c cs s w = loaded (c ∷ cs) (Sending ShiftCode (signal mode (shiftCode w))) (shifted s w) []
+
+abbrev pub ownBegins : Mode → ℕ → List ℕ → Sender → LineCode → Loaded
+ownBegins mode c cs s k = loaded cs (Sending OwnCode (signal mode (k .0))) (senderAfterOwn mode s) (c ∷ [])
+
+-- The next code: a shift code where one is wanted ahead of the front character, else its own code. (A character that sends
+-- nothing never waits.)
+unfoldable pub codeBegins : Mode → ℕ → List ℕ → Sender → Sends → Loaded
+codeBegins mode c cs s Nothing = loaded cs (Sending OwnCode []) s (c ∷ [])
+codeBegins mode c cs s (Code own k) =
+    let w = shiftWanted mode s own in
+    cond (eqb w 0) (ownBegins mode c cs s k) (shiftBegins mode c cs s w)
+
+-- In a burst with no ms of a part left, the next code begins in that ms.
+unfoldable pub nextCode : Mode → List ℕ → OnLine → Sender → Loaded
+nextCode mode waiting Idle s = loaded waiting Idle s []
+nextCode mode waiting (Sending part (x ∷ left)) s = loaded waiting (Sending part (x ∷ left)) s []
+nextCode mode [] (Sending part []) s = loaded [] (Sending part []) s []
+nextCode mode (c ∷ cs) (Sending part []) s = codeBegins mode c cs s (sends (alphabetOf mode) c)
+
+-- Within each ms, sending is settled first.
+unfoldable pub load : Mode → Model → Loaded
+load mode m = nextCode mode (m .waiting) (begun mode (mayBegin (m .waiting) (m .silence)) (m .onLine)) (m .sender)
+
+-- The level that is sent: quiet outside a burst.
+unfoldable pub levelOn : OnLine → ℕ
+levelOn Idle = quiet
+levelOn (Sending part []) = quiet
+levelOn (Sending part (x ∷ left)) = x
+
+abbrev pub inBurst : OnLine → Bool
+inBurst Idle = false
+inBurst (Sending part left) = true
+
+-- One ms of it has gone.
+unfoldable pub oneGone : OnLine → OnLine
+oneGone Idle = Idle
+oneGone (Sending part []) = Sending part []
+oneGone (Sending part (x ∷ left)) = Sending part left
+
+-- The part that has no ms left, if one is on the line.
+unfoldable pub ended : OnLine → List Part
+ended Idle = []
+ended (Sending part []) = part ∷ []
+ended (Sending part (x ∷ left)) = []
+
+-- If the last ms of a part has come, the burst ends with that ms if it may.
+unfoldable pub closed : List ℕ → OnLine → OnLine
+closed waiting Idle = Idle
+closed waiting (Sending part []) = cond (mayEnd part waiting) Idle (Sending part [])
+closed waiting (Sending part (x ∷ left)) = Sending part (x ∷ left)
+
+-- The receiver is inhibited in a burst and for 300 ms after it.
+abbrev pub inhibitedAfter : Bool → ℕ → ℕ
+inhibitedAfter burst n = cond burst 300 (n - 1)
+
+-- Silence grows by a ms that is heard as 0 or is inhibited; otherwise it is 0 again.
+abbrev pub silenceAfter : Bool → ℕ → ℕ → ℕ
+silenceAfter without heard silence = cond (without || eqb heard quiet) (suc silence) 0
+
+-- What a ms does: the level sent, whether in a burst, the character taken, the part that ended with it.
+pub record Did : Type 0 where
+  pub sent : ℕ
+  pub burst : Bool
+  pub taken : List ℕ
+  pub ended : List Part
+
+unfoldable pub did : Mode → Model → Did
+did mode m =
+    let l = load mode m in
+    record { sent = levelOn (l .onLine); burst = inBurst (l .onLine); taken = l .taken; ended = ended (oneGone (l .onLine)) }
+
+-- The model after a ms.
+unfoldable pub msAfter : Mode → Model → ℕ → Model
+msAfter mode m heard =
+    let l = load mode m in
+    let burst = inBurst (l .onLine) in
+    record {
+      waiting = l .waiting;
+      onLine = closed (l .waiting) (oneGone (l .onLine));
+      sender = l .sender;
+      silence = silenceAfter (burst || ltb 0 (m .inhibitedMs)) heard (m .silence);
+      inhibitedMs = inhibitedAfter burst (m .inhibitedMs);
+    }
+
+-- What a model is kept from: an offer that succeeds, and a ms with the level heard.
+pub data Step : Type 0 where
+  Offer : List ℕ → Step
+  Ms : ℕ → Step
+
+-- The model after some steps, and what each of their ms does.
+unfoldable pub modelAfter : Mode → Model → List Step → Model
+modelAfter mode m [] = m
+modelAfter mode m (Offer cs ∷ steps) = modelAfter mode (offered mode cs m) steps
+modelAfter mode m (Ms heard ∷ steps) = modelAfter mode (msAfter mode m heard) steps
+
+unfoldable pub does : Mode → Model → List Step → List Did
+does mode m [] = []
+does mode m (Offer cs ∷ steps) = does mode (offered mode cs m) steps
+does mode m (Ms heard ∷ steps) = did mode m ∷ does mode (msAfter mode m heard) steps
+
+-- The levels sent and the characters taken in some ms, in order.
+abbrev pub sentIn : List Did → List ℕ
+sentIn ds = map (λ (d : Did). d .sent) ds
+
+unfoldable pub takenIn : List Did → List ℕ
+takenIn [] = []
+takenIn (d ∷ ds) = d .taken ++ takenIn ds
