@@ -1,0 +1,123 @@
+-- What a ms of the send model can begin with and end in: views that every proof over the model goes by. When a burst begins
+-- and ends is left open in them.
+use mathlib.Core.Path.{_≡_, _∙_, refl, sym, ap, subst}
+use mathlib.Core.Bool.{Bool, true, false, cond, true≢false, false≢true}
+use mathlib.Core.List.{List, [], _∷_, _++_}
+use Prim.Native.Nat.{ℕ, _<_}
+use native.Mathlib.Omega.{arith}
+use lib.Dec.{eqb}
+use Rattle.lists.proofs.Lists.{at-most-head, at-most-tail}
+use Rattle.alphabet.specs.declared.Mode.{Mode}
+use Rattle.alphabet.specs.declared.Sends.{Sends}
+use Rattle.alphabet.specs.declared.Sends.the-variants.{Nothing, Code}
+use Rattle.alphabet.specs.Modes.{alphabetOf}
+use Rattle.alphabet.specs.Normal.{sends, allChars}
+use Rattle.baudot.specs.declared.Sender.{Sender}
+use Rattle.baudot.specs.Opening.{isCode}
+use Rattle.signal.specs.Signal.{preamble}
+use Rattle.reading.specs.Model.{Part, Preamble, ShiftCode, OwnCode, OnLine, Idle, Sending, Model, Loaded, Step, Offer, Ms, sendable, offered, mayBegin, mayEnd, begun, shiftWanted, loaded, shiftBegins, ownBegins, codeBegins, nextCode, load, oneGone, closed, msAfter, modelAfter, freshModel, inBurst}
+use Rattle.reading.specs.Reading.{OffersChars}
+use Rattle.reading.proofs.Laws.{Waits, SenderIn, Laws}
+
+-- the ms that are left of what is on the line
+abbrev pub left : OnLine → List ℕ
+left Idle = []
+left (Sending part ms) = ms
+
+abbrev pub AllWait : Mode → List ℕ → Type 0
+AllWait mode [] = Unit {0}
+AllWait mode (c ∷ cs) = Waits mode c × AllWait mode cs
+
+-- a burst begins, or what is on the line goes on
+pub data Opens (mode : Mode) : OnLine → OnLine → Type 0 where
+  opens : Opens mode Idle (Sending Preamble (preamble mode))
+  goes-on : {on : OnLine} → Opens mode on on
+
+-- a code begins, or what is on the line goes on
+pub data Begins (mode : Mode) : List ℕ → OnLine → Sender → Loaded → Type 0 where
+  stays : {waiting : List ℕ} {on : OnLine} {s : Sender} → Begins mode waiting on s (loaded waiting on s [])
+  shifts : (part : Part) (c : ℕ) (cs : List ℕ) (s : Sender) (w : Waits mode c) → eqb (shiftWanted mode s (w .own)) 0 ≡ false
+      → Begins mode (c ∷ cs) (Sending part []) s (shiftBegins mode c cs s (shiftWanted mode s (w .own)))
+  owns : (part : Part) (c : ℕ) (cs : List ℕ) (s : Sender) (w : Waits mode c) → eqb (shiftWanted mode s (w .own)) 0 ≡ true
+      → Begins mode (c ∷ cs) (Sending part []) s (ownBegins mode c cs s (w .code))
+
+-- the burst ends, or goes on
+pub data Closes : OnLine → OnLine → Type 0 where
+  ends : {part : Part} → Closes (Sending part []) Idle
+  keeps : {on : OnLine} → Closes on on
+
+pub begun-view : (mode : Mode) (may : Bool) (on : OnLine) → Opens mode on (begun mode may on)
+unfolding begun
+begun-view mode true Idle = opens
+begun-view mode false Idle = goes-on
+begun-view mode may (Sending part ms) = goes-on
+
+pub code-view : (mode : Mode) (part : Part) (c : ℕ) (cs : List ℕ) (s : Sender) (w : Waits mode c) → Begins mode (c ∷ cs) (Sending part []) s (codeBegins mode c cs s (sends (alphabetOf mode) c))
+unfolding codeBegins
+code-view mode part c cs s w = subst (λ (x : Sends). Begins mode (c ∷ cs) (Sending part []) s (codeBegins mode c cs s x)) (sym (w .sent)) (go (eqb (shiftWanted mode s (w .own)) 0) refl)
+  where
+    go : (b : Bool) → eqb (shiftWanted mode s (w .own)) 0 ≡ b
+        → Begins mode (c ∷ cs) (Sending part []) s (cond b (ownBegins mode c cs s (w .code)) (shiftBegins mode c cs s (shiftWanted mode s (w .own))))
+    go true e = owns part c cs s w e
+    go false e = shifts part c cs s w e
+
+pub next-view : (mode : Mode) (waiting : List ℕ) (on : OnLine) (s : Sender) → AllWait mode waiting → Begins mode waiting on s (nextCode mode waiting on s)
+unfolding nextCode
+next-view mode waiting Idle s h = stays
+next-view mode waiting (Sending part (x ∷ ms)) s h = stays
+next-view mode [] (Sending part []) s h = stays
+next-view mode (c ∷ cs) (Sending part []) s h = code-view mode part c cs s (h .0)
+
+pub closed-view : (waiting : List ℕ) (on : OnLine) → Closes on (closed waiting on)
+unfolding closed
+closed-view waiting Idle = keeps
+closed-view waiting (Sending part (x ∷ ms)) = keeps
+closed-view waiting (Sending part []) = go (mayEnd part waiting)
+  where
+    go : (b : Bool) → Closes (Sending part []) (cond b Idle (Sending part []))
+    go true = ends
+    go false = keeps
+
+-- what each ms keeps: those that wait send something, and the sender is one that the rule can have
+pub record Fine (mode : Mode) (m : Model) : Type 0 where
+  pub waits : AllWait mode (m .waiting)
+  pub sender-in : SenderIn mode (m .sender)
+
+waits-append : (mode : Mode) (xs ys : List ℕ) → AllWait mode xs → AllWait mode ys → AllWait mode (xs ++ ys)
+waits-append mode [] ys h k = k
+waits-append mode (x ∷ xs) ys h k = (h .0, waits-append mode xs ys (h .1) k)
+
+sendable-waits : (mode : Mode) (cs : List ℕ) → allChars cs ≡ true → AllWait mode (sendable mode cs)
+unfolding sendable
+sendable-waits mode [] t = tt
+sendable-waits mode (c ∷ cs) t = waits-append mode (cond (isCode (sends (alphabetOf mode) c)) (c ∷ []) []) (sendable mode cs) (go (sends (alphabetOf mode) c) refl) (sendable-waits mode cs (at-most-tail 0x7f c cs t))
+  where
+    go : (x : Sends) → sends (alphabetOf mode) c ≡ x → AllWait mode (cond (isCode x) (c ∷ []) [])
+    go Nothing e = tt
+    go (Code own k) e = let h = at-most-head 0x7f c cs t in (record { char-in = omega arith; own = own; code = k; sent = e }, tt)
+
+pub fine-offered : (mode : Mode) (cs : List ℕ) (m : Model) → allChars cs ≡ true → Fine mode m → Fine mode (offered mode cs m)
+unfolding offered
+fine-offered mode cs m t f = record { waits = waits-append mode (m .waiting) (sendable mode cs) (f .waits) (sendable-waits mode cs t); sender-in = f .sender-in }
+
+module _ (mode : Mode) (L : Laws mode) where
+  fine-begins : {waiting : List ℕ} {on : OnLine} {s : Sender} {l : Loaded} → Begins mode waiting on s l → AllWait mode waiting → SenderIn mode s → AllWait mode (l .waiting) × SenderIn mode (l .sender)
+  fine-begins stays h i = (h, i)
+  fine-begins (shifts part c cs s w e) h i = (h, L .shift-sender s c w i e)
+  fine-begins (owns part c cs s w e) h i = (h .1, L .own-sender s c w i e)
+
+  pub load-view : (m : Model) → Fine mode m → (on : OnLine) × Opens mode (m .onLine) on × Begins mode (m .waiting) on (m .sender) (load mode m)
+  unfolding load
+  load-view m f =
+      let b = mayBegin (m .waiting) (m .silence) in
+      (begun mode b (m .onLine), begun-view mode b (m .onLine), next-view mode (m .waiting) (begun mode b (m .onLine)) (m .sender) (f .waits))
+
+  pub fine-ms : (m : Model) (x : ℕ) → Fine mode m → Fine mode (msAfter mode m x)
+  unfolding msAfter
+  fine-ms m x f = let k = fine-begins (load-view m f .2) (f .waits) (f .sender-in) in record { waits = k .0; sender-in = k .1 }
+
+  pub fine-after : (steps : List Step) (m : Model) → OffersChars steps → Fine mode m → Fine mode (modelAfter mode m steps)
+  unfolding modelAfter OffersChars
+  fine-after [] m t f = f
+  fine-after (Offer cs ∷ steps) m t f = fine-after steps (offered mode cs m) (t .1) (fine-offered mode cs m (t .0) f)
+  fine-after (Ms x ∷ steps) m t f = fine-after steps (msAfter mode m x) t (fine-ms m x f)
