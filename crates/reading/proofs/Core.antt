@@ -1,0 +1,190 @@
+-- The core of demand 3: after an idle period, a reader reads what the model takes.
+use mathlib.Core.Path.{_≡_, _∙_, refl, sym, ap, subst}
+use mathlib.Core.Bool.{Bool, true, false, cond, true≢false}
+use mathlib.Core.Logic.{_⊎_, inl, inr}
+use mathlib.Core.List.{List, [], _∷_, _++_, append-nil}
+use Prim.Native.Nat.{ℕ, zero, suc, _+_, _<_, _≤_}
+use native.Mathlib.Omega.{arith}
+use lib.ListN.{length, take, drop, replicate}
+use borrow.Author.Tests.{le-leb}
+use Rattle.lists.specs.Lists.{allAtMost}
+use Rattle.lists.specs.Steps.{stateAfter, outputs}
+use Rattle.lists.proofs.Lists.{at-most-head, at-most-tail}
+use Rattle.alphabet.specs.declared.Alphabet.{Alphabet}
+use Rattle.alphabet.specs.declared.Mode.{Mode}
+use Rattle.alphabet.specs.declared.Mode.the-variants.{Baudot45, Baudot50, Dtmf, Edt}
+use Rattle.alphabet.specs.declared.Sends.{Sends}
+use Rattle.alphabet.specs.declared.Sends.the-variants.{Nothing, Code}
+use Rattle.alphabet.specs.Modes.{alphabetOf}
+use Rattle.alphabet.specs.Normal.{sends, normal, normalForm, allChars}
+use Rattle.alphabet.proofs.Normal.{normal-code}
+use Rattle.alphabet.proofs.Rule.{rule-of}
+use Rattle.baudot.specs.declared.Sender.{Sender}
+use Rattle.line.specs.declared.Reader.{Reader}
+use Rattle.line.specs.Reader.{hear, inhibited}
+use Rattle.line.specs.Words.{wordsOf, events, words}
+use Rattle.chain.specs.Resting.{rests, restsAll, Settled}
+use Rattle.chain.proofs.Resting.{settles}
+use Rattle.reading.specs.Model.{OnLine, Idle, Sending, Model, Loaded, Did, Step, Offer, Ms, freshModel, offered, load, levelOn, inBurst, oneGone, closed, did, msAfter, modelAfter, does, sentIn, takenIn}
+use Rattle.reading.specs.Reading.{atOnce, mostBefore, untilSynchronized, synchronizedAfter, NoBurst, EndsIdle, OffersChars, readerAfterInhibited, Premises, Reads, ReadsAfterIdle}
+use Rattle.reading.proofs.Laws.{SenderIn, Synchronized, Laws, laws}
+use Rattle.reading.proofs.Views.{left, Begins, stays, shifts, owns, Fine, fine-offered, fine-ms, fine-after, load-view}
+use Rattle.reading.proofs.Following.{Before, follows, follows-after}
+use Rattle.reading.proofs.Bound.{bound}
+
+-- ---- ms in no burst
+
+idle-of : (on : OnLine) → inBurst on ≡ false → on ≡ Idle
+idle-of Idle e = refl
+idle-of (Sending part ms) e = absurd (true≢false e)
+
+module _ (mode : Mode) where
+  ms-idle : (m : Model) (x : ℕ) → did mode m .burst ≡ false → msAfter mode m x .onLine ≡ Idle
+  unfolding did msAfter oneGone closed
+  ms-idle m x e = ap (λ (on : OnLine). closed (load mode m .waiting) (oneGone on)) (idle-of (load mode m .onLine) e)
+
+  ms-quiet : (m : Model) → did mode m .burst ≡ false → did mode m .sent ≡ 0
+  unfolding did levelOn
+  ms-quiet m e = ap levelOn (idle-of (load mode m .onLine) e)
+
+  -- if the last ms has no burst, there is none after it
+  ends-tail : (d : Did) (ds : List Did) → EndsIdle (d ∷ ds) → EndsIdle ds
+  unfolding EndsIdle
+  ends-tail d [] h = tt
+  ends-tail d (e ∷ ds) h = h
+
+  pub idle-after : (steps : List Step) (m : Model) → (does mode m steps ≡ [] → m .onLine ≡ Idle) → EndsIdle (does mode m steps) → modelAfter mode m steps .onLine ≡ Idle
+  unfolding modelAfter does offered EndsIdle
+  idle-after [] m i h = i refl
+  idle-after (Offer cs ∷ steps) m i h = idle-after steps (offered mode cs m) i h
+  idle-after (Ms x ∷ steps) m i h =
+      idle-after steps (msAfter mode m x) (λ e. ms-idle m x (subst (λ (ds : List Did). EndsIdle (did mode m ∷ ds)) e h)) (ends-tail (did mode m) (does mode (msAfter mode m x) steps) h)
+
+  no-burst-ends : (ds : List Did) → NoBurst ds → EndsIdle ds
+  unfolding NoBurst EndsIdle
+  no-burst-ends [] h = tt
+  no-burst-ends (d ∷ []) h = h .0
+  no-burst-ends (d ∷ (e ∷ ds)) h = no-burst-ends (e ∷ ds) (h .1)
+
+  -- quiet is sent
+  all-quiet : (steps : List Step) (m : Model) → NoBurst (does mode m steps) → sentIn (does mode m steps) ≡ replicate (length (does mode m steps)) 0
+  unfolding does NoBurst
+  all-quiet [] m h = refl
+  all-quiet (Offer cs ∷ steps) m h = all-quiet steps (offered mode cs m) h
+  all-quiet (Ms x ∷ steps) m h = λ i. ms-quiet m (h .0) i ∷ all-quiet steps (msAfter mode m x) (h .1) i
+
+  -- quiet ms, the first n of them inhibited
+  quiet-rests : (k n : ℕ) (r : Reader) → (bs : List Bool) × (length bs ≡ k) × (readerAfterInhibited mode n r (replicate k 0) ≡ restsAll mode r bs)
+  unfolding readerAfterInhibited restsAll
+  quiet-rests zero n r = ([], refl, refl)
+  quiet-rests (suc k) zero r = let i = quiet-rests k zero (hear mode r 0 .reader) in (false ∷ i .0, ap suc (i .1), i .2)
+  quiet-rests (suc k) (suc n) r = let i = quiet-rests k n (inhibited r) in (true ∷ i .0, ap suc (i .1), i .2)
+
+-- ---- what is taken are characters, and so are their normal forms
+
+most-append : (m : ℕ) (xs ys : List ℕ) → allAtMost m xs ≡ true → allAtMost m ys ≡ true → allAtMost m (xs ++ ys) ≡ true
+unfolding allAtMost
+most-append m [] ys p q = q
+most-append m (x ∷ xs) ys p q = rw (le-leb x m (at-most-head m x xs p)) (most-append m xs ys (at-most-tail m x xs p) q)
+
+most-right : (m : ℕ) (xs ys : List ℕ) → allAtMost m (xs ++ ys) ≡ true → allAtMost m ys ≡ true
+most-right m [] ys p = p
+most-right m (x ∷ xs) ys p = most-right m xs ys (at-most-tail m x (xs ++ ys) p)
+
+one-char : (c : ℕ) → c < 128 → allChars (c ∷ []) ≡ true
+unfolding allAtMost
+one-char c h = rw (le-leb c 0x7f (omega arith)) refl
+
+normal-chars : (a : Alphabet) (c : ℕ) → c < 128 → allChars (normal a c) ≡ true
+unfolding allAtMost
+normal-chars a c h = go (sends a c) refl
+  where
+    go : (x : Sends) → sends a c ≡ x → allChars (normal a c) ≡ true
+    go Nothing e = simp e
+    go (Code s k) e = rw (normal-code a c h s k e) (one-char _ (rule-of a c h s k e .char-in))
+
+normal-form-chars : (a : Alphabet) (cs : List ℕ) → allChars cs ≡ true → allChars (normalForm a cs) ≡ true
+unfolding normalForm allAtMost
+normal-form-chars a [] t = refl
+normal-form-chars a (c ∷ cs) t =
+    let h = at-most-head 0x7f c cs t in
+    most-append 0x7f (normal a c) (normalForm a cs) (normal-chars a c (omega arith)) (normal-form-chars a cs (at-most-tail 0x7f c cs t))
+
+taken-drop : (k : ℕ) (ds : List Did) → allChars (takenIn ds) ≡ true → allChars (takenIn (drop k ds)) ≡ true
+unfolding takenIn
+taken-drop zero ds t = t
+taken-drop (suc k) [] t = t
+taken-drop (suc k) (d ∷ ds) t = taken-drop k ds (most-right 0x7f (d .taken) (takenIn ds) t)
+
+module _ (mode : Mode) (L : Laws mode) where
+  begins-chars : {waiting : List ℕ} {on : OnLine} {s : Sender} {l : Loaded} → Begins mode waiting on s l → allChars (l .taken) ≡ true
+  unfolding allAtMost
+  begins-chars stays = refl
+  begins-chars (shifts part c cs s w e) = refl
+  begins-chars (owns part c cs s w e) = one-char c (w .char-in)
+
+  taken-chars : (steps : List Step) (m : Model) → OffersChars steps → Fine mode m → allChars (takenIn (does mode m steps)) ≡ true
+  unfolding does did takenIn OffersChars allAtMost
+  taken-chars [] m t f = refl
+  taken-chars (Offer cs ∷ steps) m t f = taken-chars steps (offered mode cs m) (t .1) (fine-offered mode cs m (t .0) f)
+  taken-chars (Ms x ∷ steps) m t f =
+      most-append 0x7f (load mode m .taken) _ (begins-chars (load-view mode L m f .2)) (taken-chars steps (msAfter mode m x) t (fine-ms mode L m x f))
+
+  -- ---- from a model in no burst and a reader between codes on
+  module _ (next : List Step) (m : Model) (r : Reader) (t : OffersChars next) (f : Fine mode m) (idle : m .onLine ≡ Idle) (between : Settled mode r) where
+    abbrev ds : List Did
+    ds = does mode m next
+
+    text-by : (b : Bool) → atOnce mode ≡ b → EndsIdle ds → wordsOf (drop (cond b 0 (untilSynchronized mode ds)) (events mode r (sentIn ds))) ≡ normalForm (alphabetOf mode) (takenIn (drop (cond b 0 (untilSynchronized mode ds)) ds))
+    unfolding stateAfter outputs wordsOf
+    text-by true e z =
+        follows mode L next m r t f (rw idle (L .at-once e (m .sender) r between)) (idle-after mode next m (λ _. idle) z) ∙ ap (λ (on : OnLine). words mode r (left on) ++ normalForm (alphabetOf mode) (takenIn ds)) idle
+    text-by false e z = follows-after mode L next m r t f (rw idle (record { between = between; due = tt })) (idle-after mode next m (λ _. idle) z)
+
+    before-by : (b : Bool) → atOnce mode ≡ b → length (takenIn (take (cond b 0 (untilSynchronized mode ds)) ds)) ≤ mostBefore mode
+    unfolding takenIn
+    before-by true e = omega arith
+    before-by false e = bound mode L e next m (mostBefore mode) t f (rw idle (L .room-most (m .sender)))
+
+    pub reads : Reads mode ds (events mode r (sentIn ds))
+    reads =
+        let w = text-by (atOnce mode) refl in
+        record {
+          before = before-by (atOnce mode) refl;
+          text = w;
+          no-fault = λ z. rw (w z) (normal-form-chars (alphabetOf mode) (takenIn (drop (synchronizedAfter mode ds) ds)) (taken-drop (synchronizedAfter mode ds) ds (taken-chars next m t f)));
+        }
+
+-- ---- from a fresh model on
+
+offers-left : (xs ys : List Step) → OffersChars (xs ++ ys) → OffersChars xs
+unfolding OffersChars
+offers-left [] ys h = tt
+offers-left (Offer cs ∷ xs) ys h = (h .0, offers-left xs ys (h .1))
+offers-left (Ms x ∷ xs) ys h = offers-left xs ys h
+
+offers-right : (xs ys : List Step) → OffersChars (xs ++ ys) → OffersChars ys
+unfolding OffersChars
+offers-right [] ys h = h
+offers-right (Offer cs ∷ xs) ys h = offers-right xs ys (h .1)
+offers-right (Ms x ∷ xs) ys h = offers-right xs ys h
+
+fresh-sender : (mode : Mode) → SenderIn mode (freshModel .sender)
+fresh-sender Baudot45 = inl refl
+fresh-sender Baudot50 = inl refl
+fresh-sender Dtmf = tt
+fresh-sender Edt = tt
+
+pub reads-after-idle : (mode : Mode) → ReadsAfterIdle mode
+reads-after-idle mode past forty next r n p =
+    let L = laws mode in
+    let m = modelAfter mode freshModel past in
+    let after = offers-right past (forty ++ next) (p .chars) in
+    let f = fine-after mode L past freshModel (offers-left past (forty ++ next) (p .chars)) (record { waits = tt; sender-in = fresh-sender mode }) in
+    let f′ = fine-after mode L forty m (offers-left forty next after) f in
+    let k = p .forty-ms in
+    let idle = idle-after mode forty m (λ e. let z = ap length e in absurd (omega arith)) (no-burst-ends mode (does mode m forty) (p .idle)) in
+    let b = quiet-rests mode 40 n r in
+    let q : sentIn (does mode m forty) ≡ replicate 40 0 = all-quiet mode forty m (p .idle) ∙ ap (λ (i : ℕ). replicate {A = ℕ} i 0) k in
+    let u : Settled mode (readerAfterInhibited mode n r (sentIn (does mode m forty))) = rw (q, b .2) (settles mode r (p .reader-in) (b .0) (b .1)) in
+    reads mode L next (modelAfter mode m forty) (readerAfterInhibited mode n r (sentIn (does mode m forty))) (offers-right forty next after) f′ idle u
