@@ -7,29 +7,30 @@ use native.Mathlib.Omega.{arith}
 use lib.Dec.{eqb}
 use lib.ListN.{length, take, length-append}
 use Rattle.alphabet.specs.declared.Mode.{Mode}
+use Rattle.alphabet.specs.Modes.{alphabetOf}
 use Rattle.baudot.specs.declared.Sender.{Sender}
 use Rattle.baudot.specs.Sending.{shiftCode}
 use Rattle.signal.specs.Signal.{signal}
 use Rattle.reading.specs.Model.{Part, Preamble, ShiftCode, OwnCode, OnLine, Idle, Sending, Model, Loaded, Did, Step, Offer, Ms, offered, shiftWanted, senderAfterOwn, load, oneGone, ended, closed, did, msAfter, does, takenIn}
 use Rattle.reading.specs.Reading.{synchronizes, atOnce, endsSynchronizing, untilSynchronized, OffersChars}
-use Rattle.reading.proofs.Laws.{Waits, SenderIn, Room, Laws}
+use Rattle.reading.proofs.Laws.{Waits, SenderIn, Room, LawsOf}
 use Rattle.reading.proofs.Views.{Opens, opens, goes-on, Begins, stays, shifts, owns, Closes, ends, keeps, closed-view, Fine, fine-offered, fine-ms, load-view}
 
 -- while a synchronizing code is on the line, ms of it are left; otherwise at most n characters more are taken before one
 abbrev RoomBy : Mode → Bool → Sender → ℕ → List ℕ → Type 0
 RoomBy mode true s n ms = 0 < length ms
-RoomBy mode false s n ms = Room mode s n
+RoomBy mode false s n ms = Room (alphabetOf mode) s n
 
 abbrev pub RoomOn : Mode → OnLine → Sender → ℕ → Type 0
-RoomOn mode Idle s n = Room mode s n
-RoomOn mode (Sending part ms) s n = RoomBy mode (synchronizes mode part) s n ms
+RoomOn mode Idle s n = Room (alphabetOf mode) s n
+RoomOn mode (Sending part ms) s n = RoomBy mode (synchronizes (alphabetOf mode) part) s n ms
 
 -- no ms are left: it is no synchronizing code
-none-left : (mode : Mode) (b : Bool) (s : Sender) (n : ℕ) → RoomBy mode b s n [] → Room mode s n
+none-left : (mode : Mode) (b : Bool) (s : Sender) (n : ℕ) → RoomBy mode b s n [] → Room (alphabetOf mode) s n
 none-left mode true s n h = absurd (omega arith)
 none-left mode false s n h = h
 
-room-gone : (mode : Mode) (b : Bool) (s : Sender) (n x : ℕ) (part : Part) (ms : List ℕ) → synchronizes mode part ≡ b → RoomBy mode b s n (x ∷ ms)
+room-gone : (mode : Mode) (b : Bool) (s : Sender) (n x : ℕ) (part : Part) (ms : List ℕ) → synchronizes (alphabetOf mode) part ≡ b → RoomBy mode b s n (x ∷ ms)
     → endsSynchronizing mode (ended (Sending part ms)) ≡ false → RoomBy mode b s n ms
 unfolding ended
 room-gone mode true s n x part [] e h z = absurd (true≢false (sym e ∙ z))
@@ -40,26 +41,26 @@ gone-room : (mode : Mode) (on : OnLine) (s : Sender) (n : ℕ) → RoomOn mode o
 unfolding oneGone
 gone-room mode Idle s n h z = h
 gone-room mode (Sending part []) s n h z = h
-gone-room mode (Sending part (x ∷ ms)) s n h z = room-gone mode (synchronizes mode part) s n x part ms refl h z
+gone-room mode (Sending part (x ∷ ms)) s n h z = room-gone mode (synchronizes (alphabetOf mode) part) s n x part ms refl h z
 
 closes-room : (mode : Mode) {on on′ : OnLine} (s : Sender) (n : ℕ) → Closes on on′ → RoomOn mode on s n → RoomOn mode on′ s n
-closes-room mode s n (ends {part}) h = none-left mode (synchronizes mode part) s n h
+closes-room mode s n (ends {part}) h = none-left mode (synchronizes (alphabetOf mode) part) s n h
 closes-room mode s n keeps h = h
 
-module _ (mode : Mode) (L : Laws mode) (later : atOnce mode ≡ false) where
+module _ (mode : Mode) (L : LawsOf mode) (later : atOnce (alphabetOf mode) ≡ false) where
   opens-room : {on on′ : OnLine} (s : Sender) (n : ℕ) → Opens mode on on′ → RoomOn mode on s n → RoomOn mode on′ s n
   opens-room s n opens h = rw (L .preamble-not) h
   opens-room s n goes-on h = h
 
-  begins-room : {waiting : List ℕ} {on : OnLine} {s : Sender} {l : Loaded} (n : ℕ) → Begins mode waiting on s l → SenderIn mode s → RoomOn mode on s n
+  begins-room : {waiting : List ℕ} {on : OnLine} {s : Sender} {l : Loaded} (n : ℕ) → Begins mode waiting on s l → SenderIn (alphabetOf mode) s → RoomOn mode on s n
       → (m : ℕ) × (n ≡ length (l .taken) + m) × RoomOn mode (l .onLine) (l .sender) m
   begins-room n stays i h = (n, omega arith, h)
-  begins-room n (shifts part c cs s w e) i h = (n, omega arith, rw (L .shift-synchronizes s (w .own) e) (L .code-long (shiftCode (shiftWanted mode s (w .own)))))
+  begins-room n (shifts part c cs s w e) i h = (n, omega arith, rw (L .shift-synchronizes s (w .own) e) (L .code-long (shiftCode (shiftWanted (alphabetOf mode) s (w .own)))))
   begins-room n (owns part c cs s w e) i h =
-      let r = L .own-room s c w n i e (none-left mode (synchronizes mode part) s n h) later in
-      (r .0, omega (arith, r .1), go (synchronizes mode OwnCode) (r .0) (r .2))
+      let r = L .own-room s c w n i e (none-left mode (synchronizes (alphabetOf mode) part) s n h) later in
+      (r .0, omega (arith, r .1), go (synchronizes (alphabetOf mode) OwnCode) (r .0) (r .2))
     where
-      go : (b : Bool) (m : ℕ) → (b ≡ false → Room mode (senderAfterOwn mode s) m) → RoomBy mode b (senderAfterOwn mode s) m (signal mode (w .code .0))
+      go : (b : Bool) (m : ℕ) → (b ≡ false → Room (alphabetOf mode) (senderAfterOwn (alphabetOf mode) s) m) → RoomBy mode b (senderAfterOwn (alphabetOf mode) s) m (signal mode (w .code .0))
       go true m k = L .code-long (w .code .0)
       go false m k = k refl
 

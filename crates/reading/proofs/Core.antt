@@ -6,6 +6,7 @@ use mathlib.Core.List.{List, [], _∷_, _++_, append-nil}
 use Prim.Native.Nat.{ℕ, zero, suc, _+_, _<_, _≤_}
 use native.Mathlib.Omega.{arith}
 use lib.ListN.{length, take, drop, replicate}
+use lib.Seq.{drop-append-seam}
 use borrow.Author.Tests.{le-leb}
 use Rattle.lists.specs.Lists.{allAtMost}
 use Rattle.lists.specs.Steps.{stateAfter, outputs}
@@ -20,14 +21,15 @@ use Rattle.alphabet.specs.Normal.{sends, normal, normalForm, allChars}
 use Rattle.alphabet.proofs.Normal.{normal-code}
 use Rattle.alphabet.proofs.Rule.{rule-of}
 use Rattle.baudot.specs.declared.Sender.{Sender}
+use Rattle.line.specs.declared.Event.{Event}
 use Rattle.line.specs.declared.Reader.{Reader}
 use Rattle.line.specs.Reader.{hear, inhibited}
 use Rattle.line.specs.Words.{wordsOf, events, words}
 use Rattle.chain.specs.Resting.{rests, restsAll, Settled}
 use Rattle.chain.proofs.Resting.{settles}
 use Rattle.reading.specs.Model.{OnLine, Idle, Sending, Model, Loaded, Did, Step, Offer, Ms, freshModel, offered, load, levelOn, inBurst, oneGone, closed, did, msAfter, modelAfter, does, sentIn, takenIn}
-use Rattle.reading.specs.Reading.{atOnce, mostBefore, untilSynchronized, synchronizedAfter, NoBurst, EndsIdle, OffersChars, readerAfterInhibited, Premises, Reads, ReadsAfterIdle}
-use Rattle.reading.proofs.Laws.{SenderIn, Synchronized, Laws, laws}
+use Rattle.reading.specs.Reading.{atOnce, mostBefore, untilSynchronized, synchronizedAfter, NoBurst, EndsIdle, OffersChars, eventsInhibited, Premises, Reads, ReadsAfterIdle}
+use Rattle.reading.proofs.Laws.{SenderIn, Synchronized, LawsOf, laws}
 use Rattle.reading.proofs.Views.{left, Begins, stays, shifts, owns, Fine, fine-offered, fine-ms, fine-after, load-view}
 use Rattle.reading.proofs.Following.{Before, follows, follows-after}
 use Rattle.reading.proofs.Bound.{bound}
@@ -73,12 +75,31 @@ module _ (mode : Mode) where
   all-quiet (Offer cs ∷ steps) m h = all-quiet steps (offered mode cs m) h
   all-quiet (Ms x ∷ steps) m h = λ i. ms-quiet m (h .0) i ∷ all-quiet steps (msAfter mode m x) (h .1) i
 
-  -- quiet ms, the first n of them inhibited
-  quiet-rests : (k n : ℕ) (r : Reader) → (bs : List Bool) × (length bs ≡ k) × (readerAfterInhibited mode n r (replicate k 0) ≡ restsAll mode r bs)
-  unfolding readerAfterInhibited restsAll
-  quiet-rests zero n r = ([], refl, refl)
-  quiet-rests (suc k) zero r = let i = quiet-rests k zero (hear mode r 0 .reader) in (false ∷ i .0, ap suc (i .1), i .2)
-  quiet-rests (suc k) (suc n) r = let i = quiet-rests k n (inhibited r) in (true ∷ i .0, ap suc (i .1), i .2)
+  -- a reader that is not inhibited
+  none-inhibited : (xs : List ℕ) (r : Reader) → eventsInhibited mode zero r xs ≡ events mode r xs
+  unfolding eventsInhibited outputs
+  none-inhibited [] r = refl
+  none-inhibited (x ∷ xs) r = ap (λ (es : List Event). hear mode r x .event ∷ es) (none-inhibited xs (hear mode r x .reader))
+
+  -- quiet ms, the first n of them inhibited, and then others
+  quiet-rests : (k n : ℕ) (r : Reader) (xs : List ℕ) → n ≤ k
+      → (bs : List Bool) × (length bs ≡ k) × (drop k (eventsInhibited mode n r (replicate k 0 ++ xs)) ≡ events mode (restsAll mode r bs) xs)
+  unfolding eventsInhibited restsAll
+  quiet-rests zero zero r xs h = ([], refl, none-inhibited xs r)
+  quiet-rests zero (suc n) r xs h = absurd (omega arith)
+  quiet-rests (suc k) zero r xs h = let i = quiet-rests k zero (hear mode r 0 .reader) xs (omega arith) in (false ∷ i .0, ap suc (i .1), i .2)
+  quiet-rests (suc k) (suc n) r xs h = let i = quiet-rests k n (inhibited r) xs (omega arith) in (true ∷ i .0, ap suc (i .1), i .2)
+
+  -- what some steps do, and then others
+  pub does-append : (xs ys : List Step) (m : Model) → does mode m (xs ++ ys) ≡ does mode m xs ++ does mode (modelAfter mode m xs) ys
+  unfolding does modelAfter
+  does-append [] ys m = refl
+  does-append (Offer cs ∷ xs) ys m = does-append xs ys (offered mode cs m)
+  does-append (Ms x ∷ xs) ys m = ap (λ (ds : List Did). did mode m ∷ ds) (does-append xs ys (msAfter mode m x))
+
+sent-append : (ds es : List Did) → sentIn (ds ++ es) ≡ sentIn ds ++ sentIn es
+sent-append [] es = refl
+sent-append (d ∷ ds) es = ap (λ (l : List ℕ). d .sent ∷ l) (sent-append ds es)
 
 -- ---- what is taken are characters, and so are their normal forms
 
@@ -116,7 +137,7 @@ taken-drop zero ds t = t
 taken-drop (suc k) [] t = t
 taken-drop (suc k) (d ∷ ds) t = taken-drop k ds (most-right 0x7f (d .taken) (takenIn ds) t)
 
-module _ (mode : Mode) (L : Laws mode) where
+module _ (mode : Mode) (L : LawsOf mode) where
   begins-chars : {waiting : List ℕ} {on : OnLine} {s : Sender} {l : Loaded} → Begins mode waiting on s l → allChars (l .taken) ≡ true
   unfolding allAtMost
   begins-chars stays = refl
@@ -135,22 +156,22 @@ module _ (mode : Mode) (L : Laws mode) where
     abbrev ds : List Did
     ds = does mode m next
 
-    text-by : (b : Bool) → atOnce mode ≡ b → EndsIdle ds → wordsOf (drop (cond b 0 (untilSynchronized mode ds)) (events mode r (sentIn ds))) ≡ normalForm (alphabetOf mode) (takenIn (drop (cond b 0 (untilSynchronized mode ds)) ds))
+    text-by : (b : Bool) → atOnce (alphabetOf mode) ≡ b → EndsIdle ds → wordsOf (drop (cond b 0 (untilSynchronized mode ds)) (events mode r (sentIn ds))) ≡ normalForm (alphabetOf mode) (takenIn (drop (cond b 0 (untilSynchronized mode ds)) ds))
     unfolding stateAfter outputs wordsOf
     text-by true e z =
         follows mode L next m r t f (rw idle (L .at-once e (m .sender) r between)) (idle-after mode next m (λ _. idle) z) ∙ ap (λ (on : OnLine). words mode r (left on) ++ normalForm (alphabetOf mode) (takenIn ds)) idle
     text-by false e z = follows-after mode L next m r t f (rw idle (record { between = between; due = tt })) (idle-after mode next m (λ _. idle) z)
 
-    before-by : (b : Bool) → atOnce mode ≡ b → length (takenIn (take (cond b 0 (untilSynchronized mode ds)) ds)) ≤ mostBefore mode
+    before-by : (b : Bool) → atOnce (alphabetOf mode) ≡ b → length (takenIn (take (cond b 0 (untilSynchronized mode ds)) ds)) ≤ mostBefore (alphabetOf mode)
     unfolding takenIn
     before-by true e = omega arith
-    before-by false e = bound mode L e next m (mostBefore mode) t f (rw idle (L .room-most (m .sender)))
+    before-by false e = bound mode L e next m (mostBefore (alphabetOf mode)) t f (rw idle (L .room-most (m .sender)))
 
     pub reads : Reads mode ds (events mode r (sentIn ds))
     reads =
-        let w = text-by (atOnce mode) refl in
+        let w = text-by (atOnce (alphabetOf mode)) refl in
         record {
-          before = before-by (atOnce mode) refl;
+          before = before-by (atOnce (alphabetOf mode)) refl;
           text = w;
           no-fault = λ z. rw (w z) (normal-form-chars (alphabetOf mode) (takenIn (drop (synchronizedAfter mode ds) ds)) (taken-drop (synchronizedAfter mode ds) ds (taken-chars next m t f)));
         }
@@ -169,7 +190,7 @@ offers-right [] ys h = h
 offers-right (Offer cs ∷ xs) ys h = offers-right xs ys (h .1)
 offers-right (Ms x ∷ xs) ys h = offers-right xs ys h
 
-fresh-sender : (mode : Mode) → SenderIn mode (freshModel .sender)
+fresh-sender : (mode : Mode) → SenderIn (alphabetOf mode) (freshModel .sender)
 fresh-sender Baudot45 = inl refl
 fresh-sender Baudot50 = inl refl
 fresh-sender Dtmf = tt
@@ -179,12 +200,18 @@ pub reads-after-idle : (mode : Mode) → ReadsAfterIdle mode
 reads-after-idle mode past forty next r n p =
     let L = laws mode in
     let m = modelAfter mode freshModel past in
+    let m′ = modelAfter mode m forty in
+    let ds = does mode m′ next in
     let after = offers-right past (forty ++ next) (p .chars) in
     let f = fine-after mode L past freshModel (offers-left past (forty ++ next) (p .chars)) (record { waits = tt; sender-in = fresh-sender mode }) in
     let f′ = fine-after mode L forty m (offers-left forty next after) f in
     let k = p .forty-ms in
     let idle = idle-after mode forty m (λ e. let z = ap length e in absurd (omega arith)) (no-burst-ends mode (does mode m forty) (p .idle)) in
-    let b = quiet-rests mode 40 n r in
-    let q : sentIn (does mode m forty) ≡ replicate 40 0 = all-quiet mode forty m (p .idle) ∙ ap (λ (i : ℕ). replicate {A = ℕ} i 0) k in
-    let u : Settled mode (readerAfterInhibited mode n r (sentIn (does mode m forty))) = rw (q, b .2) (settles mode r (p .reader-in) (b .0) (b .1)) in
-    reads mode L next (modelAfter mode m forty) (readerAfterInhibited mode n r (sentIn (does mode m forty))) (offers-right forty next after) f′ idle u
+    let b = quiet-rests mode 40 n r (sentIn ds) (p .inhibited-in) in
+    let e = does-append mode forty next m in
+    let quiets : sentIn (does mode m forty) ≡ replicate 40 0 = all-quiet mode forty m (p .idle) ∙ ap (λ (i : ℕ). replicate {A = ℕ} i 0) k in
+    let sent : sentIn (does mode m (forty ++ next)) ≡ replicate 40 0 ++ sentIn ds = ap sentIn e ∙ sent-append (does mode m forty) ds ∙ ap (λ (l : List ℕ). l ++ sentIn ds) quiets in
+    let did-is : drop 40 (does mode m (forty ++ next)) ≡ ds = ap (drop 40) e ∙ ap (λ (i : ℕ). drop i (does mode m forty ++ ds)) (sym k) ∙ drop-append-seam (does mode m forty) ds in
+    let heard-is : drop 40 (eventsInhibited mode n r (sentIn (does mode m (forty ++ next)))) ≡ events mode (restsAll mode r (b .0)) (sentIn ds) =
+    ap (λ (l : List ℕ). drop 40 (eventsInhibited mode n r l)) sent ∙ b .2 in
+    rw (did-is, heard-is) (reads mode L next m′ (restsAll mode r (b .0)) (offers-right forty next after) f′ idle (settles mode r (p .reader-in) (b .0) (b .1)))

@@ -20,17 +20,17 @@ use Rattle.chain.specs.Resting.{Settled}
 use Rattle.chain.proofs.Chain.{Gives}
 use Rattle.reading.specs.Model.{Part, Preamble, ShiftCode, OwnCode, OnLine, Idle, Sending, Model, Loaded, Did, Step, Offer, Ms, offered, load, levelOn, oneGone, ended, closed, did, msAfter, modelAfter, does, sentIn, takenIn}
 use Rattle.reading.specs.Reading.{synchronizes, endsSynchronizing, untilSynchronized, OffersChars}
-use Rattle.reading.proofs.Laws.{Waits, Makes, SenderIn, Synchronized, Laws}
+use Rattle.reading.proofs.Laws.{Waits, Makes, SenderIn, Synchronized, LawsOf}
 use Rattle.reading.proofs.Views.{left, AllWait, Opens, opens, goes-on, Begins, stays, shifts, owns, Closes, ends, keeps, closed-view, Fine, fine-offered, fine-ms, load-view}
 
 closes-left : {on on′ : OnLine} → Closes on on′ → left on′ ≡ left on
 closes-left ends = refl
 closes-left keeps = refl
 
-module _ (mode : Mode) (L : Laws mode) where
+module _ (mode : Mode) (L : LawsOf mode) where
   -- after the ms that are left, the reader is synchronized
   abbrev After : Sender → Reader → OnLine → Type 0
-  After s r on = Synchronized mode s (readerAfter mode r (left on))
+  After s r on = Synchronized (alphabetOf mode) s (readerAfter mode r (left on))
 
   abbrev normals : List ℕ → List ℕ
   normals cs = normalForm (alphabetOf mode) cs
@@ -48,11 +48,11 @@ module _ (mode : Mode) (L : Laws mode) where
   unfolding stateAfter outputs wordsOf
   opens-after s r opens h =
       let g = L .preamble-passes r (L .between s r h) in
-      (subst (Synchronized mode s) (sym (g .after)) h, g .heard)
+      (subst (Synchronized (alphabetOf mode) s) (sym (g .after)) h, g .heard)
   opens-after s r goes-on h = (h, refl)
 
   -- a code begins: with what it takes, the words are those of what was taken
-  begins-after : {waiting : List ℕ} {on : OnLine} {s : Sender} {l : Loaded} (r : Reader) → Begins mode waiting on s l → SenderIn mode s → After s r on
+  begins-after : {waiting : List ℕ} {on : OnLine} {s : Sender} {l : Loaded} (r : Reader) → Begins mode waiting on s l → SenderIn (alphabetOf mode) s → After s r on
       → After (l .sender) r (l .onLine) × (words mode r (left (l .onLine)) ≡ words mode r (left on) ++ normals (l .taken))
   unfolding stateAfter outputs wordsOf normalForm
   begins-after r stays i h = (h, sym (append-nil _))
@@ -65,8 +65,8 @@ module _ (mode : Mode) (L : Laws mode) where
   gone-after : (s : Sender) (r : Reader) (on : OnLine) → After s r on
       → After s (hear mode r (levelOn on) .reader) (oneGone on) × (wordOf (hear mode r (levelOn on) .event) ++ words mode (hear mode r (levelOn on) .reader) (left (oneGone on)) ≡ words mode r (left on))
   unfolding stateAfter outputs wordsOf levelOn oneGone
-  gone-after s r Idle h = let b = L .between s r h in (subst (Synchronized mode s) (sym (quiet-is r b)) h, append-nil _ ∙ quiet-word r b)
-  gone-after s r (Sending part []) h = let b = L .between s r h in (subst (Synchronized mode s) (sym (quiet-is r b)) h, append-nil _ ∙ quiet-word r b)
+  gone-after s r Idle h = let b = L .between s r h in (subst (Synchronized (alphabetOf mode) s) (sym (quiet-is r b)) h, append-nil _ ∙ quiet-word r b)
+  gone-after s r (Sending part []) h = let b = L .between s r h in (subst (Synchronized (alphabetOf mode) s) (sym (quiet-is r b)) h, append-nil _ ∙ quiet-word r b)
   gone-after s r (Sending part (x ∷ ms)) h = (h, refl)
 
   -- one ms of the model, heard by a synchronized reader
@@ -108,7 +108,7 @@ module _ (mode : Mode) (L : Laws mode) where
   -- after the ms that are left, the reader is between codes; and synchronized, if they end a synchronizing code
   abbrev Due : Sender → Reader → OnLine → Type 0
   Due s r Idle = Unit {0}
-  Due s r (Sending part ms) = synchronizes mode part ≡ true → Synchronized mode s (readerAfter mode r ms)
+  Due s r (Sending part ms) = synchronizes (alphabetOf mode) part ≡ true → Synchronized (alphabetOf mode) s (readerAfter mode r ms)
 
   pub record Before (s : Sender) (r : Reader) (on : OnLine) : Type 0 where
     pub between : Settled mode (readerAfter mode r (left on))
@@ -120,7 +120,7 @@ module _ (mode : Mode) (L : Laws mode) where
       record { between = subst (Settled mode) (sym (L .preamble-passes r (h .between) .after)) (h .between); due = λ e. absurd (false≢true (sym (L .preamble-not) ∙ e)) }
   opens-before s r goes-on h = h
 
-  begins-before : {waiting : List ℕ} {on : OnLine} {s : Sender} {l : Loaded} (r : Reader) → Begins mode waiting on s l → SenderIn mode s → Before s r on → Before (l .sender) r (l .onLine)
+  begins-before : {waiting : List ℕ} {on : OnLine} {s : Sender} {l : Loaded} (r : Reader) → Begins mode waiting on s l → SenderIn (alphabetOf mode) s → Before s r on → Before (l .sender) r (l .onLine)
   unfolding stateAfter
   begins-before r stays i h = h
   begins-before r (shifts part c cs s w e) i h =
@@ -133,7 +133,7 @@ module _ (mode : Mode) (L : Laws mode) where
   gone-before s r Idle h = record { between = subst (Settled mode) (sym (quiet-is r (h .between))) (h .between); due = tt }
   gone-before s r (Sending part []) h =
       let e = sym (quiet-is r (h .between)) in
-      record { between = subst (Settled mode) e (h .between); due = λ y. subst (Synchronized mode s) e (h .due y) }
+      record { between = subst (Settled mode) e (h .between); due = λ y. subst (Synchronized (alphabetOf mode) s) e (h .due y) }
   gone-before s r (Sending part (x ∷ ms)) h = record { between = h .between; due = h .due }
 
   closes-before : {on on′ : OnLine} (s : Sender) (r : Reader) → Closes on on′ → Before s r on → Before s r on′

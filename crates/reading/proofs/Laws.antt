@@ -13,6 +13,7 @@ use Rattle.lists.specs.Lists.{allAtMost}
 use Rattle.lists.specs.Steps.{stateAfter, outputs}
 use Rattle.lists.specs.Tables.{tabulate}
 use Rattle.lists.proofs.Tables.{tabulate-length}
+use Rattle.alphabet.specs.declared.Alphabet.{Alphabet}
 use Rattle.alphabet.specs.declared.Alphabet.the-variants.{Baudot, Dtmf as dtmf, Edt as edt}
 use Rattle.alphabet.specs.declared.LineCode.{LineCode}
 use Rattle.alphabet.specs.declared.Mode.{Mode}
@@ -48,11 +49,11 @@ use Rattle.reading.specs.Model.{Part, Preamble, ShiftCode, OwnCode, shif
 use Rattle.reading.specs.Reading.{synchronizes, atOnce, mostBefore}
 
 -- a character that can wait: it sends a code
-pub record Waits (mode : Mode) (c : ℕ) : Type 0 where
+pub record Waits (a : Alphabet) (c : ℕ) : Type 0 where
   pub char-in : c < 128
   pub own : ℕ
   pub code : LineCode
-  pub sent : sends (alphabetOf mode) c ≡ Code own code
+  pub sent : sends a c ≡ Code own code
 
 -- from the reader r, the ms xs give the words ws and leave a reader of which P holds
 pub record Makes (mode : Mode) (r : Reader) (xs ws : List ℕ) (P : Reader → Type 0) : Type 0 where
@@ -66,11 +67,10 @@ makes mode P g h = record { after = subst P (sym (g .after)) h; heard = g .heard
 abbrev pub BaudotSender : Sender → Type 0
 BaudotSender s = (s .shift ≡ 0) ⊎ Running s
 
-abbrev pub SenderIn : Mode → Sender → Type 0
-SenderIn Baudot45 s = BaudotSender s
-SenderIn Baudot50 s = BaudotSender s
-SenderIn Dtmf s = Unit {0}
-SenderIn Edt s = Unit {0}
+abbrev pub SenderIn : Alphabet → Sender → Type 0
+SenderIn Baudot s = BaudotSender s
+SenderIn dtmf s = Unit {0}
+SenderIn edt s = Unit {0}
 
 -- A synchronized reader is between codes, and knows what the sender's codes mean: in Baudot it has the shift of a sender that
 -- runs, in DTMF no prefix. (`Settled` alone: between codes, with any shift and prefix.)
@@ -79,48 +79,46 @@ pub record InShift (s : Sender) (r : Reader) : Type 0 where
   pub running : Running s
   pub shift-is : r .shift ≡ s .shift
 
-abbrev pub Synchronized : Mode → Sender → Reader → Type 0
-Synchronized Baudot45 s r = InShift s r
-Synchronized Baudot50 s r = InShift s r
-Synchronized Dtmf s r = (r .keys ≡ ready) × (r .prefix ≡ 0)
-Synchronized Edt s r = r .frame ≡ hunting
+abbrev pub Synchronized : Alphabet → Sender → Reader → Type 0
+Synchronized Baudot s r = InShift s r
+Synchronized dtmf s r = (r .keys ≡ ready) × (r .prefix ≡ 0)
+Synchronized edt s r = r .frame ≡ hunting
 
 -- at most n characters more are taken before the synchronizing code
-abbrev pub Room : Mode → Sender → ℕ → Type 0
-Room Baudot45 s n = 72 ≤ n + s .count
-Room Baudot50 s n = 72 ≤ n + s .count
-Room Dtmf s n = 1 ≤ n
-Room Edt s n = Unit {0}
+abbrev pub Room : Alphabet → Sender → ℕ → Type 0
+Room Baudot s n = 72 ≤ n + s .count
+Room dtmf s n = 1 ≤ n
+Room edt s n = Unit {0}
 
--- What has to hold of a mode.
-pub record Laws (mode : Mode) : Type 0 where
-  pub between : (s : Sender) (r : Reader) → Synchronized mode s r → Settled mode r
-  pub at-once : atOnce mode ≡ true → (s : Sender) (r : Reader) → Settled mode r → Synchronized mode s r
+-- What has to hold of a mode, its alphabet a, and its readers that are between codes.
+pub record Laws (mode : Mode) (a : Alphabet) (Between : Reader → Type 0) : Type 0 where
+  pub between : (s : Sender) (r : Reader) → Synchronized a s r → Between r
+  pub at-once : atOnce a ≡ true → (s : Sender) (r : Reader) → Between r → Synchronized a s r
   -- between codes, quiet and the preamble give no word and leave the reader as it is
-  pub quiet-passes : (r : Reader) → Settled mode r → Gives mode r (0 ∷ []) [] r
-  pub preamble-passes : (r : Reader) → Settled mode r → Gives mode r (preamble mode) [] r
-  pub preamble-not : synchronizes mode Preamble ≡ false
+  pub quiet-passes : (r : Reader) → Between r → Gives mode r (0 ∷ []) [] r
+  pub preamble-passes : (r : Reader) → Between r → Gives mode r (preamble mode) [] r
+  pub preamble-not : synchronizes a Preamble ≡ false
   -- a shift code that is wanted synchronizes, and gives no word
-  pub shift-law : (s : Sender) (c : ℕ) (w : Waits mode c) → SenderIn mode s → eqb (shiftWanted mode s (w .own)) 0 ≡ false
-      → (r : Reader) → Settled mode r
-      → Makes mode r (signal mode (shiftCode (shiftWanted mode s (w .own)))) [] (Synchronized mode (shifted s (shiftWanted mode s (w .own))))
-  pub shift-sender : (s : Sender) (c : ℕ) (w : Waits mode c) → SenderIn mode s → eqb (shiftWanted mode s (w .own)) 0 ≡ false
-      → SenderIn mode (shifted s (shiftWanted mode s (w .own)))
-  -- an own code ahead of which none is wanted: read by a synchronized reader as its normal form, by another as something
-  pub own-law : (s : Sender) (c : ℕ) (w : Waits mode c) → eqb (shiftWanted mode s (w .own)) 0 ≡ true
-      → (r : Reader) → Synchronized mode s r
-      → Makes mode r (signal mode (w .code .0)) (normal (alphabetOf mode) c) (Synchronized mode (senderAfterOwn mode s))
-  pub own-between : (c : ℕ) (w : Waits mode c) (r : Reader) → Settled mode r → Settled mode (readerAfter mode r (signal mode (w .code .0)))
-  pub own-synchronizes : synchronizes mode OwnCode ≡ true → (s : Sender) (c : ℕ) (w : Waits mode c) (r : Reader) → Settled mode r
-      → Synchronized mode s (readerAfter mode r (signal mode (w .code .0)))
-  pub own-sender : (s : Sender) (c : ℕ) (w : Waits mode c) → SenderIn mode s → eqb (shiftWanted mode s (w .own)) 0 ≡ true
-      → SenderIn mode (senderAfterOwn mode s)
+  pub shift-law : (s : Sender) (c : ℕ) (w : Waits a c) → SenderIn a s → eqb (shiftWanted a s (w .own)) 0 ≡ false → (r : Reader) → Between r
+      → Makes mode r (signal mode (shiftCode (shiftWanted a s (w .own)))) [] (Synchronized a (shifted s (shiftWanted a s (w .own))))
+  pub shift-sender : (s : Sender) (c : ℕ) (w : Waits a c) → SenderIn a s → eqb (shiftWanted a s (w .own)) 0 ≡ false
+      → SenderIn a (shifted s (shiftWanted a s (w .own)))
+  pub shift-synchronizes : (s : Sender) (own : ℕ) → eqb (shiftWanted a s own) 0 ≡ false → synchronizes a ShiftCode ≡ true
+  -- an own code ahead of which none is wanted: a synchronized reader reads its normal form, another one something
+  pub own-law : (s : Sender) (c : ℕ) (w : Waits a c) → eqb (shiftWanted a s (w .own)) 0 ≡ true → (r : Reader) → Synchronized a s r
+      → Makes mode r (signal mode (w .code .0)) (normal a c) (Synchronized a (senderAfterOwn a s))
+  pub own-sender : (s : Sender) (c : ℕ) (w : Waits a c) → SenderIn a s → eqb (shiftWanted a s (w .own)) 0 ≡ true → SenderIn a (senderAfterOwn a s)
+  pub own-between : (c : ℕ) (w : Waits a c) (r : Reader) → Between r → Between (readerAfter mode r (signal mode (w .code .0)))
+  pub own-synchronizes : synchronizes a OwnCode ≡ true → (s : Sender) (c : ℕ) (w : Waits a c) (r : Reader) → Between r
+      → Synchronized a s (readerAfter mode r (signal mode (w .code .0)))
   -- the bound
-  pub room-most : (s : Sender) → Room mode s (mostBefore mode)
-  pub code-long : (n : ℕ) → 0 < length (signal mode n)
-  pub shift-synchronizes : (s : Sender) (own : ℕ) → eqb (shiftWanted mode s own) 0 ≡ false → synchronizes mode ShiftCode ≡ true
-  pub own-room : (s : Sender) (c : ℕ) (w : Waits mode c) (n : ℕ) → SenderIn mode s → eqb (shiftWanted mode s (w .own)) 0 ≡ true → Room mode s n
-      → atOnce mode ≡ false → (m : ℕ) × (n ≡ suc m) × (synchronizes mode OwnCode ≡ false → Room mode (senderAfterOwn mode s) m)
+  pub code-long : (k : ℕ) → 0 < length (signal mode k)
+  pub room-most : (s : Sender) → Room a s (mostBefore a)
+  pub own-room : (s : Sender) (c : ℕ) (w : Waits a c) (n : ℕ) → SenderIn a s → eqb (shiftWanted a s (w .own)) 0 ≡ true → Room a s n
+      → atOnce a ≡ false → (m : ℕ) × (n ≡ suc m) × (synchronizes a OwnCode ≡ false → Room a (senderAfterOwn a s) m)
+
+abbrev pub LawsOf : Mode → Type 0
+LawsOf mode = Laws mode (alphabetOf mode) (Settled mode)
 
 -- a reader that hunts, written out
 hunts-is : (r : Reader) → r .frame ≡ hunting → r ≡ reader hunting (r .keys) (r .shift) (r .prefix)
@@ -283,42 +281,33 @@ long Baudot50 n = long-baudot 20 n (omega arith)
 long Dtmf n = long-keys (keys (getD prefixes (n / 16) "")) (n % 16)
 long Edt n = omega (arith, tabulate-length (λ (m : ℕ). levelOf (getD (edtElements n) (11 * m / 100) 1)) 100 0)
 
-pub laws : (mode : Mode) → Laws mode
+-- the laws
+module _ (mode : Mode) (law : (r : Reader) (x : ℕ) → hear mode r x ≡ hearFrame mode r x) (lead : (r : Reader) → r .frame ≡ hunting → Gives mode r (preamble mode) [] r)
+    (code : (k : Keys) (s p c : ℕ) → c < 32 → Gives mode (reader hunting k s p) (signal mode c) (wordOf (eventOf (reads Baudot s c))) (reader hunting k (shiftBy s (reads Baudot s c)) p)) where
+  laws-baudot : Laws mode Baudot (λ r. r .frame ≡ hunting)
+  unfolding synchronizes
+  laws-baudot = record {
+    between = λ s r h. h .hunts;
+    at-once = λ e s r h. absurd (false≢true e);
+    quiet-passes = quiet-frames mode law;
+    preamble-passes = lead;
+    preamble-not = refl;
+    shift-law = λ s c w. baudot-shift mode code s c (w .own) (w .code) (w .char-in) (w .sent);
+    shift-sender = λ s c w. baudot-shifted s c (w .own) (w .code) (w .char-in) (w .sent);
+    shift-synchronizes = λ s own e. refl;
+    own-law = λ s c w. baudot-own mode code s c (w .own) (w .code) (w .char-in) (w .sent);
+    own-sender = λ s c w. baudot-counted s c (w .own) (w .code) (w .char-in) (w .sent);
+    own-between = λ c w. baudot-between mode code c (w .own) (w .code) (w .char-in) (w .sent);
+    own-synchronizes = λ e s c w r h. absurd (false≢true e);
+    code-long = long mode;
+    room-most = λ s. omega arith;
+    own-room = λ s c w n b e r z. let m = baudot-room s c (w .own) (w .code) (w .char-in) (w .sent) b n e r in (m .0, m .1, λ y. m .2);
+  }
+
+pub laws : (mode : Mode) → LawsOf mode
 unfolding hear synchronizes
-laws Baudot45 = record {
-  between = λ s r h. h .hunts;
-  at-once = λ e s r h. absurd (false≢true e);
-  quiet-passes = quiet-frames Baudot45 (λ r x. refl);
-  preamble-passes = marks-frames Baudot45 (λ r x. refl) 150;
-  preamble-not = refl;
-  shift-law = λ s c w. baudot-shift Baudot45 code-45 s c (w .own) (w .code) (w .char-in) (w .sent);
-  shift-sender = λ s c w. baudot-shifted s c (w .own) (w .code) (w .char-in) (w .sent);
-  own-law = λ s c w. baudot-own Baudot45 code-45 s c (w .own) (w .code) (w .char-in) (w .sent);
-  own-between = λ c w. baudot-between Baudot45 code-45 c (w .own) (w .code) (w .char-in) (w .sent);
-  own-synchronizes = λ e s c w r h. absurd (false≢true e);
-  own-sender = λ s c w. baudot-counted s c (w .own) (w .code) (w .char-in) (w .sent);
-  room-most = λ s. omega arith;
-  code-long = long Baudot45;
-  shift-synchronizes = λ s own e. refl;
-  own-room = λ s c w n b e r z. let m = baudot-room s c (w .own) (w .code) (w .char-in) (w .sent) b n e r in (m .0, m .1, λ y. m .2);
-}
-laws Baudot50 = record {
-  between = λ s r h. h .hunts;
-  at-once = λ e s r h. absurd (false≢true e);
-  quiet-passes = quiet-frames Baudot50 (λ r x. refl);
-  preamble-passes = marks-frames Baudot50 (λ r x. refl) 150;
-  preamble-not = refl;
-  shift-law = λ s c w. baudot-shift Baudot50 code-50 s c (w .own) (w .code) (w .char-in) (w .sent);
-  shift-sender = λ s c w. baudot-shifted s c (w .own) (w .code) (w .char-in) (w .sent);
-  own-law = λ s c w. baudot-own Baudot50 code-50 s c (w .own) (w .code) (w .char-in) (w .sent);
-  own-between = λ c w. baudot-between Baudot50 code-50 c (w .own) (w .code) (w .char-in) (w .sent);
-  own-synchronizes = λ e s c w r h. absurd (false≢true e);
-  own-sender = λ s c w. baudot-counted s c (w .own) (w .code) (w .char-in) (w .sent);
-  room-most = λ s. omega arith;
-  code-long = long Baudot50;
-  shift-synchronizes = λ s own e. refl;
-  own-room = λ s c w n b e r z. let m = baudot-room s c (w .own) (w .code) (w .char-in) (w .sent) b n e r in (m .0, m .1, λ y. m .2);
-}
+laws Baudot45 = laws-baudot Baudot45 (λ r x. refl) (marks-frames Baudot45 (λ r x. refl) 150) code-45
+laws Baudot50 = laws-baudot Baudot50 (λ r x. refl) (marks-frames Baudot50 (λ r x. refl) 150) code-50
 laws Dtmf = record {
   between = λ s r h. h .0;
   at-once = λ e s r h. absurd (false≢true e);
@@ -327,7 +316,7 @@ laws Dtmf = record {
   preamble-not = refl;
   shift-law = λ s c w b e r h. absurd (true≢false e);
   shift-sender = λ s c w b e. absurd (true≢false e);
-  own-law = λ s c w e r h. makes Dtmf (Synchronized Dtmf s) (dtmf-own c (w .own) (w .code) (w .char-in) (w .sent) r (h .0) (h .1)) h;
+  own-law = λ s c w e r h. makes Dtmf (Synchronized dtmf s) (dtmf-own c (w .own) (w .code) (w .char-in) (w .sent) r (h .0) (h .1)) h;
   own-between = λ c w r h. ap (λ (x : Reader). x .keys) (dtmf-any c (w .own) (w .code) (w .char-in) (w .sent) r h);
   own-synchronizes = λ e s c w r h.
       let q = dtmf-any c (w .own) (w .code) (w .char-in) (w .sent) r h in
@@ -346,7 +335,7 @@ laws Edt = record {
   preamble-not = refl;
   shift-law = λ s c w b e r h. absurd (true≢false e);
   shift-sender = λ s c w b e. absurd (true≢false e);
-  own-law = λ s c w e r h. makes Edt (Synchronized Edt s) (edt-own c (w .own) (w .code) (w .char-in) (w .sent) r h) h;
+  own-law = λ s c w e r h. makes Edt (Synchronized edt s) (edt-own c (w .own) (w .code) (w .char-in) (w .sent) r h) h;
   own-between = λ c w r h. subst (Settled Edt) (sym (edt-own c (w .own) (w .code) (w .char-in) (w .sent) r h .after)) h;
   own-synchronizes = λ e s c w r h. absurd (false≢true e);
   own-sender = λ s c w b e. tt;

@@ -17,7 +17,7 @@ use Rattle.baudot.specs.Opening.{isCode}
 use Rattle.signal.specs.Signal.{preamble}
 use Rattle.reading.specs.Model.{Part, Preamble, ShiftCode, OwnCode, OnLine, Idle, Sending, Model, Loaded, Step, Offer, Ms, sendable, offered, mayBegin, mayEnd, begun, shiftWanted, loaded, shiftBegins, ownBegins, codeBegins, nextCode, load, oneGone, closed, msAfter, modelAfter, freshModel, inBurst}
 use Rattle.reading.specs.Reading.{OffersChars}
-use Rattle.reading.proofs.Laws.{Waits, SenderIn, Laws}
+use Rattle.reading.proofs.Laws.{Waits, SenderIn, LawsOf}
 
 -- the ms that are left of what is on the line
 abbrev pub left : OnLine → List ℕ
@@ -26,7 +26,7 @@ left (Sending part ms) = ms
 
 abbrev pub AllWait : Mode → List ℕ → Type 0
 AllWait mode [] = Unit {0}
-AllWait mode (c ∷ cs) = Waits mode c × AllWait mode cs
+AllWait mode (c ∷ cs) = Waits (alphabetOf mode) c × AllWait mode cs
 
 -- a burst begins, or what is on the line goes on
 pub data Opens (mode : Mode) : OnLine → OnLine → Type 0 where
@@ -36,9 +36,9 @@ pub data Opens (mode : Mode) : OnLine → OnLine → Type 0 where
 -- a code begins, or what is on the line goes on
 pub data Begins (mode : Mode) : List ℕ → OnLine → Sender → Loaded → Type 0 where
   stays : {waiting : List ℕ} {on : OnLine} {s : Sender} → Begins mode waiting on s (loaded waiting on s [])
-  shifts : (part : Part) (c : ℕ) (cs : List ℕ) (s : Sender) (w : Waits mode c) → eqb (shiftWanted mode s (w .own)) 0 ≡ false
-      → Begins mode (c ∷ cs) (Sending part []) s (shiftBegins mode c cs s (shiftWanted mode s (w .own)))
-  owns : (part : Part) (c : ℕ) (cs : List ℕ) (s : Sender) (w : Waits mode c) → eqb (shiftWanted mode s (w .own)) 0 ≡ true
+  shifts : (part : Part) (c : ℕ) (cs : List ℕ) (s : Sender) (w : Waits (alphabetOf mode) c) → eqb (shiftWanted (alphabetOf mode) s (w .own)) 0 ≡ false
+      → Begins mode (c ∷ cs) (Sending part []) s (shiftBegins mode c cs s (shiftWanted (alphabetOf mode) s (w .own)))
+  owns : (part : Part) (c : ℕ) (cs : List ℕ) (s : Sender) (w : Waits (alphabetOf mode) c) → eqb (shiftWanted (alphabetOf mode) s (w .own)) 0 ≡ true
       → Begins mode (c ∷ cs) (Sending part []) s (ownBegins mode c cs s (w .code))
 
 -- the burst ends, or goes on
@@ -52,12 +52,12 @@ begun-view mode true Idle = opens
 begun-view mode false Idle = goes-on
 begun-view mode may (Sending part ms) = goes-on
 
-pub code-view : (mode : Mode) (part : Part) (c : ℕ) (cs : List ℕ) (s : Sender) (w : Waits mode c) → Begins mode (c ∷ cs) (Sending part []) s (codeBegins mode c cs s (sends (alphabetOf mode) c))
+pub code-view : (mode : Mode) (part : Part) (c : ℕ) (cs : List ℕ) (s : Sender) (w : Waits (alphabetOf mode) c) → Begins mode (c ∷ cs) (Sending part []) s (codeBegins mode c cs s (sends (alphabetOf mode) c))
 unfolding codeBegins
-code-view mode part c cs s w = subst (λ (x : Sends). Begins mode (c ∷ cs) (Sending part []) s (codeBegins mode c cs s x)) (sym (w .sent)) (go (eqb (shiftWanted mode s (w .own)) 0) refl)
+code-view mode part c cs s w = subst (λ (x : Sends). Begins mode (c ∷ cs) (Sending part []) s (codeBegins mode c cs s x)) (sym (w .sent)) (go (eqb (shiftWanted (alphabetOf mode) s (w .own)) 0) refl)
   where
-    go : (b : Bool) → eqb (shiftWanted mode s (w .own)) 0 ≡ b
-        → Begins mode (c ∷ cs) (Sending part []) s (cond b (ownBegins mode c cs s (w .code)) (shiftBegins mode c cs s (shiftWanted mode s (w .own))))
+    go : (b : Bool) → eqb (shiftWanted (alphabetOf mode) s (w .own)) 0 ≡ b
+        → Begins mode (c ∷ cs) (Sending part []) s (cond b (ownBegins mode c cs s (w .code)) (shiftBegins mode c cs s (shiftWanted (alphabetOf mode) s (w .own))))
     go true e = owns part c cs s w e
     go false e = shifts part c cs s w e
 
@@ -81,7 +81,7 @@ closed-view waiting (Sending part []) = go (mayEnd part waiting)
 -- what each ms keeps: those that wait send something, and the sender is one that the rule can have
 pub record Fine (mode : Mode) (m : Model) : Type 0 where
   pub waits : AllWait mode (m .waiting)
-  pub sender-in : SenderIn mode (m .sender)
+  pub sender-in : SenderIn (alphabetOf mode) (m .sender)
 
 waits-append : (mode : Mode) (xs ys : List ℕ) → AllWait mode xs → AllWait mode ys → AllWait mode (xs ++ ys)
 waits-append mode [] ys h k = k
@@ -100,8 +100,8 @@ pub fine-offered : (mode : Mode) (cs : List ℕ) (m : Model) → allChars cs ≡
 unfolding offered
 fine-offered mode cs m t f = record { waits = waits-append mode (m .waiting) (sendable mode cs) (f .waits) (sendable-waits mode cs t); sender-in = f .sender-in }
 
-module _ (mode : Mode) (L : Laws mode) where
-  fine-begins : {waiting : List ℕ} {on : OnLine} {s : Sender} {l : Loaded} → Begins mode waiting on s l → AllWait mode waiting → SenderIn mode s → AllWait mode (l .waiting) × SenderIn mode (l .sender)
+module _ (mode : Mode) (L : LawsOf mode) where
+  fine-begins : {waiting : List ℕ} {on : OnLine} {s : Sender} {l : Loaded} → Begins mode waiting on s l → AllWait mode waiting → SenderIn (alphabetOf mode) s → AllWait mode (l .waiting) × SenderIn (alphabetOf mode) (l .sender)
   fine-begins stays h i = (h, i)
   fine-begins (shifts part c cs s w e) h i = (h, L .shift-sender s c w i e)
   fine-begins (owns part c cs s w e) h i = (h .1, L .own-sender s c w i e)

@@ -4,9 +4,10 @@ use Prim.Native.Nat.{ℕ, zero, suc, _-_}
 use mathlib.Core.Bool.{Bool, true, false, cond, not, _&&_, _||_}
 use mathlib.Core.List.{List, [], _∷_, _++_, map}
 use lib.Dec.{eqb, leb, ltb}
+use Rattle.alphabet.specs.declared.Alphabet.{Alphabet}
+use Rattle.alphabet.specs.declared.Alphabet.the-variants.{Baudot, Dtmf, Edt}
 use Rattle.alphabet.specs.declared.LineCode.{LineCode}
 use Rattle.alphabet.specs.declared.Mode.{Mode}
-use Rattle.alphabet.specs.declared.Mode.the-variants.{Baudot45, Baudot50, Dtmf, Edt}
 use Rattle.alphabet.specs.declared.Sends.{Sends}
 use Rattle.alphabet.specs.declared.Sends.the-variants.{Nothing, Code}
 use Rattle.alphabet.specs.Modes.{alphabetOf}
@@ -73,15 +74,13 @@ begun mode may Idle = cond may (Sending Preamble (preamble mode)) Idle
 begun mode may (Sending part left) = Sending part left
 
 -- The shift code that the sending rule wants, 0 for none, and the sender after an own code. DTMF and EDT have no shifts.
-abbrev pub shiftWanted : Mode → Sender → ℕ → ℕ
-shiftWanted Baudot45 s own = wanted s own
-shiftWanted Baudot50 s own = wanted s own
+abbrev pub shiftWanted : Alphabet → Sender → ℕ → ℕ
+shiftWanted Baudot s own = wanted s own
 shiftWanted Dtmf s own = 0
 shiftWanted Edt s own = 0
 
-abbrev pub senderAfterOwn : Mode → Sender → Sender
-senderAfterOwn Baudot45 s = counted s
-senderAfterOwn Baudot50 s = counted s
+abbrev pub senderAfterOwn : Alphabet → Sender → Sender
+senderAfterOwn Baudot s = counted s
 senderAfterOwn Dtmf s = s
 senderAfterOwn Edt s = s
 
@@ -100,14 +99,14 @@ abbrev pub shiftBegins : Mode → ℕ → List ℕ → Sender → ℕ → Loaded
 shiftBegins mode c cs s w = loaded (c ∷ cs) (Sending ShiftCode (signal mode (shiftCode w))) (shifted s w) []
 
 abbrev pub ownBegins : Mode → ℕ → List ℕ → Sender → LineCode → Loaded
-ownBegins mode c cs s k = loaded cs (Sending OwnCode (signal mode (k .0))) (senderAfterOwn mode s) (c ∷ [])
+ownBegins mode c cs s k = loaded cs (Sending OwnCode (signal mode (k .0))) (senderAfterOwn (alphabetOf mode) s) (c ∷ [])
 
 -- The next code: a shift code where one is wanted ahead of the front character, else its own code. (A character that sends
 -- nothing never waits.)
 unfoldable pub codeBegins : Mode → ℕ → List ℕ → Sender → Sends → Loaded
 codeBegins mode c cs s Nothing = loaded cs (Sending OwnCode []) s (c ∷ [])
 codeBegins mode c cs s (Code own k) =
-    let w = shiftWanted mode s own in
+    let w = shiftWanted (alphabetOf mode) s own in
     cond (eqb w 0) (ownBegins mode c cs s k) (shiftBegins mode c cs s w)
 
 -- In a burst with no ms of a part left, the next code begins in that ms.

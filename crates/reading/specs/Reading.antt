@@ -4,49 +4,46 @@ use mathlib.Core.Path.{_≡_}
 use mathlib.Core.Bool.{Bool, true, false, cond}
 use mathlib.Core.List.{List, [], _∷_, _++_}
 use lib.ListN.{length, take, drop}
+use Rattle.alphabet.specs.declared.Alphabet.{Alphabet}
+use Rattle.alphabet.specs.declared.Alphabet.the-variants.{Baudot, Dtmf, Edt}
 use Rattle.alphabet.specs.declared.Mode.{Mode}
-use Rattle.alphabet.specs.declared.Mode.the-variants.{Baudot45, Baudot50, Dtmf, Edt}
 use Rattle.alphabet.specs.Modes.{alphabetOf}
 use Rattle.alphabet.specs.Normal.{normalForm, allChars}
 use Rattle.line.specs.declared.Event.{Event}
+use Rattle.line.specs.declared.Event.the-variants.{Nothing}
 use Rattle.line.specs.declared.Reader.{Reader}
 use Rattle.line.specs.Reader.{hear, inhibited}
-use Rattle.line.specs.Words.{wordsOf, events}
+use Rattle.line.specs.Words.{wordsOf}
 use Rattle.line.specs.Range.{ReaderIn}
 use Rattle.reading.specs.Model.{Part, Preamble, ShiftCode, OwnCode, Step, Offer, Ms, Did, freshModel, modelAfter, does, sentIn, takenIn}
 
--- The synchronizing code (there: the settling code): the first shift code (Baudot), the first own code, which is the first
+-- The synchronizing code (there: the settling code): the first shift code (Baudot); the first own code, which is the first
 -- digit with the quiet after its key (DTMF).
-unfoldable pub synchronizes : Mode → Part → Bool
-synchronizes Baudot45 Preamble = false
-synchronizes Baudot45 ShiftCode = true
-synchronizes Baudot45 OwnCode = false
-synchronizes Baudot50 Preamble = false
-synchronizes Baudot50 ShiftCode = true
-synchronizes Baudot50 OwnCode = false
+unfoldable pub synchronizes : Alphabet → Part → Bool
+synchronizes Baudot Preamble = false
+synchronizes Baudot ShiftCode = true
+synchronizes Baudot OwnCode = false
 synchronizes Dtmf Preamble = false
 synchronizes Dtmf ShiftCode = false
 synchronizes Dtmf OwnCode = true
 synchronizes Edt part = false
 
 -- In EDT the end of the idle period synchronizes.
-abbrev pub atOnce : Mode → Bool
-atOnce Baudot45 = false
-atOnce Baudot50 = false
+abbrev pub atOnce : Alphabet → Bool
+atOnce Baudot = false
 atOnce Dtmf = false
 atOnce Edt = true
 
 -- At most so many characters are taken before that point.
-abbrev pub mostBefore : Mode → ℕ
-mostBefore Baudot45 = 72
-mostBefore Baudot50 = 72
+abbrev pub mostBefore : Alphabet → ℕ
+mostBefore Baudot = 72
 mostBefore Dtmf = 1
 mostBefore Edt = 0
 
 -- The ms is the last of such a code.
 abbrev pub endsSynchronizing : Mode → List Part → Bool
 endsSynchronizing mode [] = false
-endsSynchronizing mode (part ∷ parts) = synchronizes mode part
+endsSynchronizing mode (part ∷ parts) = synchronizes (alphabetOf mode) part
 
 -- How many ms there are up to the last one of the first such code, or so far while none has ended.
 unfoldable pub untilSynchronized : Mode → List Did → ℕ
@@ -54,7 +51,7 @@ untilSynchronized mode [] = 0
 untilSynchronized mode (d ∷ ds) = cond (endsSynchronizing mode (d .ended)) 1 (suc (untilSynchronized mode ds))
 
 abbrev pub synchronizedAfter : Mode → List Did → ℕ
-synchronizedAfter mode ds = cond (atOnce mode) 0 (untilSynchronized mode ds)
+synchronizedAfter mode ds = cond (atOnce (alphabetOf mode)) 0 (untilSynchronized mode ds)
 
 -- In none of the ms there is a burst.
 unfoldable pub NoBurst : List Did → Type 0
@@ -73,11 +70,11 @@ OffersChars [] = Unit {0}
 OffersChars (Offer cs ∷ steps) = (allChars cs ≡ true) × OffersChars steps
 OffersChars (Ms heard ∷ steps) = OffersChars steps
 
--- The reader after the ms heard, the first n of them inhibited.
-unfoldable pub readerAfterInhibited : Mode → ℕ → Reader → List ℕ → Reader
-readerAfterInhibited mode n r [] = r
-readerAfterInhibited mode zero r (x ∷ xs) = readerAfterInhibited mode zero (hear mode r x .reader) xs
-readerAfterInhibited mode (suc n) r (x ∷ xs) = readerAfterInhibited mode n (inhibited r) xs
+-- What each ms ends in for a reader that is inhibited in the first n of them.
+unfoldable pub eventsInhibited : Mode → ℕ → Reader → List ℕ → List Event
+eventsInhibited mode n r [] = []
+eventsInhibited mode zero r (x ∷ xs) = hear mode r x .event ∷ eventsInhibited mode zero (hear mode r x .reader) xs
+eventsInhibited mode (suc n) r (x ∷ xs) = Nothing ∷ eventsInhibited mode n (inhibited r) xs
 
 -- The premises. A's model is fresh at first; `past` may be anything; `forty` are the last 40 ms of an idle period. The reader
 -- is in range at the first of them, whatever it heard before, and is inhibited in the first n of them, if at all. (That A was
@@ -92,15 +89,16 @@ pub record Premises (mode : Mode) (past forty next : List Step) (r : Reader) (n 
 -- What A did in the ms that follow, and what those ms end in for a reader that hears them, up to a ms that is asked about.
 pub record Reads (mode : Mode) (ds : List Did) (es : List Event) : Type 0 where
   -- at most 72, 1, 0 characters are taken up to the synchronizing code's last ms, or so far while none has ended
-  pub before : length (takenIn (take (synchronizedAfter mode ds) ds)) ≤ mostBefore mode
+  pub before : length (takenIn (take (synchronizedAfter mode ds) ds)) ≤ mostBefore (alphabetOf mode)
   -- in no burst, the words after that ms are those of the normal form of the characters taken after it, in order
   pub text : EndsIdle ds → wordsOf (drop (synchronizedAfter mode ds) es) ≡ normalForm (alphabetOf mode) (takenIn (drop (synchronizedAfter mode ds) ds))
   -- and no fault is among them: each is a character
   pub no-fault : EndsIdle ds → allChars (wordsOf (drop (synchronizedAfter mode ds) es)) ≡ true
 
--- The core of demand 3. `next` is any list of steps, so it ends in any later ms.
+-- The core of demand 3. The reader hears all that A sends from the first of the 40 ms on. `next` is any list of steps, so it
+-- ends in any later ms.
 abbrev pub ReadsAfterIdle : Mode → Type 0
 ReadsAfterIdle mode = (past forty next : List Step) (r : Reader) (n : ℕ) → Premises mode past forty next r n
     → let m = modelAfter mode freshModel past in
-    let ds = does mode (modelAfter mode m forty) next in
-    Reads mode ds (events mode (readerAfterInhibited mode n r (sentIn (does mode m forty))) (sentIn ds))
+    let ds = does mode m (forty ++ next) in
+    Reads mode (drop 40 ds) (drop 40 (eventsInhibited mode n r (sentIn ds)))

@@ -1,0 +1,38 @@
+-- The inhibited ms of a model run out in an idle period.
+use mathlib.Core.Path.{_≡_, _∙_, refl, sym, ap, subst}
+use mathlib.Core.Bool.{Bool, true, false, cond}
+use mathlib.Core.List.{List, [], _∷_, _++_}
+use Prim.Native.Nat.{ℕ, zero, suc, _+_, _-_, _≤_}
+use native.Mathlib.Omega.{arith}
+use lib.ListN.{length}
+use Rattle.alphabet.specs.declared.Mode.{Mode}
+use Rattle.reading.specs.Model.{Model, Step, Offer, Ms, freshModel, load, inBurst, inhibitedAfter, offered, did, msAfter, modelAfter, does}
+use Rattle.reading.specs.Reading.{NoBurst}
+
+module _ (mode : Mode) where
+  -- there are never more than 300
+  after-most : (b : Bool) (n : ℕ) → n ≤ 300 → inhibitedAfter b n ≤ 300
+  after-most true n h = omega arith
+  after-most false n h = omega arith
+
+  pub inhibited-most : (steps : List Step) (m : Model) → m .inhibitedMs ≤ 300 → modelAfter mode m steps .inhibitedMs ≤ 300
+  unfolding modelAfter offered msAfter
+  inhibited-most [] m h = h
+  inhibited-most (Offer cs ∷ steps) m h = inhibited-most steps (offered mode cs m) h
+  inhibited-most (Ms x ∷ steps) m h = inhibited-most steps (msAfter mode m x) (after-most (inBurst (load mode m .onLine)) (m .inhibitedMs) h)
+
+  -- each ms in no burst takes one of them away
+  ms-less : (m : Model) (x : ℕ) → did mode m .burst ≡ false → msAfter mode m x .inhibitedMs ≡ m .inhibitedMs - 1
+  unfolding did msAfter
+  ms-less m x e = rw e refl
+
+  pub inhibited-less : (steps : List Step) (m : Model) (n : ℕ) → NoBurst (does mode m steps) → m .inhibitedMs ≤ n + length (does mode m steps) → modelAfter mode m steps .inhibitedMs ≤ n
+  unfolding modelAfter does NoBurst offered
+  inhibited-less [] m n b h = omega arith
+  inhibited-less (Offer cs ∷ steps) m n b h = inhibited-less steps (offered mode cs m) n b h
+  inhibited-less (Ms x ∷ steps) m n b h = let e = ms-less m x (b .0) in inhibited-less steps (msAfter mode m x) n (b .1) (omega arith)
+
+  -- at most 40 are left after 260 ms of an idle period
+  pub inhibited-40 : (past rest : List Step) → NoBurst (does mode (modelAfter mode freshModel past) rest) → 260 ≤ length (does mode (modelAfter mode freshModel past) rest)
+      → modelAfter mode (modelAfter mode freshModel past) rest .inhibitedMs ≤ 40
+  inhibited-40 past rest b h = let i = inhibited-most past freshModel (omega arith) in inhibited-less rest (modelAfter mode freshModel past) 40 b (omega arith)
