@@ -7,19 +7,14 @@ use lib.ListN.{length, getD, take, drop}
 use lib.Seq.{sets}
 use Rattle.lists.specs.Lists.{written}
 use Rattle.alphabet.specs.declared.Alphabet.{Alphabet}
-use Rattle.alphabet.specs.declared.Sends.{Sends}
-use Rattle.alphabet.specs.declared.Sends.the-variants.{Nothing, Code}
 use Rattle.alphabet.specs.Normal.{sends}
+use Rattle.baudot.specs.Opening.{isCode}
 use Rattle.queue.specs.declared.Queue.{Queue}
 use Rattle.queue.specs.declared.Offered.{Offered}
 
 -- A station keeps up to 256 characters waiting.
 abbrev pub most : ℕ
 most = 256
-
-abbrev pub isCode : Sends → Bool
-isCode Nothing = false
-isCode (Code shift code) = true
 
 -- Those that send nothing never wait.
 abbrev pub waits : Alphabet → ℕ → Bool

@@ -9,7 +9,8 @@ ghost use Prim.Native.Nat.{_+_, _≤_, _<_};
 ghost use lib.ListN.{length, getD};
 ghost use lib.Seq.{sets};
 ghost use Rattle.alphabet.specs.Packing.{sendTable};
-ghost use Rattle.queue.specs.Queue.{isCode, waits, waiters, allWait, moved, most, inRange, offerOf, front, taken};
+ghost use Rattle.baudot.specs.Opening.{isCode};
+ghost use Rattle.queue.specs.Queue.{waits, waiters, allWait, moved, most, inRange, offerOf, front, taken};
 
 pub struct Queue {
     pub waiting: u16,
