@@ -22,7 +22,7 @@ module _ (mode : Mode) where
   inhibited-most (Ms x ∷ steps) m h = inhibited-most steps (msAfter mode m x) (after-most (inBurst (load mode m .onLine)) (m .inhibitedMs) h)
 
   -- each ms in no burst takes one of them away
-  ms-less : (m : Model) (x : ℕ) → did mode m .burst ≡ false → msAfter mode m x .inhibitedMs ≡ m .inhibitedMs - 1
+  pub ms-less : (m : Model) (x : ℕ) → did mode m .burst ≡ false → msAfter mode m x .inhibitedMs ≡ m .inhibitedMs - 1
   unfolding did msAfter
   ms-less m x e = rw e refl
 

@@ -1,3 +1,4 @@
 pub mod Model
 pub mod Reading
+pub mod BothModels
 pub mod Examples

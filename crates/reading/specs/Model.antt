@@ -149,6 +149,9 @@ closed waiting (Sending part []) = cond (mayEnd part waiting) Idle (Sending part
 closed waiting (Sending part (x ∷ left)) = Sending part (x ∷ left)
 
 -- The receiver is inhibited in a burst and for 300 ms after it.
+unfoldable pub isInhibited : Mode → Model → Bool
+isInhibited mode m = inBurst (load mode m .onLine) || ltb 0 (m .inhibitedMs)
+
 abbrev pub inhibitedAfter : Bool → ℕ → ℕ
 inhibitedAfter burst n = cond burst 300 (n - 1)
 
@@ -177,7 +180,7 @@ msAfter mode m heard =
       waiting = l .waiting;
       onLine = closed (l .waiting) (oneGone (l .onLine));
       sender = l .sender;
-      silence = silenceAfter (burst || ltb 0 (m .inhibitedMs)) heard (m .silence);
+      silence = silenceAfter (isInhibited mode m) heard (m .silence);
       inhibitedMs = inhibitedAfter burst (m .inhibitedMs);
     }
 
@@ -196,6 +199,12 @@ unfoldable pub does : Mode → Model → List Step → List Did
 does mode m [] = []
 does mode m (Offer cs ∷ steps) = does mode (offered mode cs m) steps
 does mode m (Ms heard ∷ steps) = did mode m ∷ does mode (msAfter mode m heard) steps
+
+-- The levels heard in some steps.
+unfoldable pub heardIn : List Step → List ℕ
+heardIn [] = []
+heardIn (Offer cs ∷ steps) = heardIn steps
+heardIn (Ms heard ∷ steps) = heard ∷ heardIn steps
 
 -- The levels sent and the characters taken in some ms, in order.
 abbrev pub sentIn : List Did → List ℕ

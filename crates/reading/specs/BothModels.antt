@@ -1,0 +1,84 @@
+-- Demand 3 over the send models of both stations and B's reader, which is all that a station has besides.
+use Prim.Native.Nat.{ℕ, _≤_}
+use mathlib.Core.Path.{_≡_}
+use mathlib.Core.Logic.{_⊎_}
+use mathlib.Core.Bool.{Bool, true, false, cond, _||_}
+use mathlib.Core.List.{List, [], _∷_, _++_}
+use lib.Dec.{eqb}
+use lib.ListN.{length, drop}
+use Rattle.lists.specs.Lists.{allAtMost}
+use Rattle.alphabet.specs.declared.Alphabet.{Alphabet}
+use Rattle.alphabet.specs.declared.Alphabet.the-variants.{Baudot, Dtmf, Edt}
+use Rattle.alphabet.specs.declared.Mode.{Mode}
+use Rattle.alphabet.specs.Baudot.{letters}
+use Rattle.alphabet.specs.Modes.{alphabetOf}
+use Rattle.line.specs.declared.Event.{Event}
+use Rattle.line.specs.declared.Event.the-variants.{Nothing}
+use Rattle.line.specs.declared.Reader.{Reader}
+use Rattle.line.specs.Reader.{reader, fresh, hear, inhibited}
+use Rattle.reading.specs.Model.{Model, Step, Offer, Ms, Did, freshModel, offered, isInhibited, msAfter, modelAfter, does, sentIn, heardIn}
+use Rattle.reading.specs.Reading.{NoBurst, OffersChars, Reads}
+
+-- DEL, when offered, puts the station's own reader in letters; in Baudot alone.
+unfoldable pub hasDel : List ℕ → Bool
+hasDel [] = false
+hasDel (c ∷ cs) = eqb c 0x7f || hasDel cs
+
+abbrev pub readerOffered : Alphabet → List ℕ → Reader → Reader
+readerOffered Baudot cs r = cond (hasDel cs) (reader (r .frame) (r .keys) letters (r .prefix)) r
+readerOffered Dtmf cs r = r
+readerOffered Edt cs r = r
+
+-- One ms of a station's reader, and what it ends in.
+abbrev pub readerMs : Mode → Bool → Reader → ℕ → Reader
+readerMs mode isInhibited r heard = cond isInhibited (inhibited r) (hear mode r heard .reader)
+
+abbrev pub eventMs : Mode → Bool → Reader → ℕ → Event
+eventMs mode isInhibited r heard = cond isInhibited Nothing (hear mode r heard .event)
+
+-- The reader of a station after some steps, and what each of their ms ends in.
+unfoldable pub stationReader : Mode → Model → Reader → List Step → Reader
+stationReader mode m r [] = r
+stationReader mode m r (Offer cs ∷ steps) = stationReader mode (offered mode cs m) (readerOffered (alphabetOf mode) cs r) steps
+stationReader mode m r (Ms heard ∷ steps) = stationReader mode (msAfter mode m heard) (readerMs mode (isInhibited mode m) r heard) steps
+
+unfoldable pub stationEvents : Mode → Model → Reader → List Step → List Event
+stationEvents mode m r [] = []
+stationEvents mode m r (Offer cs ∷ steps) = stationEvents mode (offered mode cs m) (readerOffered (alphabetOf mode) cs r) steps
+stationEvents mode m r (Ms heard ∷ steps) = eventMs mode (isInhibited mode m) r heard ∷ stationEvents mode (msAfter mode m heard) (readerMs mode (isInhibited mode m) r heard) steps
+
+-- No offer that holds a character succeeds.
+unfoldable pub OffersNone : List Step → Type 0
+OffersNone [] = Unit {0}
+OffersNone (Offer cs ∷ steps) = (cs ≡ []) × OffersNone steps
+OffersNone (Ms heard ∷ steps) = OffersNone steps
+
+-- Some steps of a fresh station, and what it does in others after them.
+abbrev pub modelOf : Mode → List Step → Model
+modelOf mode steps = modelAfter mode freshModel steps
+
+abbrev pub doesAfter : Mode → List Step → List Step → List Did
+doesAfter mode past steps = does mode (modelOf mode past) steps
+
+-- The premises. The steps of A: past, an idle period of 260 and 40 ms, and what follows. Those of B: past′; rest′, from the
+-- start of A's idle period or from B's opening if that is later; the 40 ms; and what follows.
+pub record BothPremises (mode : Mode) (past rest forty next past′ rest′ forty′ next′ : List Step) : Type 0 where
+  pub chars : OffersChars ((past ++ rest) ++ (forty ++ next))
+  pub rest-ms : length (doesAfter mode past rest) ≡ 260
+  pub forty-ms : length (doesAfter mode (past ++ rest) forty) ≡ 40
+  pub idle-rest : NoBurst (doesAfter mode past rest)
+  pub idle-forty : NoBurst (doesAfter mode (past ++ rest) forty)
+  -- B heard levels; in the idle period's 260 ms, or since its opening in them, and from there on it is in no burst
+  pub levels : allAtMost 16 (heardIn (past′ ++ rest′)) ≡ true
+  pub rest-ms′ : (length (doesAfter mode past′ rest′) ≡ 260) ⊎ (past′ ≡ [])
+  pub idle-rest′ : NoBurst (doesAfter mode past′ rest′)
+  pub idle-on′ : NoBurst (doesAfter mode (past′ ++ rest′) (forty′ ++ next′))
+  pub offers-none : OffersNone (forty′ ++ next′)
+  -- from the 40 ms on, B hears what A sends
+  pub hears : heardIn (forty′ ++ next′) ≡ sentIn (doesAfter mode (past ++ rest) (forty ++ next))
+
+-- What follows the 40 ms: what A does, and what B's ms end in.
+abbrev pub BothRead : Mode → Type 0
+BothRead mode = (past rest forty next past′ rest′ forty′ next′ : List Step) → BothPremises mode past rest forty next past′ rest′ forty′ next′
+    → Reads mode (drop 40 (doesAfter mode (past ++ rest) (forty ++ next)))
+    (drop 40 (stationEvents mode (modelOf mode (past′ ++ rest′)) (stationReader mode freshModel fresh (past′ ++ rest′)) (forty′ ++ next′)))
