@@ -54,11 +54,11 @@ module _ (mode : Mode) where
   unfolding did isInhibited
   by-ms m e = rw e refl
 
-  none-told : (a : Alphabet) (r : Reader) → readerOffered a [] r ≡ r
+  none-offered : (a : Alphabet) (r : Reader) → readerOffered a [] r ≡ r
   unfolding hasDel
-  none-told Baudot r = refl
-  none-told Dtmf r = refl
-  none-told Edt r = refl
+  none-offered Baudot r = refl
+  none-offered Dtmf r = refl
+  none-offered Edt r = refl
 
   -- in no burst and with no offer, B's ms are those of a reader that is inhibited at first
   events-are : (steps : List Step) (m : Model) (r : Reader) (n : ℕ) → m .inhibitedMs ≡ n → NoBurst (does mode m steps) → OffersNone steps
@@ -66,7 +66,7 @@ module _ (mode : Mode) where
   unfolding stationEvents eventsInhibited heardIn does offered NoBurst OffersNone
   events-are [] m r n e b o = refl
   events-are (Offer cs ∷ steps) m r n e b o =
-      let q : readerOffered (alphabetOf mode) cs r ≡ r = ap (λ (ds : List ℕ). readerOffered (alphabetOf mode) ds r) (o .0) ∙ none-told (alphabetOf mode) r in
+      let q : readerOffered (alphabetOf mode) cs r ≡ r = ap (λ (ds : List ℕ). readerOffered (alphabetOf mode) ds r) (o .0) ∙ none-offered (alphabetOf mode) r in
       ap (λ (p : Reader). stationEvents mode (offered mode cs m) p steps) q ∙ events-are steps (offered mode cs m) r n e b (o .1)
   events-are (Ms x ∷ steps) m r zero e b o =
       let i : isInhibited mode m ≡ false = by-ms m (b .0) ∙ ap (ltb 0) e in
@@ -78,29 +78,29 @@ module _ (mode : Mode) where
       rw i (ap (λ (es : List Event). Nothing ∷ es) (events-are steps (msAfter mode m x) (inhibited r) n (omega arith) (b .1) o))
 
   -- at most 40 inhibited ms are left to B
-  rest-40 : (past rest : List Step) → (length (does mode (modelAfter mode freshModel past) rest) ≡ 260) ⊎ (past ≡ []) → NoBurst (does mode (modelAfter mode freshModel past) rest)
-      → modelAfter mode freshModel (past ++ rest) .inhibitedMs ≤ 40
+  early-40 : (past early : List Step) → (length (does mode (modelAfter mode freshModel past) early) ≡ 260) ⊎ (past ≡ []) → NoBurst (does mode (modelAfter mode freshModel past) early)
+      → modelAfter mode freshModel (past ++ early) .inhibitedMs ≤ 40
   unfolding modelAfter
-  rest-40 past rest (inl e) b =
+  early-40 past early (inl e) b =
       let i = inhibited-most mode past freshModel (omega arith) in
-      let j = inhibited-less mode rest (modelAfter mode freshModel past) 40 b (omega arith) in
-      rw (after-append mode past rest freshModel) j
-  rest-40 past rest (inr e) b =
-      rw e (inhibited-less mode rest freshModel 40 (rw e at b) (omega arith))
+      let j = inhibited-less mode early (modelAfter mode freshModel past) 40 b (omega arith) in
+      rw (after-append mode past early freshModel) j
+  early-40 past early (inr e) b =
+      rw e (inhibited-less mode early freshModel 40 (rw e at b) (omega arith))
 
   pub both-read : BothRead mode
-  both-read past rest forty next past′ rest′ forty′ next′ p =
-      let m = modelAfter mode freshModel (past′ ++ rest′) in
-      let r = stationReader mode freshModel fresh (past′ ++ rest′) in
+  both-read past early forty next past′ early′ forty′ next′ p =
+      let m = modelAfter mode freshModel (past′ ++ early′) in
+      let r = stationReader mode freshModel fresh (past′ ++ early′) in
       let n = m .inhibitedMs in
-      let heard : stationEvents mode m r (forty′ ++ next′) ≡ eventsInhibited mode n r (sentIn (does mode (modelAfter mode freshModel (past ++ rest)) (forty ++ next))) =
+      let heard : stationEvents mode m r (forty′ ++ next′) ≡ eventsInhibited mode n r (sentIn (does mode (modelAfter mode freshModel (past ++ early)) (forty ++ next))) =
       events-are (forty′ ++ next′) m r n refl (p .idle-on′) (p .offers-none) ∙ ap (eventsInhibited mode n r) (p .hears) in
       rw heard
-      (reads-after-idle mode (past ++ rest) forty next r n
+      (reads-after-idle mode (past ++ early) forty next r n
       (record {
         chars = p .chars;
         forty-ms = p .forty-ms;
         idle = p .idle-forty;
-        reader-in = station-in mode (past′ ++ rest′) freshModel fresh (p .levels) (fresh-in mode);
-        inhibited-in = rest-40 past′ rest′ (p .rest-ms′) (p .idle-rest′);
+        reader-in = station-in mode (past′ ++ early′) freshModel fresh (p .levels) (fresh-in mode);
+        inhibited-in = early-40 past′ early′ (p .early-ms′) (p .idle-early′);
       }))

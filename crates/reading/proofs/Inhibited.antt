@@ -33,6 +33,6 @@ module _ (mode : Mode) where
   inhibited-less (Ms x ∷ steps) m n b h = let e = ms-less m x (b .0) in inhibited-less steps (msAfter mode m x) n (b .1) (omega arith)
 
   -- at most 40 are left after 260 ms of an idle period
-  pub inhibited-40 : (past rest : List Step) → NoBurst (does mode (modelAfter mode freshModel past) rest) → 260 ≤ length (does mode (modelAfter mode freshModel past) rest)
-      → modelAfter mode (modelAfter mode freshModel past) rest .inhibitedMs ≤ 40
-  inhibited-40 past rest b h = let i = inhibited-most past freshModel (omega arith) in inhibited-less rest (modelAfter mode freshModel past) 40 b (omega arith)
+  pub inhibited-40 : (past early : List Step) → NoBurst (does mode (modelAfter mode freshModel past) early) → 260 ≤ length (does mode (modelAfter mode freshModel past) early)
+      → modelAfter mode (modelAfter mode freshModel past) early .inhibitedMs ≤ 40
+  inhibited-40 past early b h = let i = inhibited-most past freshModel (omega arith) in inhibited-less early (modelAfter mode freshModel past) 40 b (omega arith)

@@ -282,7 +282,7 @@ long Dtmf n = long-keys (keys (getD prefixes (n / 16) "")) (n % 16)
 long Edt n = omega (arith, tabulate-length (λ (m : ℕ). levelOf (getD (edtElements n) (11 * m / 100) 1)) 100 0)
 
 -- the laws
-module _ (mode : Mode) (law : (r : Reader) (x : ℕ) → hear mode r x ≡ hearFrame mode r x) (lead : (r : Reader) → r .frame ≡ hunting → Gives mode r (preamble mode) [] r)
+module _ (mode : Mode) (law : (r : Reader) (x : ℕ) → hear mode r x ≡ hearFrame mode r x) (marks : (r : Reader) → r .frame ≡ hunting → Gives mode r (preamble mode) [] r)
     (code : (k : Keys) (s p c : ℕ) → c < 32 → Gives mode (reader hunting k s p) (signal mode c) (wordOf (eventOf (reads Baudot s c))) (reader hunting k (shiftBy s (reads Baudot s c)) p)) where
   laws-baudot : Laws mode Baudot (λ r. r .frame ≡ hunting)
   unfolding synchronizes
@@ -290,7 +290,7 @@ module _ (mode : Mode) (law : (r : Reader) (x : ℕ) → hear mode r x ≡ hearF
     between = λ s r h. h .hunts;
     at-once = λ e s r h. absurd (false≢true e);
     quiet-passes = quiet-frames mode law;
-    preamble-passes = lead;
+    preamble-passes = marks;
     preamble-not = refl;
     shift-law = λ s c w. baudot-shift mode code s c (w .own) (w .code) (w .char-in) (w .sent);
     shift-sender = λ s c w. baudot-shifted s c (w .own) (w .code) (w .char-in) (w .sent);

@@ -60,25 +60,27 @@ modelOf mode steps = modelAfter mode freshModel steps
 abbrev pub doesAfter : Mode → List Step → List Step → List Did
 doesAfter mode past steps = does mode (modelOf mode past) steps
 
--- The premises. The steps of A: past, an idle period of 260 and 40 ms, and what follows. Those of B: past′; rest′, from the
--- start of A's idle period or from B's opening if that is later; the 40 ms; and what follows.
-pub record BothPremises (mode : Mode) (past rest forty next past′ rest′ forty′ next′ : List Step) : Type 0 where
-  pub chars : OffersChars ((past ++ rest) ++ (forty ++ next))
-  pub rest-ms : length (doesAfter mode past rest) ≡ 260
-  pub forty-ms : length (doesAfter mode (past ++ rest) forty) ≡ 40
-  pub idle-rest : NoBurst (doesAfter mode past rest)
-  pub idle-forty : NoBurst (doesAfter mode (past ++ rest) forty)
-  -- B heard levels; in the idle period's 260 ms, or since its opening in them, and from there on it is in no burst
-  pub levels : allAtMost 16 (heardIn (past′ ++ rest′)) ≡ true
-  pub rest-ms′ : (length (doesAfter mode past′ rest′) ≡ 260) ⊎ (past′ ≡ [])
-  pub idle-rest′ : NoBurst (doesAfter mode past′ rest′)
-  pub idle-on′ : NoBurst (doesAfter mode (past′ ++ rest′) (forty′ ++ next′))
+-- The premises. The steps of A: past, an idle period of 260 and 40 ms, and what follows. Those of B: past′; early′, from the
+-- start of A's idle period, or from B's opening if that is later (past′ is empty then); the 40 ms; and what follows. That the
+-- 40 ms of both are the same on one clock is for the statement that cuts the lists; that nothing waits at B is not needed.
+pub record BothPremises (mode : Mode) (past early forty next past′ early′ forty′ next′ : List Step) : Type 0 where
+  pub chars : OffersChars ((past ++ early) ++ (forty ++ next))
+  pub early-ms : length (doesAfter mode past early) ≡ 260
+  pub forty-ms : length (doesAfter mode (past ++ early) forty) ≡ 40
+  pub idle-early : NoBurst (doesAfter mode past early)
+  pub idle-forty : NoBurst (doesAfter mode (past ++ early) forty)
+  -- B heard any levels; from the start of the idle period, or from its opening, it is in no burst, and from the 40 ms on no
+  -- offer to it that holds a character succeeds
+  pub levels : allAtMost 16 (heardIn (past′ ++ early′)) ≡ true
+  pub early-ms′ : (length (doesAfter mode past′ early′) ≡ 260) ⊎ (past′ ≡ [])
+  pub idle-early′ : NoBurst (doesAfter mode past′ early′)
+  pub idle-on′ : NoBurst (doesAfter mode (past′ ++ early′) (forty′ ++ next′))
   pub offers-none : OffersNone (forty′ ++ next′)
   -- from the 40 ms on, B hears what A sends
-  pub hears : heardIn (forty′ ++ next′) ≡ sentIn (doesAfter mode (past ++ rest) (forty ++ next))
+  pub hears : heardIn (forty′ ++ next′) ≡ sentIn (doesAfter mode (past ++ early) (forty ++ next))
 
 -- What follows the 40 ms: what A does, and what B's ms end in.
 abbrev pub BothRead : Mode → Type 0
-BothRead mode = (past rest forty next past′ rest′ forty′ next′ : List Step) → BothPremises mode past rest forty next past′ rest′ forty′ next′
-    → Reads mode (drop 40 (doesAfter mode (past ++ rest) (forty ++ next)))
-    (drop 40 (stationEvents mode (modelOf mode (past′ ++ rest′)) (stationReader mode freshModel fresh (past′ ++ rest′)) (forty′ ++ next′)))
+BothRead mode = (past early forty next past′ early′ forty′ next′ : List Step) → BothPremises mode past early forty next past′ early′ forty′ next′
+    → Reads mode (drop 40 (doesAfter mode (past ++ early) (forty ++ next)))
+    (drop 40 (stationEvents mode (modelOf mode (past′ ++ early′)) (stationReader mode freshModel fresh (past′ ++ early′)) (forty′ ++ next′)))
