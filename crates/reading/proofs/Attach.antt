@@ -1,9 +1,8 @@
 -- How a station is related to its model and reader: one ms and one offer at a time; it then goes with them over any steps.
-use mathlib.Core.Path.{_≡_, _∙_, refl, sym, ap, subst}
+use mathlib.Core.Path.{_≡_, refl, sym, subst}
 use mathlib.Core.Bool.{Bool, true, false, cond}
-use mathlib.Core.Logic.{_⊎_, inl, inr}
-use mathlib.Core.List.{List, [], _∷_, _++_}
-use Prim.Native.Nat.{ℕ, zero, suc, _+_, _≤_, _<_}
+use mathlib.Core.List.{List, [], _∷_}
+use Prim.Native.Nat.{ℕ, suc, _≤_, _<_}
 use native.Mathlib.Omega.{arith}
 use lib.Dec.{leb, ltb}
 use lib.ListN.{length, getD, drop}
@@ -13,7 +12,7 @@ use Rattle.alphabet.specs.declared.Mode.{Mode}
 use Rattle.alphabet.specs.Modes.{alphabetOf}
 use Rattle.line.specs.declared.Event.{Event}
 use Rattle.line.specs.declared.Reader.{Reader}
-use Rattle.reading.specs.Model.{Part, OnLine, Sending, Model, Step, Offer, Ms, offered, levelOn, oneGone, isInhibited, did, msAfter, modelAfter, does, sentIn}
+use Rattle.reading.specs.Model.{Part, Sending, Model, Step, Offer, Ms, offered, levelOn, oneGone, isInhibited, did, msAfter, modelAfter, does, sentIn}
 use Rattle.reading.specs.BothModels.{readerOffered, readerMs, eventMs, stationReader, stationEvents}
 
 -- A station in numbers: `Takes s cs`, an offer succeeds; `Hears x`, a level of the mode. `Like s m r`: it is as the model m and

@@ -1,12 +1,12 @@
 -- Demand 3 over the models of both stations: the core theorem, with B's reader brought to the 40 ms.
-use mathlib.Core.Path.{_≡_, _∙_, refl, sym, ap, subst}
-use mathlib.Core.Bool.{Bool, true, false, cond}
+use mathlib.Core.Path.{_≡_, _∙_, refl, ap}
+use mathlib.Core.Bool.{true, false}
 use mathlib.Core.Logic.{_⊎_, inl, inr}
 use mathlib.Core.List.{List, [], _∷_, _++_}
 use Prim.Native.Nat.{ℕ, zero, suc, _+_, _-_, _≤_}
 use native.Mathlib.Omega.{arith}
 use lib.Dec.{ltb}
-use lib.ListN.{length, drop}
+use lib.ListN.{length}
 use borrow.Author.Tests.{lt-ltb}
 use Rattle.lists.specs.Lists.{allAtMost}
 use Rattle.lists.proofs.Lists.{either, at-most-head, at-most-tail}
@@ -20,9 +20,9 @@ use Rattle.line.specs.declared.Reader.{Reader}
 use Rattle.line.specs.Reader.{reader, fresh, hear, inhibited}
 use Rattle.line.specs.Range.{ReaderIn}
 use Rattle.line.proofs.Range.{fresh-in, hear-in, inhibited-in}
-use Rattle.reading.specs.Model.{Model, Step, Offer, Ms, Did, freshModel, load, inBurst, offered, isInhibited, did, msAfter, modelAfter, does, sentIn, heardIn}
-use Rattle.reading.specs.Reading.{NoBurst, eventsInhibited, Reads}
-use Rattle.reading.specs.BothModels.{hasDel, readerOffered, readerMs, eventMs, stationReader, stationEvents, OffersNone, BothPremises, BothRead}
+use Rattle.reading.specs.Model.{Model, Step, Offer, Ms, freshModel, offered, isInhibited, did, msAfter, modelAfter, does, sentIn, heardIn}
+use Rattle.reading.specs.Reading.{NoBurst, eventsInhibited}
+use Rattle.reading.specs.BothModels.{hasDel, readerOffered, readerMs, stationReader, stationEvents, OffersNone, BothRead}
 use Rattle.reading.proofs.Core.{reads-after-idle}
 use Rattle.reading.proofs.Inhibited.{ms-less, inhibited-most, inhibited-less}
 

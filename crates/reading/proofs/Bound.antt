@@ -1,19 +1,18 @@
 -- How many characters are taken before the synchronizing code has ended.
-use mathlib.Core.Path.{_≡_, _∙_, refl, sym, ap, subst}
-use mathlib.Core.Bool.{Bool, true, false, cond, true≢false, false≢true}
-use mathlib.Core.List.{List, [], _∷_, _++_, append-nil}
-use Prim.Native.Nat.{ℕ, zero, suc, _+_, _<_, _≤_}
+use mathlib.Core.Path.{_≡_, _∙_, refl, sym}
+use mathlib.Core.Bool.{Bool, true, false, cond, true≢false}
+use mathlib.Core.List.{List, [], _∷_, append-nil}
+use Prim.Native.Nat.{ℕ, suc, _+_, _<_, _≤_}
 use native.Mathlib.Omega.{arith}
-use lib.Dec.{eqb}
 use lib.ListN.{length, take, length-append}
 use Rattle.alphabet.specs.declared.Mode.{Mode}
 use Rattle.alphabet.specs.Modes.{alphabetOf}
 use Rattle.baudot.specs.declared.Sender.{Sender}
 use Rattle.baudot.specs.Sending.{shiftCode}
 use Rattle.signal.specs.Signal.{signal}
-use Rattle.reading.specs.Model.{Part, Preamble, ShiftCode, OwnCode, OnLine, Idle, Sending, Model, Loaded, Did, Step, Offer, Ms, offered, shiftWanted, senderAfterOwn, load, oneGone, ended, closed, did, msAfter, does, takenIn}
+use Rattle.reading.specs.Model.{Part, OwnCode, OnLine, Idle, Sending, Model, Loaded, Did, Step, Offer, Ms, offered, shiftWanted, senderAfterOwn, load, oneGone, ended, did, msAfter, does, takenIn}
 use Rattle.reading.specs.Reading.{synchronizes, atOnce, endsSynchronizing, untilSynchronized, OffersChars}
-use Rattle.reading.proofs.Laws.{Waits, SenderIn, Room, LawsOf}
+use Rattle.reading.proofs.Laws.{SenderIn, Room, LawsOf}
 use Rattle.reading.proofs.Views.{Opens, opens, goes-on, Begins, stays, shifts, owns, Closes, ends, keeps, closed-view, Fine, fine-offered, fine-ms, load-view}
 
 -- while a synchronizing code is on the line, ms of it are left; otherwise at most n characters more are taken before one

@@ -1,8 +1,8 @@
 -- The core of demand 3: after an idle period, a reader reads what the model takes.
 use mathlib.Core.Path.{_≡_, _∙_, refl, sym, ap, subst}
 use mathlib.Core.Bool.{Bool, true, false, cond, true≢false}
-use mathlib.Core.Logic.{_⊎_, inl, inr}
-use mathlib.Core.List.{List, [], _∷_, _++_, append-nil}
+use mathlib.Core.Logic.{inl}
+use mathlib.Core.List.{List, [], _∷_, _++_}
 use Prim.Native.Nat.{ℕ, zero, suc, _+_, _<_, _≤_}
 use native.Mathlib.Omega.{arith}
 use lib.ListN.{length, take, drop, replicate}
@@ -25,13 +25,13 @@ use Rattle.line.specs.declared.Event.{Event}
 use Rattle.line.specs.declared.Reader.{Reader}
 use Rattle.line.specs.Reader.{hear, inhibited}
 use Rattle.line.specs.Words.{wordsOf, events, words}
-use Rattle.chain.specs.Resting.{rests, restsAll, Settled}
+use Rattle.chain.specs.Resting.{restsAll, Settled}
 use Rattle.chain.proofs.Resting.{settles}
 use Rattle.reading.specs.Model.{OnLine, Idle, Sending, Model, Loaded, Did, Step, Offer, Ms, freshModel, offered, load, levelOn, inBurst, oneGone, closed, did, msAfter, modelAfter, does, sentIn, takenIn}
-use Rattle.reading.specs.Reading.{atOnce, mostBefore, untilSynchronized, synchronizedAfter, NoBurst, EndsIdle, OffersChars, eventsInhibited, Premises, Reads, ReadsAfterIdle}
-use Rattle.reading.proofs.Laws.{SenderIn, Synchronized, LawsOf, laws}
+use Rattle.reading.specs.Reading.{atOnce, mostBefore, untilSynchronized, synchronizedAfter, NoBurst, EndsIdle, OffersChars, eventsInhibited, Reads, ReadsAfterIdle}
+use Rattle.reading.proofs.Laws.{SenderIn, LawsOf, laws}
 use Rattle.reading.proofs.Views.{left, Begins, stays, shifts, owns, Fine, fine-offered, fine-ms, fine-after, load-view}
-use Rattle.reading.proofs.Following.{Before, follows, follows-after}
+use Rattle.reading.proofs.Following.{follows, follows-after}
 use Rattle.reading.proofs.Bound.{bound}
 
 -- ---- ms in no burst

@@ -1,9 +1,8 @@
 -- What a reader makes of what the model sends, ms by ms: once it is synchronized, and before.
 use mathlib.Core.Path.{_≡_, _∙_, refl, sym, ap, subst}
-use mathlib.Core.Bool.{Bool, true, false, cond, true≢false, false≢true}
+use mathlib.Core.Bool.{Bool, true, false, cond, false≢true}
 use mathlib.Core.List.{List, [], _∷_, _++_, append-nil, append-assoc}
 use Prim.Native.Nat.{ℕ, suc}
-use lib.Dec.{eqb}
 use lib.ListN.{drop}
 use Rattle.lists.specs.Steps.{stateAfter, outputs}
 use Rattle.alphabet.specs.declared.Mode.{Mode}
@@ -11,17 +10,14 @@ use Rattle.alphabet.specs.Modes.{alphabetOf}
 use Rattle.alphabet.specs.Normal.{normal, normalForm}
 use Rattle.alphabet.proofs.Normal.{normal-append}
 use Rattle.baudot.specs.declared.Sender.{Sender}
-use Rattle.line.specs.declared.Event.{Event}
 use Rattle.line.specs.declared.Reader.{Reader}
-use Rattle.line.specs.declared.Reading.{Reading}
 use Rattle.line.specs.Reader.{hear}
-use Rattle.line.specs.Words.{wordOf, wordsOf, readerNext, readerEvent, readerAfter, events, words}
+use Rattle.line.specs.Words.{wordOf, wordsOf, readerAfter, events, words}
 use Rattle.chain.specs.Resting.{Settled}
-use Rattle.chain.proofs.Chain.{Gives}
-use Rattle.reading.specs.Model.{Part, Preamble, ShiftCode, OwnCode, OnLine, Idle, Sending, Model, Loaded, Did, Step, Offer, Ms, offered, load, levelOn, oneGone, ended, closed, did, msAfter, modelAfter, does, sentIn, takenIn}
+use Rattle.reading.specs.Model.{OnLine, Idle, Sending, Model, Loaded, Did, Step, Offer, Ms, offered, load, levelOn, oneGone, ended, did, msAfter, modelAfter, does, sentIn, takenIn}
 use Rattle.reading.specs.Reading.{synchronizes, endsSynchronizing, untilSynchronized, OffersChars}
-use Rattle.reading.proofs.Laws.{Waits, Makes, SenderIn, Synchronized, LawsOf}
-use Rattle.reading.proofs.Views.{left, AllWait, Opens, opens, goes-on, Begins, stays, shifts, owns, Closes, ends, keeps, closed-view, Fine, fine-offered, fine-ms, load-view}
+use Rattle.reading.proofs.Laws.{SenderIn, Synchronized, LawsOf}
+use Rattle.reading.proofs.Views.{left, Opens, opens, goes-on, Begins, stays, shifts, owns, Closes, ends, keeps, closed-view, Fine, fine-offered, fine-ms, load-view}
 
 closes-left : {on on′ : OnLine} → Closes on on′ → left on′ ≡ left on
 closes-left ends = refl

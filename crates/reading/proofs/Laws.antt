@@ -3,25 +3,22 @@ use mathlib.Core.Path.{_≡_, _∙_, refl, sym, ap, subst}
 use mathlib.Core.Bool.{Bool, true, false, cond, true≢false, false≢true}
 use mathlib.Core.Logic.{_⊎_, inl, inr, ⊎-elim}
 use mathlib.Core.List.{List, [], _∷_, _++_, append-nil}
-use Prim.Native.Nat.{ℕ, zero, suc, _+_, _*_, _/_, _%_, _-_, _<_, _≤_}
+use Prim.Native.Nat.{ℕ, suc, _+_, _*_, _/_, _%_, _-_, _<_, _≤_}
 use native.Mathlib.Omega.{arith}
-use native.Mathlib.Numerals.{add-one}
-use lib.Dec.{eqb, leb}
+use lib.Dec.{eqb}
 use lib.ListN.{length, getD, replicate, length-append, length-replicate}
-use borrow.Author.Tests.{eqb-true, eq-eqb, ne-eqb, le-leb}
+use borrow.Author.Tests.{eqb-true, eq-eqb, le-leb}
 use Rattle.lists.specs.Lists.{allAtMost}
 use Rattle.lists.specs.Steps.{stateAfter, outputs}
-use Rattle.lists.specs.Tables.{tabulate}
 use Rattle.lists.proofs.Tables.{tabulate-length}
 use Rattle.alphabet.specs.declared.Alphabet.{Alphabet}
 use Rattle.alphabet.specs.declared.Alphabet.the-variants.{Baudot, Dtmf as dtmf, Edt as edt}
 use Rattle.alphabet.specs.declared.LineCode.{LineCode}
 use Rattle.alphabet.specs.declared.Mode.{Mode}
 use Rattle.alphabet.specs.declared.Mode.the-variants.{Baudot45, Baudot50, Dtmf, Edt}
-use Rattle.alphabet.specs.declared.Reads.{Reads}
-use Rattle.alphabet.specs.declared.Reads.the-variants.{Character, Shift, NoRow}
+use Rattle.alphabet.specs.declared.Reads.the-variants.{Character}
 use Rattle.alphabet.specs.declared.Sends.{Sends}
-use Rattle.alphabet.specs.declared.Sends.the-variants.{Nothing, Code}
+use Rattle.alphabet.specs.declared.Sends.the-variants.{Code}
 use Rattle.alphabet.specs.Print.{keys}
 use Rattle.alphabet.specs.Dtmf.{prefixes, keysOf, readDtmf}
 use Rattle.alphabet.specs.Modes.{alphabetOf}
@@ -29,9 +26,9 @@ use Rattle.alphabet.specs.Normal.{sends, reads, charsOf, readBack, normal, norm
 use Rattle.alphabet.proofs.Rule.{rule-of}
 use Rattle.alphabet.proofs.Normal.{own-shift, normal-code}
 use Rattle.baudot.specs.declared.Sender.{Sender}
-use Rattle.baudot.specs.Sending.{sender, wanted, shiftCode, shifted, counted, codesFor, senderFor, codesOf, senderAfter, Running}
+use Rattle.baudot.specs.Sending.{wanted, shiftCode, shifted, counted, codesFor, senderFor, codesOf, senderAfter, Running}
 use Rattle.baudot.specs.Reading.{shiftBy, textOf, shiftAfter}
-use Rattle.baudot.proofs.SendingRule.{NoneAhead, Ahead, ahead, codes-none, sender-none}
+use Rattle.baudot.proofs.SendingRule.{NoneAhead, ahead, codes-none, sender-none}
 use Rattle.baudot.proofs.RoundTrip.{reads-shift-code, round-trip-running, shift-follows}
 use Rattle.frames.specs.Frames.{hunting, frameStep}
 use Rattle.keys.specs.declared.Keys.{Keys}
@@ -45,7 +42,7 @@ use Rattle.chain.specs.Resting.{Settled}
 use Rattle.chain.proofs.Chain.{Gives, none, marks-pass}
 use Rattle.chain.proofs.BaudotChain.{codes-read, code-45, code-50, code-edt}
 use Rattle.chain.proofs.DtmfChain.{keys-given, shape-keys, row-shape, row-read}
-use Rattle.reading.specs.Model.{Part, Preamble, ShiftCode, OwnCode, shiftWanted, senderAfterOwn}
+use Rattle.reading.specs.Model.{Preamble, ShiftCode, OwnCode, shiftWanted, senderAfterOwn}
 use Rattle.reading.specs.Reading.{synchronizes, atOnce, mostBefore}
 
 -- a character that can wait: it sends a code

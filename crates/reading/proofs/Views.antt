@@ -1,9 +1,9 @@
 -- What a ms of the send model can begin with and end in: views that every proof over the model goes by. When a burst begins
 -- and ends is left open in them.
-use mathlib.Core.Path.{_≡_, _∙_, refl, sym, ap, subst}
-use mathlib.Core.Bool.{Bool, true, false, cond, true≢false, false≢true}
+use mathlib.Core.Path.{_≡_, refl, sym, subst}
+use mathlib.Core.Bool.{Bool, true, false, cond}
 use mathlib.Core.List.{List, [], _∷_, _++_}
-use Prim.Native.Nat.{ℕ, _<_}
+use Prim.Native.Nat.{ℕ}
 use native.Mathlib.Omega.{arith}
 use lib.Dec.{eqb}
 use Rattle.lists.proofs.Lists.{at-most-head, at-most-tail}
@@ -15,7 +15,7 @@ use Rattle.alphabet.specs.Normal.{sends, allChars}
 use Rattle.baudot.specs.declared.Sender.{Sender}
 use Rattle.baudot.specs.Opening.{isCode}
 use Rattle.signal.specs.Signal.{preamble}
-use Rattle.reading.specs.Model.{Part, Preamble, ShiftCode, OwnCode, OnLine, Idle, Sending, Model, Loaded, Step, Offer, Ms, sendable, offered, mayBegin, mayEnd, begun, shiftWanted, loaded, shiftBegins, ownBegins, codeBegins, nextCode, load, oneGone, closed, msAfter, modelAfter, freshModel, inBurst}
+use Rattle.reading.specs.Model.{Part, Preamble, OnLine, Idle, Sending, Model, Loaded, Step, Offer, Ms, sendable, offered, mayBegin, mayEnd, begun, shiftWanted, loaded, shiftBegins, ownBegins, codeBegins, nextCode, load, closed, msAfter, modelAfter}
 use Rattle.reading.specs.Reading.{OffersChars}
 use Rattle.reading.proofs.Laws.{Waits, SenderIn, LawsOf}
 

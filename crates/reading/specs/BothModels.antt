@@ -1,5 +1,5 @@
 -- Demand 3 over the send models of both stations and B's reader, which is all that a station has besides.
-use Prim.Native.Nat.{ℕ, _≤_}
+use Prim.Native.Nat.{ℕ}
 use mathlib.Core.Path.{_≡_}
 use mathlib.Core.Logic.{_⊎_}
 use mathlib.Core.Bool.{Bool, true, false, cond, _||_}

@@ -1,6 +1,6 @@
 -- Document 01, "Demand 3 is a single claim": the send model (there: a station's book), ms by ms. It is kept from offers that
 -- succeed and heard ms alone, and never looks at a station.
-use Prim.Native.Nat.{ℕ, zero, suc, _-_}
+use Prim.Native.Nat.{ℕ, suc, _-_}
 use mathlib.Core.Bool.{Bool, true, false, cond, not, _&&_, _||_}
 use mathlib.Core.List.{List, [], _∷_, _++_, map}
 use lib.Dec.{eqb, leb, ltb}
