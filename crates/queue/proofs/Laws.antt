@@ -2,16 +2,16 @@
 use mathlib.Core.Path.{_≡_, _∙_, refl, sym, ap}
 use mathlib.Core.Bool.{Bool, true, false, cond, _&&_}
 use mathlib.Core.List.{List, [], _∷_, _++_}
-use Prim.Native.Nat.{ℕ, zero, suc, _+_, _-_, _<_, _≤_}
+use Prim.Native.Nat.{ℕ, suc, _+_, _-_, _≤_}
 use native.Mathlib.Omega.{arith}
 use lib.Dec.{leb}
-use lib.ListN.{length, getD, take, drop, length-append, length-drop}
-use lib.Seq.{sets, sets-eq, take-append-add, take-append-seam, take-append-le, take-nil, length-take-le}
+use lib.ListN.{length, take, drop, length-append, length-drop}
+use lib.Seq.{sets-eq, take-append-seam, take-append-le, take-nil, length-take-le}
 use borrow.Author.Tests.{le-leb, leb-true}
 use Rattle.lists.proofs.Lists.{and-left, and-right}
 use Rattle.alphabet.specs.declared.Alphabet.{Alphabet}
 use Rattle.queue.specs.declared.Queue.{Queue}
-use Rattle.queue.specs.Queue.{waits, waiters, allWait, waitingOf, moved, inRange, room, offered, taken}
+use Rattle.queue.specs.Queue.{waits, waiters, allWait, waitingOf, inRange, room, offered, taken}
 
 and-both : (x y : Bool) → x ≡ true → y ≡ true → (x && y) ≡ true
 and-both x y p q = rw (p, q) refl

@@ -3,14 +3,14 @@ use alphabet::Alphabet;
 use alphabet::Char;
 use alphabet::Sends;
 ghost use mathlib.Core.Path.{_≡_};
-ghost use mathlib.Core.Bool.{true};
+ghost use mathlib.Core.Bool.{false};
 ghost use mathlib.Core.List.{[], _∷_};
-ghost use Prim.Native.Nat.{_+_, _≤_, _<_};
-ghost use lib.ListN.{length, getD};
+ghost use Prim.Native.Nat.{_+_, _-_, _≤_};
+ghost use lib.ListN.{length};
 ghost use lib.Seq.{sets};
 ghost use Rattle.alphabet.specs.Packing.{sendTable};
 ghost use Rattle.baudot.specs.Opening.{isCode};
-ghost use Rattle.queue.specs.Queue.{waits, waiters, allWait, moved, most, inRange, offerOf, front, taken};
+ghost use Rattle.queue.specs.Queue.{waits, waiters, allWait, moved, inRange, offerOf, front, taken};
 
 pub struct Queue {
     pub waiting: u16,
@@ -30,7 +30,7 @@ fn is_code(sends: Sends) -> bool
 }
 
 // Does a character wait when it is offered? One that sends nothing never does.
-pub fn waits(table: &[u16; 384], a: Alphabet, c: u8) -> bool
+fn waits(table: &[u16; 384], a: Alphabet, c: u8) -> bool
     requires { ⌜ now table ≡ sendTable ⌝ }
     ensures { λ r. ⌜ r ≡ waits a c ⌝ }
 {
@@ -41,7 +41,7 @@ pub fn waits(table: &[u16; 384], a: Alphabet, c: u8) -> bool
 }
 
 // How many characters of a text wait.
-pub fn count_waiters(table: &[u16; 384], a: Alphabet, text: &[u8]) -> usize
+fn count_waiters(table: &[u16; 384], a: Alphabet, text: &[u8]) -> usize
     requires { ⌜ now table ≡ sendTable ⌝ }
     ensures { λ r. ⌜ r ≡ length (waiters a (now (text .entry))) ⌝ }
 {
@@ -131,19 +131,28 @@ pub struct Offered {
     pub queue: Queue,
 }
 
+// An offer without space leaves the queue.
+fn refused(q: Queue) -> Offered
+    ensures { λ r. ⌜ r ≡ record { accepted = false; queue = q } ⌝ }
+{
+    Offered {
+        accepted: false,
+        queue: q,
+    }
+}
+
 // The characters of a text that wait, put behind those waiting, if there is space for all of them.
 pub fn offer(a: Alphabet, q: Queue, text: &[u8]) -> Offered
-    requires { ⌜ q .waiting ≤ most ⌝ }
     ensures { λ r. ⌜ r ≡ offerOf a q (now (text .entry)) ⌝ }
 {
+    if MOST < q.waiting {
+        return refused(q);
+    }
     let table = alphabet::table::send_table();
     let n = count_waiters(&table, a, text);
     let before = q.waiting as usize;
     if MOST as usize - before < n {
-        return Offered {
-            accepted: false,
-            queue: q,
-        };
+        return refused(q);
     }
     let mut chars = q.chars;
     put_waiters(&table, a, text, &mut chars, before);
@@ -163,15 +172,24 @@ pub fn front(q: Queue) -> Char
     Char(q.chars[0])
 }
 
-// The queue without the character in front.
+// One less, down to none.
+fn one_less(n: u16) -> u16
+    ensures { λ r. ⌜ r ≡ n - 1 ⌝ }
+{
+    if n == 0 {
+        return 0;
+    }
+    n - 1
+}
+
+// The queue without the character in front; none is left of none.
 pub fn take(q: Queue) -> Queue
-    requires { ⌜ 1 ≤ q .waiting ⌝ }
     ensures { λ r. ⌜ r ≡ taken q ⌝ }
 {
     let mut chars = q.chars;
     move_up(&mut chars);
     Queue {
-        waiting: q.waiting - 1,
+        waiting: one_less(q.waiting),
         chars,
     }
 }

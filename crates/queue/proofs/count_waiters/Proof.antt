@@ -7,7 +7,7 @@ use Prim.Native.Nat.{_+_, _-_, _≤_}
 use native.Mathlib.Omega.{arith}
 use lib.ListN.{length, getD, drop}
 use Rattle.queue.specs.Queue.{waiters}
-use Rattle.queue.proofs.Waiters.{left-length, waiters-end, waiters-most, waiter, no-waiter}
+use Rattle.queue.proofs.Waiters.{left-length, waiters-end, waiter, no-waiter}
 use borrow.Author.Needs.{needs}
 use Rattle.queue.proofs.count_waiters.Statement.{statement}
 use Rattle.queue.proofs.count_waiters.Tie as tie

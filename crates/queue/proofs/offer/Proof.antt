@@ -11,6 +11,17 @@ use Rattle.queue.proofs.offer.Tie as tie
 use Rattle.alphabet.proofs.table.send_table.Reads as send-table-reads
 use Rattle.queue.proofs.count_waiters.Reads as count-waiters-reads
 use Rattle.queue.proofs.put_waiters.Reads as put-waiters-reads
+use Rattle.queue.proofs.refused.Reads as refused-reads
+
+refused-requires : tie.Need-refused-requires
+refused-requires c κs = search needs
+
+returns : tie.Need-returns
+unfolding room offerOf
+returns c =
+    let s = c .before .before .before .before in
+    let t = c .before .if1 .taken in
+    simp (c .refused .ensures, lt-leb (s .args .q .waiting + length (waiters (s .args .a) (s .args .text .now))) 256 (omega arith))
 
 send-table-requires : tie.Need-send-table-requires
 send-table-requires c κs = search needs
@@ -21,60 +32,66 @@ count-waiters-requires c κs = search needs
 cast-before : tie.Need-cast-before
 cast-before c = search needs
 
-cast-if1 : tie.Need-cast-if1
-cast-if1 c = search needs
+cast-if2 : tie.Need-cast-if2
+cast-if2 c = search needs
 
-sub-if1 : tie.Need-sub-if1
-sub-if1 c = search needs
+sub-if2 : tie.Need-sub-if2
+sub-if2 c = search needs
 
-returns : tie.Need-returns
+refused-requires-2 : tie.Need-refused-requires-2
+refused-requires-2 c κs = search needs
+
+returns-2 : tie.Need-returns-2
 unfolding room offerOf
-returns c =
-    let s = c .before .before .before .before .before .before in
-    let n = c .before .before .count-waiters .ensures in
-    let t = c .if1 .taken in
-    let p = s .pre in
-    simp (lt-leb (s .args .q .waiting + length (waiters (s .args .a) (s .args .text .now))) 256 (omega arith))
+returns-2 c =
+    let s = c .before .before .before .before .before .before .before .before .before in
+    let n = c .before .before .before .count-waiters .ensures in
+    let t = c .before .if2 .taken in
+    let p = c .before .before .before .before .before .before .if1 .left in
+    simp (c .refused2 .ensures, lt-leb (s .args .q .waiting + length (waiters (s .args .a) (s .args .text .now))) 256 (omega arith))
 
 slice-aggregate-put-waiters : tie.Need-slice-aggregate-put-waiters
 slice-aggregate-put-waiters c = search needs
 
 put-waiters-requires : tie.Need-put-waiters-requires
 put-waiters-requires c κs =
-    let s = c .before .before .before .before .before .before .before .before .before in
+    let s = c .before .before .before .before .before .before .before .before .before .before .before in
     let l : length (s .args .q .chars) ≡ 256 = search needs in
     let n = c .before .before .before .before .before .count-waiters .ensures in
-    let t = c .before .before .before .if1 .left in
-    let p = s .pre in
+    let t = c .before .before .before .if2 .left in
+    let p = c .before .before .before .before .before .before .before .before .if1 .left in
     (c .before .before .before .before .before .before .before .send-table .ensures, omega arith)
 
-add-t10 : tie.Need-add-t10
-add-t10 c = search needs
+add-t11 : tie.Need-add-t11
+add-t11 c = search needs
 
 cast-t17 : tie.Need-cast-t17
 cast-t17 c = search needs
 
-returns-2 : tie.Need-returns-2
+returns-3 : tie.Need-returns-3
 unfolding room offered offerOf
-returns-2 c =
-    let s = c .before .before .before .before .before .before .before .before .before .before .before in
+returns-3 c =
+    let s = c .before .before .before .before .before .before .before .before .before .before .before .before .before in
     let n = c .before .before .before .before .before .before .before .count-waiters .ensures in
-    let t = c .before .before .before .before .before .if1 .left in
-    let p = s .pre in
+    let t = c .before .before .before .before .before .if2 .left in
+    let p = c .before .before .before .before .before .before .before .before .before .before .if1 .left in
     simp (c .before .put-waiters .ensures, n, le-leb (s .args .q .waiting + length (waiters (s .args .a) (s .args .text .now))) 256 (omega arith))
 
 pub offer-spec : {M : Type 1} → statement M
 offer-spec =
     tie.close
     (tie.spec
+    refused-requires
+    returns
     send-table-requires
     count-waiters-requires
     cast-before
-    cast-if1
-    sub-if1
-    returns
+    cast-if2
+    sub-if2
+    refused-requires-2
+    returns-2
     slice-aggregate-put-waiters
     put-waiters-requires
-    add-t10
+    add-t11
     cast-t17
-    returns-2)
+    returns-3)

@@ -7,6 +7,7 @@ use borrow.Author.Needs.{needs}
 use Rattle.queue.proofs.take.Statement.{statement}
 use Rattle.queue.proofs.take.Tie as tie
 use Rattle.queue.proofs.move_up.Reads as move-up-reads
+use Rattle.queue.proofs.one_less.Reads as one-less-reads
 
 slice-aggregate-move-up : tie.Need-slice-aggregate-move-up
 slice-aggregate-move-up c = search needs
@@ -16,12 +17,12 @@ move-up-requires c κs =
     let l : length (c .before .before .args .q .chars) ≡ 256 = search needs in
     omega arith
 
-sub-t6 : tie.Need-sub-t6
-sub-t6 c = search needs
+one-less-requires : tie.Need-one-less-requires
+one-less-requires c κs = search needs
 
 returns : tie.Need-returns
 unfolding taken
-returns c = simp (c .before .before .move-up .ensures)
+returns c = simp (c .before .before .move-up .ensures, c .one-less .ensures)
 
 pub take-spec : {M : Type 1} → statement M
-take-spec = tie.close (tie.spec slice-aggregate-move-up move-up-requires sub-t6 returns)
+take-spec = tie.close (tie.spec slice-aggregate-move-up move-up-requires one-less-requires returns)
