@@ -1,6 +1,6 @@
 -- What each character sends and each code reads as, by alphabet; document 01, "EDT alphabet" and "Normal form".
 use Prim.Native.Nat.{ℕ}
-use mathlib.Core.Bool.{Bool, cond}
+use mathlib.Core.Bool.{Bool, true, false, cond}
 use mathlib.Core.List.{List, [], _∷_, _++_}
 use lib.Dec.{leb}
 use Rattle.lists.specs.Lists.{allAtMost}
@@ -26,6 +26,11 @@ unfoldable pub sends : Alphabet → ℕ → Sends
 sends Baudot c = sendBaudot c
 sends Dtmf c = sendDtmf c
 sends Edt c = sendEdt c
+
+-- What is sent is a code, and not nothing.
+abbrev pub isCode : Sends → Bool
+isCode Nothing = false
+isCode (Code shift code) = true
 
 -- What a code reads as, in a shift (which only Baudot looks at).
 unfoldable pub reads : Alphabet → ℕ → ℕ → Reads

@@ -12,11 +12,10 @@ use Rattle.lists.proofs.Lists.{sets-append, sets-front, at-most-head, at-most-t
 use Rattle.alphabet.specs.declared.Alphabet.the-variants.{Baudot}
 use Rattle.alphabet.specs.declared.Sends.{Sends}
 use Rattle.alphabet.specs.declared.Sends.the-variants.{Nothing, Code}
-use Rattle.alphabet.specs.Normal.{sends, allChars}
+use Rattle.alphabet.specs.Normal.{sends, isCode, allChars}
 use Rattle.baudot.specs.declared.Sender.{Sender}
 use Rattle.baudot.specs.declared.BaudotSent.{BaudotSent}
 use Rattle.baudot.specs.Sending.{sender, fresh, codesFor, senderFor, codesOf}
-use Rattle.baudot.specs.Opening.{isCode}
 use Rattle.lists.specs.Lists.{written}
 use Rattle.baudot.specs.Entries.{sent, sendAnswer, sentOf, codesAfter}
 use Rattle.baudot.specs.Listing.{digit, lineOf, linesOf, listing}

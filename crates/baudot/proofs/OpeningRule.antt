@@ -14,12 +14,12 @@ use Rattle.alphabet.specs.declared.Alphabet.the-variants.{Baudot}
 use Rattle.alphabet.specs.declared.LineCode.{LineCode}
 use Rattle.alphabet.specs.declared.Sends.{Sends}
 use Rattle.alphabet.specs.declared.Sends.the-variants.{Nothing, Code}
-use Rattle.alphabet.specs.Normal.{sends, allChars}
+use Rattle.alphabet.specs.Normal.{sends, isCode, allChars}
 use Rattle.baudot.specs.declared.Sender.{Sender}
 use Rattle.baudot.specs.declared.sending.Opening.{Opening}
 use Rattle.baudot.specs.declared.sending.Placed.{Placed}
 use Rattle.baudot.specs.Sending.{sender, wanted, shifted, shiftCodes, opened, counted, codesFor, senderFor, codesOf, senderAfter, Running}
-use Rattle.baudot.specs.Opening.{isCode, Silent, openingCodes, Opened}
+use Rattle.baudot.specs.Opening.{Silent, openingCodes, Opened}
 use Rattle.baudot.proofs.SendingRule.{NoneAhead, Ahead, ahead, own-range, codes-twice}
 use Rattle.baudot.proofs.Left.{codes-left, sender-left, codes-end, sender-end}
 

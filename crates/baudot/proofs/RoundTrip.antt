@@ -15,12 +15,11 @@ use Rattle.alphabet.specs.declared.Sends.the-variants.{Nothing, Code}
 use Rattle.alphabet.specs.declared.Reads.{Reads}
 use Rattle.alphabet.specs.declared.Reads.the-variants.{Character, Shift}
 use Rattle.alphabet.specs.Baudot.{readBaudot}
-use Rattle.alphabet.specs.Normal.{sends, reads, charsOf, normal, normalForm, allChars}
+use Rattle.alphabet.specs.Normal.{sends, isCode, reads, charsOf, normal, normalForm, allChars}
 use Rattle.alphabet.proofs.Rule.{ReadBack, rule-of}
 use Rattle.alphabet.proofs.Normal.{reads-in, normal-code}
 use Rattle.baudot.specs.declared.Sender.{Sender}
 use Rattle.baudot.specs.Sending.{sender, shiftCode, differs, wanted, codesFor, senderFor, codesOf, senderAfter, Running}
-use Rattle.baudot.specs.Opening.{isCode}
 use Rattle.baudot.specs.Reading.{shiftBy, textOf, shiftAfter}
 use Rattle.baudot.proofs.SendingRule.{NoneAhead, Ahead, ahead, wanted-change, codes-none, codes-some, sender-none, sender-some, own-range, running-for}
 use Rattle.baudot.proofs.OpeningRule.{running-letters, fresh-for}

@@ -14,12 +14,11 @@ use Rattle.alphabet.specs.declared.LineCode.{LineCode}
 use Rattle.alphabet.specs.declared.Sends.{Sends}
 use Rattle.alphabet.specs.declared.Sends.the-variants.{Nothing, Code}
 use Rattle.alphabet.specs.declared.Reads.{Reads}
-use Rattle.alphabet.specs.Normal.{sends, reads, charsOf, allChars}
+use Rattle.alphabet.specs.Normal.{sends, isCode, reads, charsOf, allChars}
 use Rattle.alphabet.proofs.Rule.{rule-of}
 use Rattle.alphabet.proofs.Normal.{own-shift}
 use Rattle.baudot.specs.declared.Sender.{Sender}
 use Rattle.baudot.specs.Sending.{sender, shiftCode, wanted, codesFor, senderFor, codesOf, Running}
-use Rattle.baudot.specs.Opening.{isCode}
 use Rattle.baudot.specs.Counting.{shiftOne, shiftsIn}
 use Rattle.baudot.proofs.SendingRule.{NoneAhead, Ahead, ahead, codes-none, codes-some, sender-none, sender-some, own-range, running-for}
 use Rattle.baudot.proofs.OpeningRule.{running-letters, fresh-for}

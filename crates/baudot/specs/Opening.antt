@@ -1,22 +1,15 @@
 -- Where the code takes a text up: a fresh sender's first shift code, ahead of the first character that sends anything.
 use mathlib.Core.Path.{_≡_}
-use mathlib.Core.Bool.{Bool, true, false, cond}
+use mathlib.Core.Bool.{true, cond}
 use mathlib.Core.List.{List, [], _∷_, _++_}
 use Prim.Native.Nat.{ℕ, _≤_, _<_}
 use lib.Dec.{eqb}
 use lib.ListN.{length, getD, drop}
 use Rattle.alphabet.specs.declared.Alphabet.the-variants.{Baudot}
-use Rattle.alphabet.specs.declared.Sends.{Sends}
-use Rattle.alphabet.specs.declared.Sends.the-variants.{Nothing, Code}
-use Rattle.alphabet.specs.Normal.{sends}
+use Rattle.alphabet.specs.Normal.{sends, isCode}
 use Rattle.baudot.specs.declared.Sender.{Sender}
 use Rattle.baudot.specs.declared.sending.Opening.{Opening}
 use Rattle.baudot.specs.Sending.{codesOf, senderAfter, Running}
-
--- A character sends a code.
-abbrev pub isCode : Sends → Bool
-isCode Nothing = false
-isCode (Code own code) = true
 
 -- The characters of a text ahead of the place n send nothing, and the one there sends a code.
 pub record Silent (text : List ℕ) (n : ℕ) : Type 0 where

@@ -6,16 +6,16 @@ use alphabet::Char;
 use alphabet::Sends;
 ghost use mathlib.Core.Path.{_≡_};
 ghost use mathlib.Core.Bool.{true};
-ghost use mathlib.Core.List.{[], _∷_, _++_};
+ghost use mathlib.Core.List.{_++_};
 ghost use Prim.Native.Nat.{_+_, _^_, _≤_, _<_};
 ghost use lib.Dec.{leb};
 ghost use lib.ListN.{length, drop};
 ghost use lib.Seq.{sets};
 ghost use Rattle.alphabet.specs.declared.Alphabet.the-variants.{Baudot};
-ghost use Rattle.alphabet.specs.Normal.{sends, allChars};
+ghost use Rattle.alphabet.specs.Normal.{sends, isCode, allChars};
 ghost use Rattle.alphabet.specs.Packing.{sendTable};
 ghost use Rattle.baudot.specs.Sending.{sender, shiftCode, shiftCodes, wanted, shifted, codesFor, senderFor, codesOf, senderAfter, Running};
-ghost use Rattle.baudot.specs.Opening.{Opened, openingCodes, isCode, Silent};
+ghost use Rattle.baudot.specs.Opening.{Opened, openingCodes, Silent};
 ghost use Rattle.baudot.specs.Entries.{sent, sentOf, codesAfter};
 
 // The most characters between two shift codes.

@@ -7,8 +7,7 @@ use lib.ListN.{length, getD, take, drop}
 use lib.Seq.{sets}
 use Rattle.lists.specs.Lists.{written}
 use Rattle.alphabet.specs.declared.Alphabet.{Alphabet}
-use Rattle.alphabet.specs.Normal.{sends}
-use Rattle.baudot.specs.Opening.{isCode}
+use Rattle.alphabet.specs.Normal.{sends, isCode}
 use Rattle.queue.specs.declared.Queue.{Queue}
 use Rattle.queue.specs.declared.Offered.{Offered}
 

@@ -8,8 +8,8 @@ ghost use mathlib.Core.List.{[], _∷_};
 ghost use Prim.Native.Nat.{_+_, _-_, _≤_};
 ghost use lib.ListN.{length};
 ghost use lib.Seq.{sets};
+ghost use Rattle.alphabet.specs.Normal.{isCode};
 ghost use Rattle.alphabet.specs.Packing.{sendTable};
-ghost use Rattle.baudot.specs.Opening.{isCode};
 ghost use Rattle.queue.specs.Queue.{waits, waiters, allWait, moved, inRange, offerOf, front, taken};
 
 pub struct Queue {

@@ -11,9 +11,8 @@ use Rattle.alphabet.specs.declared.Mode.{Mode}
 use Rattle.alphabet.specs.declared.Sends.{Sends}
 use Rattle.alphabet.specs.declared.Sends.the-variants.{Nothing, Code}
 use Rattle.alphabet.specs.Modes.{alphabetOf}
-use Rattle.alphabet.specs.Normal.{sends, allChars}
+use Rattle.alphabet.specs.Normal.{sends, isCode, allChars}
 use Rattle.baudot.specs.declared.Sender.{Sender}
-use Rattle.baudot.specs.Opening.{isCode}
 use Rattle.signal.specs.Signal.{preamble}
 use Rattle.reading.specs.Model.{Part, Preamble, OnLine, Idle, Sending, Model, Loaded, Step, Offer, Ms, sendable, offered, mayBegin, mayEnd, begun, shiftWanted, loaded, shiftBegins, ownBegins, codeBegins, nextCode, load, closed, msAfter, modelAfter}
 use Rattle.reading.specs.Reading.{OffersChars}

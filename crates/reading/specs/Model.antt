@@ -11,9 +11,8 @@ use Rattle.alphabet.specs.declared.Mode.{Mode}
 use Rattle.alphabet.specs.declared.Sends.{Sends}
 use Rattle.alphabet.specs.declared.Sends.the-variants.{Nothing, Code}
 use Rattle.alphabet.specs.Modes.{alphabetOf}
-use Rattle.alphabet.specs.Normal.{sends}
+use Rattle.alphabet.specs.Normal.{sends, isCode}
 use Rattle.baudot.specs.declared.Sender.{Sender}
-use Rattle.baudot.specs.Opening.{isCode}
 use Rattle.baudot.specs.Sending.{fresh, wanted, shiftCode, shifted, counted}
 use Rattle.signal.specs.Signal.{quiet, signal, preamble}
 

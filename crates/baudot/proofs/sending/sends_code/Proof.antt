@@ -1,6 +1,6 @@
 -- `sending::sends_code` meets its contract, by the two cases of what is sent.
 use mathlib.Core.Path.{_∙_, sym, ap}
-use Rattle.baudot.specs.Opening.{isCode}
+use Rattle.alphabet.specs.Normal.{isCode}
 use borrow.Author.Needs.{needs}
 use Rattle.baudot.proofs.sending.sends_code.Statement.{statement}
 use Rattle.baudot.proofs.sending.sends_code.Tie as tie
