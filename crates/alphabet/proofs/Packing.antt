@@ -22,8 +22,8 @@ use Rattle.alphabet.specs.TableB1.{b1}
 use Rattle.alphabet.specs.Baudot.{printedAt, readBaudot}
 use Rattle.alphabet.specs.Dtmf.{withMark, codeFrom, prefixes, keysOf, marksThenDigit, among, notStruck, remaining, names, firstSign, named, readIn, readDtmf}
 use Rattle.alphabet.specs.Normal.{sends}
-use Rattle.alphabet.specs.Packing.{base, packed, entryAt, sendTable, readTable, shiftOf, packedRead, charIn, baudotAt, dtmfAt, keyAt}
-use Rattle.alphabet.proofs.Rule.{leastShift, codes, ReadBack, entry-place, entry-below, rule-of}
+use Rattle.alphabet.specs.Packing.{codes, base, packed, entryAt, sendTable, readTable, shiftOf, packedRead, charIn, baudotAt, dtmfAt, keyAt}
+use Rattle.alphabet.proofs.Rule.{leastShift, ReadBack, entry-place, entry-below, rule-of}
 
 -- the entry of a character
 pub entry-of : (a : Alphabet) (c : ℕ) → c < 128 → entryAt (base a + c) ≡ packed (sends a c)

@@ -23,14 +23,8 @@ use Rattle.alphabet.specs.TableB2.{b2}
 use Rattle.alphabet.specs.Baudot.{printedAt, readBaudot, sendBaudot}
 use Rattle.alphabet.specs.Dtmf.{withMark, codeFrom, marksThenDigit, among, notStruck, remaining, names, firstSign, named, readIn, readDtmf, sendIn, hasRow, sendFrom, sendDtmf}
 use Rattle.alphabet.specs.Normal.{sends, reads}
-use Rattle.alphabet.specs.Packing.{base, alphabetAt}
+use Rattle.alphabet.specs.Packing.{codes, base, alphabetAt}
 use Rattle.alphabet.proofs.Same.{sameSends, same-sends, isCharacter, is-character}
-
--- an alphabet's codes are below this
-abbrev pub codes : Alphabet → ℕ
-codes Baudot = 32
-codes Dtmf = 256
-codes Edt = 128
 
 -- the shifts of an alphabet's codes are at least this
 abbrev pub leastShift : Alphabet → ℕ

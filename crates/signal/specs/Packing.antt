@@ -1,16 +1,8 @@
--- How the code goes about it: a frame as one number, the first element lowest; the bounds that its functions ask for.
+-- How the code goes about it: a frame as one number, the first element lowest; how long a signal is at most.
 use Prim.Native.Nat.{ℕ, _+_, _*_}
-use Rattle.alphabet.specs.declared.Alphabet.{Alphabet}
-use Rattle.alphabet.specs.declared.Alphabet.the-variants.{Baudot, Dtmf as dtmf, Edt as edt}
 use Rattle.alphabet.specs.declared.Mode.{Mode}
 use Rattle.alphabet.specs.declared.Mode.the-variants.{Baudot45, Baudot50, Dtmf, Edt}
 use Rattle.signal.specs.Signal.{parityOf}
-
--- the codes of an alphabet are below this
-abbrev pub codes : Alphabet → ℕ
-codes Baudot = 32
-codes dtmf = 256
-codes edt = 128
 
 -- no signal of a mode has more ms than this
 abbrev pub longest : Mode → ℕ

@@ -6,8 +6,9 @@ use lib.ListN.{length}
 use Rattle.alphabet.specs.declared.Mode.{Mode}
 use Rattle.alphabet.specs.declared.Mode.the-variants.{Baudot45, Baudot50, Dtmf, Edt}
 use Rattle.alphabet.specs.Modes.{alphabetOf}
+use Rattle.alphabet.specs.Packing.{codes}
 use Rattle.signal.specs.Signal.{signal}
-use Rattle.signal.specs.Packing.{codes, longest}
+use Rattle.signal.specs.Packing.{longest}
 use Rattle.signal.proofs.Lengths.{baudot-165, baudot-150, dtmf-120, four-keys, edt-100}
 use Rattle.line_signals.proofs.print_signal.Statement.{statement}
 use Rattle.line_signals.proofs.print_signal.Tie as tie
