@@ -132,8 +132,8 @@ module _ (chars₀ chars : List ℕ) (i : ℕ) (m : Moving chars₀ chars i) whe
         whole = ap (λ (k : ℕ). sets (set chars (i - 1) (getD chars i 0)) k (drop (i + 1) chars₀)) up ∙ ap (λ (v : List ℕ). sets chars (i - 1) v) (sym d) ∙ m .whole;
       }
 
-  pub moving-end : 1 ≤ length chars₀ → length chars ≤ i → chars ≡ moved chars₀
-  moving-end o h =
+  pub moving-end : length chars ≤ i → chars ≡ moved chars₀
+  moving-end h =
       let s = m .size in
       let n : length (drop 1 chars₀) ≤ length chars₀ = (let e = length-drop 1 chars₀ in omega arith) in
       ap (λ (v : List ℕ). sets chars (i - 1) v) (sym (drop-of-length-le chars₀ {i = i} (omega arith))) ∙ m .whole ∙ sets-front chars₀ (drop 1 chars₀) n

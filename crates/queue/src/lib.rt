@@ -99,9 +99,8 @@ fn all_wait(table: &[u16; 384], a: Alphabet, chars: &[u8]) -> bool
     true
 }
 
-// All but the first move up one place.
-fn move_up(chars: &mut [u8])
-    requires { ⌜ 1 ≤ length (now chars) ⌝ }
+// All but the first move up one place; the last place keeps its character.
+pub fn move_up(chars: &mut [u8])
     ensures { λ r. ⌜ now (chars .exit) ≡ moved (now (chars .entry)) ⌝ }
 {
     let mut i: usize = 1;

@@ -44,7 +44,7 @@ same-length : tie.Need-same-length Inv-loop μ-loop
 same-length c = c .before .loop .inv .size
 
 returns : tie.Need-returns Inv-loop μ-loop
-returns c = moving-end _ _ _ (c .before .loop .inv) (c .before .before .pre) (c .loop-test .left)
+returns c = moving-end _ _ _ (c .before .loop .inv) (c .loop-test .left)
 
 pub move-up-spec : {M : Type 1} → statement M
 move-up-spec =

@@ -1,7 +1,4 @@
 -- `take` meets its contract.
-use mathlib.Core.Path.{_≡_}
-use native.Mathlib.Omega.{arith}
-use lib.ListN.{length}
 use Rattle.queue.specs.Queue.{taken}
 use borrow.Author.Needs.{needs}
 use Rattle.queue.proofs.take.Statement.{statement}
@@ -13,9 +10,7 @@ slice-aggregate-move-up : tie.Need-slice-aggregate-move-up
 slice-aggregate-move-up c = search needs
 
 move-up-requires : tie.Need-move-up-requires
-move-up-requires c κs =
-    let l : length (c .before .before .args .q .chars) ≡ 256 = search needs in
-    omega arith
+move-up-requires c κs = search needs
 
 one-less-requires : tie.Need-one-less-requires
 one-less-requires c κs = search needs
