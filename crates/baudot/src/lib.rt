@@ -4,6 +4,7 @@ pub mod reading;
 pub mod sending;
 
 // A sender: its shift (0 fresh, 1 letters, 2 figures) and the characters that have gone since the last shift code.
+#[repr(C)]
 pub struct Sender {
     pub shift: u8,
     pub count: u8,

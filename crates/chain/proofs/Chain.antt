@@ -2,7 +2,7 @@
 use mathlib.Core.Path.{_≡_, _∙_, refl, sym, ap, subst}
 use mathlib.Core.Bool.{Bool, true, false, cond, _&&_, _||_}
 use mathlib.Core.Logic.{_⊎_, inl, inr, ⊎-elim}
-use mathlib.Core.List.{List, [], _∷_, _++_, append-nil, append-assoc}
+use mathlib.Core.List.{List, [], _∷_, _++_, append-nil}
 use Prim.Native.Nat.{ℕ, zero, suc, _+_, _-_, _*_, _/_, _%_, _<_, _≤_}
 use native.Mathlib.Omega.{arith}
 use lib.Dec.{T, eqb, leb}
@@ -30,17 +30,13 @@ use Rattle.line.specs.Reader.{reader, eventOf, foundEvent, foundShift, keyEvent
 use Rattle.line.specs.Words.{wordOf, wordsOf, readerNext, readerEvent, readerAfter, events, words}
 use Rattle.lists.proofs.Steps as steps
 use Rattle.lists.proofs.Steps.{Takes}
+use Rattle.line.proofs.WordLists.{words-append}
 use Rattle.chain.proofs.FrameRules.{Hears}
 
 -- from the reader r, the ms xs give the words ws and leave the reader q
 pub record Gives (mode : Mode) (r : Reader) (xs ws : List ℕ) (q : Reader) : Type 0 where
   pub after : readerAfter mode r xs ≡ q
   pub heard : words mode r xs ≡ ws
-
-pub words-append : (es fs : List Event) → wordsOf (es ++ fs) ≡ wordsOf es ++ wordsOf fs
-unfolding wordsOf
-words-append [] fs = refl
-words-append (e ∷ es) fs = ap (λ (l : List ℕ). wordOf e ++ l) (words-append es fs) ∙ sym (append-assoc (wordOf e) (wordsOf es) (wordsOf fs))
 
 pub none : (mode : Mode) (r : Reader) → Gives mode r [] [] r
 unfolding stateAfter outputs wordsOf

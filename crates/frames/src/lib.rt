@@ -22,6 +22,7 @@ pub enum Sample {
 
 // A reader of frames. Place 0: hunting; 1: waiting after a fault; m + 1: in a frame whose ms m is to come. The digits so far,
 // the latest one at the top.
+#[repr(C)]
 pub struct Frame {
     pub place: u8,
     pub digits: u8,

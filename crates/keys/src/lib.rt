@@ -6,6 +6,7 @@ ghost use Prim.Native.Nat.{_+_, _-_, _≤_, _<_};
 ghost use Rattle.keys.specs.Keys.{keyMs, quietMs, needs, counts, keyStep};
 
 // A reader of keys: the key that is heard (0 none) and its ms in a row, and the quiet ms that are still needed.
+#[repr(C)]
 pub struct Keys {
     pub key: u8,
     pub ms: u8,

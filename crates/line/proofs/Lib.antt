@@ -1,2 +1,3 @@
 pub mod Outcomes
 pub mod Range
+pub mod WordLists

@@ -27,6 +27,7 @@ pub enum Event {
 }
 
 // A reader: of frames, or of keys; its shift (1 letters, 2 figures); its prefix.
+#[repr(C)]
 pub struct Reader {
     pub frame: Frame,
     pub keys: Keys,
