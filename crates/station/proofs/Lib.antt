@@ -1,0 +1,4 @@
+pub mod Laws
+pub mod Range
+pub mod Answers
+pub mod Cuts

@@ -1,0 +1,380 @@
+-- A station in range: what question 1 says in facts, and that every entry keeps it.
+use mathlib.Core.Path.{_≡_, _∙_, refl}
+use mathlib.Core.Bool.{Bool, true, false, cond, _&&_}
+use mathlib.Core.List.{List, [], _∷_}
+use Prim.Native.Nat.{ℕ, zero, suc, _+_, _-_, _<_, _≤_}
+use native.Mathlib.Omega.{arith}
+use lib.Dec.{eqb, leb, ltb}
+use lib.ListN.{length, getD, take, length-append, length-drop}
+use lib.Seq.{length-sets}
+use borrow.Author.Tests.{eqb-true, leb-true, ltb-true, le-leb, lt-ltb}
+use Rattle.lists.specs.Lists.{allAtMost}
+use Rattle.lists.specs.Steps.{stateAfter}
+use Rattle.lists.proofs.Lists.{either, and-left, and-right, at-most-head, at-most-tail}
+use Rattle.alphabet.specs.declared.Alphabet.{Alphabet}
+use Rattle.alphabet.specs.declared.Alphabet.the-variants.{Baudot, Dtmf as dtmf, Edt as edt}
+use Rattle.alphabet.specs.declared.Mode.{Mode}
+use Rattle.alphabet.specs.declared.Mode.the-variants.{Baudot45, Baudot50, Dtmf, Edt}
+use Rattle.alphabet.specs.Modes.{alphabetOf}
+use Rattle.alphabet.specs.Normal.{sends, allChars}
+use Rattle.baudot.specs.declared.Sender.{Sender}
+use Rattle.alphabet.specs.Normal.{isCode}
+use Rattle.baudot.specs.Sending.{inRange as senderIn}
+use Rattle.alphabet.specs.Packing.{codes}
+use Rattle.frames.specs.declared.Frame.{Frame}
+use Rattle.frames.specs.Samples.{samplesOf}
+use Rattle.frames.specs.Range.{lastMs, frameCodes, FrameOf}
+use Rattle.keys.specs.declared.Keys.{Keys}
+use Rattle.keys.specs.Range.{KeysIn}
+use Rattle.line.specs.declared.Reader.{Reader}
+use Rattle.line.specs.Reader.{reader}
+use Rattle.line.specs.Range.{ReaderIn}
+use Rattle.line.proofs.Range as line
+use Rattle.access.specs.declared.OnLine.{OnLine}
+use Rattle.access.specs.Line.{partMs}
+use Rattle.access.specs.Core.{modeIn, settled, coreFrom}
+use Rattle.access.specs.Range.{LineIn, SenderIn, CoreIn}
+use Rattle.access.proofs.Range.{blank-in, takes-waiting, core-after-in}
+use Rattle.queue.specs.declared.Queue.{Queue}
+use Rattle.queue.specs.Queue.{queue, waits, waiters, allWait, waitingOf, moved, room, offered, taken, inRange as queueIn}
+use Rattle.queue.proofs.Laws as queue
+use Rattle.station.specs.declared.Station.{Station}
+use Rattle.station.specs.declared.Answered.{Answered}
+use Rattle.station.specs.declared.Ran.{Ran}
+use Rattle.station.specs.Station.{modeOfStation, alphabetOfStation, queueOf, freshStation, hasDel, readerOffered, offeredTo, front, charsAfter, stationMs, stationAfter, wordsBy}
+use Rattle.station.specs.Range.{frameIn, keysIn, readerIn, lineIn, coreIn, inRange}
+use Rattle.station.specs.Entries.{answered, isMode, openOf, offerAnswer, offerOf, highestLevel, runAnswer, ran, ranOf}
+
+-- ---- question 1 in facts
+
+frame-in : (mode : Mode) (f : Frame) → frameIn mode f ≡ true → FrameOf mode f
+frame-in mode f e =
+    let p = leb (f .place) (lastMs (samplesOf mode) + 1) in
+    let d = ltb (f .digits) (frameCodes mode) in
+    record { place-in = leb-true (f .place) (lastMs (samplesOf mode) + 1) (and-left p d e); digits-in = ltb-true (f .digits) (frameCodes mode) (and-right p d e) }
+
+frame-is : (mode : Mode) (f : Frame) → FrameOf mode f → frameIn mode f ≡ true
+frame-is mode f h = rw (le-leb (f .place) (lastMs (samplesOf mode) + 1) (h .place-in), lt-ltb (f .digits) (frameCodes mode) (h .digits-in)) refl
+
+keys-in : (k : Keys) → keysIn k ≡ true → KeysIn k
+keys-in k e =
+    let a = leb (k .key) 16 in
+    let b = ltb (k .ms) 40 in
+    let c = leb (k .needed) 40 in
+    let ab = and-left (a && b) c e in
+    record { key-in = leb-true (k .key) 16 (and-left a b ab); ms-in = ltb-true (k .ms) 40 (and-right a b ab); needed-in = leb-true (k .needed) 40 (and-right (a && b) c e) }
+
+keys-are : (k : Keys) → KeysIn k → keysIn k ≡ true
+keys-are k h = rw (le-leb (k .key) 16 (h .key-in), lt-ltb (k .ms) 40 (h .ms-in), le-leb (k .needed) 40 (h .needed-in)) refl
+
+reader-in : (mode : Mode) (r : Reader) → readerIn mode r ≡ true → ReaderIn mode r
+reader-in mode r e =
+    let a = frameIn mode (r .frame) in
+    let b = keysIn (r .keys) in
+    let c = leb 1 (r .shift) in
+    let d = leb (r .shift) 2 in
+    let p = leb (r .prefix) 15 in
+    let abcd = and-left (a && b && c && d) p e in
+    let abc = and-left (a && b && c) d abcd in
+    let ab = and-left (a && b) c abc in
+    record {
+      frame-in = frame-in mode (r .frame) (and-left a b ab);
+      keys-in = keys-in (r .keys) (and-right a b ab);
+      shift-low = leb-true 1 (r .shift) (and-right (a && b) c abc);
+      shift-in = leb-true (r .shift) 2 (and-right (a && b && c) d abcd);
+      prefix-in = leb-true (r .prefix) 15 (and-right (a && b && c && d) p e);
+    }
+
+reader-is : (mode : Mode) (r : Reader) → ReaderIn mode r → readerIn mode r ≡ true
+reader-is mode r h =
+    rw (frame-is mode (r .frame) (h .frame-in), keys-are (r .keys) (h .keys-in), le-leb 1 (r .shift) (h .shift-low), le-leb (r .shift) 2 (h .shift-in), le-leb (r .prefix) 15 (h .prefix-in)) refl
+
+line-in : (mode : Mode) (l : OnLine) → lineIn mode l ≡ true → LineIn mode l
+line-in mode l e =
+    let a = leb (l .part) 2 in
+    let b = ltb (l .code) (codes (alphabetOf mode)) in
+    let c = leb (l .at) (length (partMs mode l)) in
+    let ab = and-left (a && b) c e in
+    record {
+      part-in = leb-true (l .part) 2 (and-left a b ab);
+      code-in = ltb-true (l .code) (codes (alphabetOf mode)) (and-right a b ab);
+      at-in = leb-true (l .at) (length (partMs mode l)) (and-right (a && b) c e);
+    }
+
+line-is : (mode : Mode) (l : OnLine) → LineIn mode l → lineIn mode l ≡ true
+line-is mode l h = rw (le-leb (l .part) 2 (h .part-in), lt-ltb (l .code) (codes (alphabetOf mode)) (h .code-in), le-leb (l .at) (length (partMs mode l)) (h .at-in)) refl
+
+sender-in : (s : Sender) → senderIn s ≡ true → SenderIn s
+sender-in s e =
+    let a = leb (s .shift) 2 in
+    let b = leb (s .count) 72 in
+    record { shift-in = leb-true (s .shift) 2 (and-left a b e); count-in = leb-true (s .count) 72 (and-right a b e) }
+
+sender-is : (s : Sender) → SenderIn s → senderIn s ≡ true
+sender-is s h = rw (le-leb (s .shift) 2 (h .shift-in), le-leb (s .count) 72 (h .count-in)) refl
+
+-- the facts that question 1 stands for
+pub record StationIn (s : Station) : Type 0 where
+  pub core-in : CoreIn (s .core)
+  pub mode-low : 1 ≤ s .core .mode
+  pub mode-in : s .core .mode ≤ 4
+  pub queue-in : queueIn (alphabetOfStation s) (queueOf s) ≡ true
+
+few-wait : (a : Alphabet) (q : Queue) → queueIn a q ≡ true → q .waiting ≤ 256
+unfolding queueIn
+few-wait a q e = leb-true (q .waiting) 256 (and-left (leb (q .waiting) 256) (allWait a (waitingOf q)) e)
+
+pub station-in : (s : Station) → inRange s ≡ true → StationIn s
+unfolding inRange coreIn
+station-in s e =
+    let c = s .core in
+    let b₀ = leb 1 (c .mode) in
+    let b₁ = leb (c .mode) 4 in
+    let b₂ = leb (c .silence) 300 in
+    let b₃ = leb (c .inhibited) 300 in
+    let b₄ = lineIn (modeIn c) (c .line) in
+    let b₅ = senderIn (c .sender) in
+    let b₆ = readerIn (modeIn c) (c .reader) in
+    let q = queueIn (alphabetOfStation s) (queueOf s) in
+    let t₆ = and-left (coreIn c) q e in
+    let t₅ = and-left (b₀ && b₁ && b₂ && b₃ && b₄ && b₅) b₆ t₆ in
+    let t₄ = and-left (b₀ && b₁ && b₂ && b₃ && b₄) b₅ t₅ in
+    let t₃ = and-left (b₀ && b₁ && b₂ && b₃) b₄ t₄ in
+    let t₂ = and-left (b₀ && b₁ && b₂) b₃ t₃ in
+    let t₁ = and-left (b₀ && b₁) b₂ t₂ in
+    let i = and-right (coreIn c) q e in
+    record {
+      core-in = record {
+        waiting-in = few-wait (alphabetOfStation s) (queueOf s) i;
+        silence-in = leb-true (c .silence) 300 (and-right (b₀ && b₁) b₂ t₂);
+        inhibited-in = leb-true (c .inhibited) 300 (and-right (b₀ && b₁ && b₂) b₃ t₃);
+        line-in = line-in (modeIn c) (c .line) (and-right (b₀ && b₁ && b₂ && b₃) b₄ t₄);
+        sender-in = sender-in (c .sender) (and-right (b₀ && b₁ && b₂ && b₃ && b₄) b₅ t₅);
+        reader-in = reader-in (modeIn c) (c .reader) (and-right (b₀ && b₁ && b₂ && b₃ && b₄ && b₅) b₆ t₆);
+      };
+      mode-low = leb-true 1 (c .mode) (and-left b₀ b₁ t₁);
+      mode-in = leb-true (c .mode) 4 (and-right b₀ b₁ t₁);
+      queue-in = i;
+    }
+
+pub station-is : (s : Station) → StationIn s → inRange s ≡ true
+unfolding inRange coreIn
+station-is s h =
+    let c = s .core in
+    let i = h .core-in in
+    rw (le-leb 1 (c .mode) (h .mode-low), le-leb (c .mode) 4 (h .mode-in), le-leb (c .silence) 300 (i .silence-in), le-leb (c .inhibited) 300 (i .inhibited-in), line-is (modeIn c) (c .line) (i .line-in), sender-is (c .sender) (i .sender-in), reader-is (modeIn c) (c .reader) (i .reader-in)) (h .queue-in)
+
+pub core-in : (s : Station) → inRange s ≡ true → CoreIn (s .core)
+core-in s e = station-in s e .core-in
+
+-- ---- the one in front
+
+pub char-in : (a : Alphabet) (c : ℕ) → waits a c ≡ true → c < 128
+char-in a c e = let h = leb-true c 0x7f (and-left (leb c 0x7f) (isCode (sends a c)) e) in omega arith
+
+first-waits : (a : Alphabet) (n : ℕ) (cs : List ℕ) → 1 ≤ n → 1 ≤ length cs → allWait a (take n cs) ≡ true → waits a (getD cs 0 0) ≡ true
+unfolding allWait
+first-waits a zero cs o l h = absurd (omega arith)
+first-waits a (suc n) [] o l h = absurd (omega arith)
+first-waits a (suc n) (c ∷ cs) o l h = and-left (waits a c) (allWait a (take n cs)) h
+
+module _ (s : Station) (full : length (s .chars) ≡ 256) (i : inRange s ≡ true) where
+  abbrev a : Alphabet
+  a = alphabetOfStation s
+
+  pub front-waits : 1 ≤ s .core .waiting → waits a (front s) ≡ true
+  unfolding queueIn
+  front-waits o = first-waits a (s .core .waiting) (s .chars) o (omega arith) (and-right (leb (s .core .waiting) 256) (allWait a (waitingOf (queueOf s))) (station-in s i .queue-in))
+
+  pub front-in : 1 ≤ s .core .waiting → front s < 128
+  front-in o = char-in a (front s) (front-waits o)
+
+-- ---- a fresh station
+
+pub fresh-in : (mode : ℕ) → isMode mode ≡ true → inRange (freshStation mode) ≡ true
+unfolding freshStation queueIn allWait
+fresh-in mode e =
+    let s = freshStation mode in
+    station-is s
+    (record {
+      core-in = record {
+        waiting-in = omega arith;
+        silence-in = omega arith;
+        inhibited-in = omega arith;
+        line-in = blank-in (modeOfStation s) 0 (omega arith);
+        sender-in = record { shift-in = omega arith; count-in = omega arith };
+        reader-in = line.fresh-in (modeOfStation s);
+      };
+      mode-low = leb-true 1 mode (and-left (leb 1 mode) (leb mode 4) e);
+      mode-in = leb-true mode 4 (and-right (leb 1 mode) (leb mode 4) e);
+      queue-in = refl;
+    })
+
+pub fresh-full : (mode : ℕ) → length (freshStation mode .chars) ≡ 256
+unfolding freshStation
+fresh-full mode = refl
+
+-- ---- a ms
+
+level-in : (mode : Mode) (x : ℕ) → x ≤ highestLevel mode → x ≤ 16
+level-in Baudot45 x h = omega arith
+level-in Baudot50 x h = omega arith
+level-in Dtmf x h = h
+level-in Edt x h = omega arith
+
+moved-full : (cs : List ℕ) → length cs ≡ 256 → length (moved cs) ≡ 256
+moved-full cs h = simp (length-append, length-drop) (omega arith)
+
+module _ (s : Station) (heard : ℕ) (full : length (s .chars) ≡ 256) where
+  pub ms-full : length (stationMs s heard .chars) ≡ 256
+  unfolding stationMs
+  ms-full = either (λ (cs : List ℕ). length cs ≡ 256) (settled (s .core) (front s) .takes) (moved (s .chars)) (s .chars) (moved-full (s .chars) full) full
+
+  queue-after : queueIn (alphabetOfStation s) (queueOf s) ≡ true → queueIn (alphabetOfStation s) (queueOf (stationMs s heard)) ≡ true
+  unfolding stationMs coreFrom taken
+  queue-after i = go (settled (s .core) (front s) .takes) refl
+    where
+      go : (b : Bool) → settled (s .core) (front s) .takes ≡ b → queueIn (alphabetOfStation s) (queue (cond b (s .core .waiting - 1) (s .core .waiting)) (charsAfter b (s .chars))) ≡ true
+      go true e = queue.taken-in (alphabetOfStation s) (queueOf s) full (takes-waiting (s .core) (front s) e) i
+      go false e = i
+
+  pub ms-in : inRange s ≡ true → heard ≤ highestLevel (modeOfStation s) → inRange (stationMs s heard) ≡ true
+  unfolding stationMs coreFrom
+  ms-in i h =
+      let t = station-in s i in
+      station-is (stationMs s heard)
+      (record {
+        core-in = core-after-in (s .core) (front s) heard (level-in (modeOfStation s) heard h) (front-in s full i) (t .core-in);
+        mode-low = t .mode-low;
+        mode-in = t .mode-in;
+        queue-in = queue-after (t .queue-in);
+      })
+
+-- the ms of a list
+pub after-full : (s : Station) (heard : List ℕ) → length (s .chars) ≡ 256 → length (stationAfter s heard .chars) ≡ 256
+unfolding stateAfter
+after-full s [] full = full
+after-full s (x ∷ xs) full = after-full (stationMs s x) xs (ms-full s x full)
+
+pub after-in : (s : Station) (heard : List ℕ) → length (s .chars) ≡ 256 → inRange s ≡ true → allAtMost (highestLevel (modeOfStation s)) heard ≡ true → inRange (stationAfter s heard) ≡ true
+unfolding stateAfter stationMs coreFrom
+after-in s [] full i h = i
+after-in s (x ∷ xs) full i h =
+    let most = highestLevel (modeOfStation s) in
+    after-in (stationMs s x) xs (ms-full s x full) (ms-in s x full i (at-most-head most x xs h)) (at-most-tail most x xs h)
+
+-- ---- an offer
+
+pub reader-offered-in : (mode : Mode) (a : Alphabet) (cs : List ℕ) (r : Reader) → ReaderIn mode r → ReaderIn mode (readerOffered a cs r)
+reader-offered-in mode Baudot cs r h =
+    either (ReaderIn mode) (hasDel cs) (reader (r .frame) (r .keys) 1 (r .prefix)) r
+    (record { frame-in = h .frame-in; keys-in = h .keys-in; shift-low = omega arith; shift-in = omega arith; prefix-in = h .prefix-in }) h
+reader-offered-in mode dtmf cs r h = h
+reader-offered-in mode edt cs r h = h
+
+-- what an offer that succeeds has
+pub record Accepted (s : Station) (text : List ℕ) : Type 0 where
+  pub in-range : inRange s ≡ true
+  pub chars : allChars text ≡ true
+  pub space : room (alphabetOfStation s) (queueOf s) text ≡ true
+
+module _ (s : Station) (text : List ℕ) where
+  pub accepted : offerAnswer s text ≡ 0 → Accepted s text
+  unfolding offerAnswer
+  accepted = go (inRange s) refl (allChars text) refl (room (alphabetOfStation s) (queueOf s) text) refl
+    where
+      go : (a : Bool) → inRange s ≡ a → (b : Bool) → allChars text ≡ b → (c : Bool) → room (alphabetOfStation s) (queueOf s) text ≡ c
+          → _≡_ {A = ℕ} (cond a (cond b (cond c 0 4) 3) 1) 0 → Accepted s text
+      go true e true f true g z = record { in-range = e; chars = f; space = g }
+      go true e true f false g z = absurd (omega arith)
+      go true e false f c g z = absurd (omega arith)
+      go false e b f c g z = absurd (omega arith)
+
+  pub offered-full : length (s .chars) ≡ 256 → length (offeredTo s text .chars) ≡ 256
+  unfolding offeredTo offered
+  offered-full full = length-sets (s .chars) (s .core .waiting) (waiters (alphabetOfStation s) text) ∙ full
+
+  pub offered-in : length (s .chars) ≡ 256 → offerAnswer s text ≡ 0 → inRange (offeredTo s text) ≡ true
+  unfolding offeredTo
+  offered-in full z =
+      let t = accepted z in
+      let i = station-in s (t .in-range) in
+      let c = i .core-in in
+      let a = alphabetOfStation s in
+      let q = queue.offered-in a (queueOf s) full text (i .queue-in) (t .space) in
+      station-is (offeredTo s text)
+      (record {
+        core-in = record {
+          waiting-in = few-wait a (offered a (queueOf s) text) q;
+          silence-in = c .silence-in;
+          inhibited-in = c .inhibited-in;
+          line-in = c .line-in;
+          sender-in = c .sender-in;
+          reader-in = reader-offered-in (modeOfStation s) a text (s .core .reader) (c .reader-in);
+        };
+        mode-low = i .mode-low;
+        mode-in = i .mode-in;
+        queue-in = q;
+      })
+
+-- ---- the entries: what they give is in range, if what they are given is
+
+pub open-in : (mode : ℕ) → inRange (openOf mode .station) ≡ true
+unfolding openOf
+open-in mode = go (isMode mode) refl
+  where
+    go : (b : Bool) → isMode mode ≡ b → inRange (cond b (answered (freshStation mode) 0) (answered (freshStation 1) 2) .station) ≡ true
+    go true e = fresh-in mode e
+    go false e = fresh-in 1 refl
+
+pub offer-in : (s : Station) (text : List ℕ) → length (s .chars) ≡ 256 → inRange s ≡ true → inRange (offerOf s text .station) ≡ true
+unfolding offerOf
+offer-in s text full i = go (eqb (offerAnswer s text) 0) refl
+  where
+    go : (b : Bool) → eqb (offerAnswer s text) 0 ≡ b → inRange (cond b (answered (offeredTo s text) 0) (answered s (offerAnswer s text)) .station) ≡ true
+    go true e = offered-in s text full (eqb-true (offerAnswer s text) 0 e)
+    go false e = i
+
+pub offer-full : (s : Station) (text : List ℕ) → length (s .chars) ≡ 256 → length (offerOf s text .station .chars) ≡ 256
+unfolding offerOf
+offer-full s text full =
+    either (λ (r : Answered). length (r .station .chars) ≡ 256) (eqb (offerAnswer s text) 0) (answered (offeredTo s text) 0) (answered s (offerAnswer s text)) (offered-full s text full) full
+
+-- what a run that succeeds has
+pub record Runs (s : Station) (heard : List ℕ) (sentRoom wordRoom : ℕ) : Type 0 where
+  pub in-range : inRange s ≡ true
+  pub few : leb (length heard) 4_096 ≡ true
+  pub levels : allAtMost (highestLevel (modeOfStation s)) heard ≡ true
+  pub sent-fits : leb (length heard) sentRoom ≡ true
+  pub words-fit : leb (length heard) wordRoom ≡ true
+
+module _ (s : Station) (heard : List ℕ) (sentRoom wordRoom : ℕ) where
+  pub runs : runAnswer s heard sentRoom wordRoom ≡ 0 → Runs s heard sentRoom wordRoom
+  unfolding runAnswer
+  runs =
+      go (inRange s) refl (leb (length heard) 4_096) refl (allAtMost (highestLevel (modeOfStation s)) heard) refl (leb (length heard) sentRoom) refl (leb (length heard) wordRoom) refl
+    where
+      go : (a : Bool) → inRange s ≡ a → (b : Bool) → leb (length heard) 4_096 ≡ b → (c : Bool) → allAtMost (highestLevel (modeOfStation s)) heard ≡ c
+          → (d : Bool) → leb (length heard) sentRoom ≡ d → (e : Bool) → leb (length heard) wordRoom ≡ e
+          → _≡_ {A = ℕ} (cond a (cond b (cond c (cond d (cond e 0 8) 7) 6) 5) 1) 0 → Runs s heard sentRoom wordRoom
+      go true p true q true r true t true u z = record { in-range = p; few = q; levels = r; sent-fits = t; words-fit = u }
+      go true p true q true r true t false u z = absurd (omega arith)
+      go true p true q true r false t e u z = absurd (omega arith)
+      go true p true q false r d t e u z = absurd (omega arith)
+      go true p false q c r d t e u z = absurd (omega arith)
+      go false p b q c r d t e u z = absurd (omega arith)
+
+  pub run-full : length (s .chars) ≡ 256 → length (ranOf s heard sentRoom wordRoom .station .chars) ≡ 256
+  unfolding ranOf
+  run-full full =
+      let answer = runAnswer s heard sentRoom wordRoom in
+      either (λ (r : Ran). length (r .station .chars) ≡ 256) (eqb answer 0) (ran (stationAfter s heard) 0 (length (wordsBy s heard))) (ran s answer 0) (after-full s heard full) full
+
+  pub run-in : length (s .chars) ≡ 256 → inRange s ≡ true → inRange (ranOf s heard sentRoom wordRoom .station) ≡ true
+  unfolding ranOf
+  run-in full i = go (eqb (runAnswer s heard sentRoom wordRoom) 0) refl
+    where
+      go : (b : Bool) → eqb (runAnswer s heard sentRoom wordRoom) 0 ≡ b
+          → inRange (cond b (ran (stationAfter s heard) 0 (length (wordsBy s heard))) (ran s (runAnswer s heard sentRoom wordRoom) 0) .station) ≡ true
+      go true e = after-in s heard full i (runs (eqb-true (runAnswer s heard sentRoom wordRoom) 0 e) .levels)
+      go false e = i

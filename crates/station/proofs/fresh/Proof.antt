@@ -1,0 +1,16 @@
+-- `fresh` meets its contract.
+use Rattle.station.specs.Station.{freshStation}
+use borrow.Author.Needs.{needs}
+use Rattle.station.proofs.fresh.Statement.{statement}
+use Rattle.station.proofs.fresh.Tie as tie
+use Rattle.line.proofs.Reader.fresh.Reads as fresh-reads
+
+fresh-requires : tie.Need-fresh-requires
+fresh-requires c κs = search needs
+
+returns : tie.Need-returns
+unfolding freshStation
+returns c = simp (c .fresh .ensures)
+
+pub fresh-spec : {M : Type 1} → statement M
+fresh-spec = tie.close (tie.spec fresh-requires returns)

@@ -1,0 +1,3 @@
+pub mod Station
+pub mod Range
+pub mod Entries
