@@ -5,15 +5,17 @@ use mathlib.Core.List.{List, [], _∷_}
 use Prim.Native.Nat.{ℕ, suc, _≤_, _<_}
 use native.Mathlib.Omega.{arith}
 use lib.Dec.{leb, ltb}
-use lib.ListN.{length, getD, drop}
+use lib.ListN.{length, drop}
 use lib.Seq.{drop-cons}
 use borrow.Author.Tests.{le-leb, ltb-true, ltb-false}
 use Rattle.alphabet.specs.declared.Mode.{Mode}
 use Rattle.alphabet.specs.Modes.{alphabetOf}
 use Rattle.line.specs.declared.Event.{Event}
 use Rattle.line.specs.declared.Reader.{Reader}
-use Rattle.reading.specs.Model.{Part, Sending, Model, Step, Offer, Ms, offered, levelOn, oneGone, isInhibited, did, msAfter, modelAfter, does, sentIn}
-use Rattle.reading.specs.BothModels.{readerOffered, readerMs, eventMs, stationReader, stationEvents}
+use Rattle.access.specs.Core.{readerMs, eventMs}
+use Rattle.station.specs.Station.{readerOffered}
+use Rattle.reading.specs.Model.{Part, Sending, Model, Step, Offer, Ms, offered, oneGone, isInhibited, did, msAfter, modelAfter, does, sentIn}
+use Rattle.reading.specs.BothModels.{stationReader, stationEvents}
 
 -- A station in numbers: `Takes s cs`, an offer succeeds; `Hears x`, a level of the mode. `Like s m r`: it is as the model m and
 -- the reader r say.
@@ -73,11 +75,7 @@ module _ (mode : Mode) (S : Type 0) (A : Attached mode S) where
 
 -- ---- numbers for what the model holds as a list or without end
 
--- the place p in the ms of a part: the level there, and one place on
-pub level-at : (part : Part) (ms : List ℕ) (p : ℕ) → p < length ms → levelOn (Sending part (drop p ms)) ≡ getD ms p 0
-unfolding levelOn
-level-at part ms p h = rw (drop-cons ms p 0 h) refl
-
+-- one place on in the ms of a part
 pub gone-at : (part : Part) (ms : List ℕ) (p : ℕ) → p < length ms → oneGone (Sending part (drop p ms)) ≡ Sending part (drop (suc p) ms)
 unfolding oneGone
 gone-at part ms p h = rw (drop-cons ms p 0 h) refl

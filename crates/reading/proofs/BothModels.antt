@@ -17,12 +17,15 @@ use Rattle.alphabet.specs.Modes.{alphabetOf}
 use Rattle.line.specs.declared.Event.{Event}
 use Rattle.line.specs.declared.Event.the-variants.{Nothing}
 use Rattle.line.specs.declared.Reader.{Reader}
-use Rattle.line.specs.Reader.{reader, fresh, hear, inhibited}
+use Rattle.line.specs.Reader.{fresh, hear, inhibited}
 use Rattle.line.specs.Range.{ReaderIn}
 use Rattle.line.proofs.Range.{fresh-in, hear-in, inhibited-in}
+use Rattle.access.specs.Core.{readerMs}
+use Rattle.station.specs.Station.{hasDel, readerOffered}
+use Rattle.station.proofs.Range.{reader-offered-in}
 use Rattle.reading.specs.Model.{Model, Step, Offer, Ms, freshModel, offered, isInhibited, did, msAfter, modelAfter, does, sentIn, heardIn}
 use Rattle.reading.specs.Reading.{NoBurst, eventsInhibited}
-use Rattle.reading.specs.BothModels.{hasDel, readerOffered, readerMs, stationReader, stationEvents, OffersNone, BothRead}
+use Rattle.reading.specs.BothModels.{stationReader, stationEvents, OffersNone, BothRead}
 use Rattle.reading.proofs.Core.{reads-after-idle}
 use Rattle.reading.proofs.Inhibited.{ms-less, inhibited-most, inhibited-less}
 
@@ -33,17 +36,10 @@ after-append mode (Offer cs ∷ xs) ys m = after-append mode xs ys (offered mode
 after-append mode (Ms x ∷ xs) ys m = after-append mode xs ys (msAfter mode m x)
 
 -- B's reader stays in range
-offered-in : (mode : Mode) (a : Alphabet) (cs : List ℕ) (r : Reader) → ReaderIn mode r → ReaderIn mode (readerOffered a cs r)
-offered-in mode Baudot cs r h =
-    either (ReaderIn mode) (hasDel cs) (reader (r .frame) (r .keys) 1 (r .prefix)) r
-    (record { frame-in = h .frame-in; keys-in = h .keys-in; shift-low = omega arith; shift-in = omega arith; prefix-in = h .prefix-in }) h
-offered-in mode Dtmf cs r h = h
-offered-in mode Edt cs r h = h
-
 pub station-in : (mode : Mode) (steps : List Step) (m : Model) (r : Reader) → allAtMost 16 (heardIn steps) ≡ true → ReaderIn mode r → ReaderIn mode (stationReader mode m r steps)
 unfolding stationReader heardIn
 station-in mode [] m r l h = h
-station-in mode (Offer cs ∷ steps) m r l h = station-in mode steps (offered mode cs m) (readerOffered (alphabetOf mode) cs r) l (offered-in mode (alphabetOf mode) cs r h)
+station-in mode (Offer cs ∷ steps) m r l h = station-in mode steps (offered mode cs m) (readerOffered (alphabetOf mode) cs r) l (reader-offered-in mode (alphabetOf mode) cs r h)
 station-in mode (Ms x ∷ steps) m r l h =
     station-in mode steps (msAfter mode m x) (readerMs mode (isInhibited mode m) r x) (at-most-tail 16 x (heardIn steps) l)
     (either (ReaderIn mode) (isInhibited mode m) (inhibited r) (hear mode r x .reader) (inhibited-in mode r h) (hear-in mode r x (at-most-head 16 x (heardIn steps) l) h))

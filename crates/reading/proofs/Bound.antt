@@ -10,7 +10,8 @@ use Rattle.alphabet.specs.Modes.{alphabetOf}
 use Rattle.baudot.specs.declared.Sender.{Sender}
 use Rattle.baudot.specs.Sending.{shiftCode}
 use Rattle.signal.specs.Signal.{signal}
-use Rattle.reading.specs.Model.{Part, OwnCode, OnLine, Idle, Sending, Model, Loaded, Did, Step, Offer, Ms, offered, shiftWanted, senderAfterOwn, load, oneGone, ended, did, msAfter, does, takenIn}
+use Rattle.access.specs.Line.{shiftWanted, senderAfterOwn}
+use Rattle.reading.specs.Model.{Part, OwnCode, OnLine, Idle, Sending, Model, Loaded, Did, Step, Offer, Ms, offered, load, oneGone, ended, did, msAfter, does, takenIn}
 use Rattle.reading.specs.Reading.{synchronizes, atOnce, endsSynchronizing, untilSynchronized, OffersChars}
 use Rattle.reading.proofs.Laws.{SenderIn, Room, LawsOf}
 use Rattle.reading.proofs.Views.{Opens, opens, goes-on, Begins, stays, shifts, owns, Closes, ends, keeps, closed-view, Fine, fine-offered, fine-ms, load-view}
@@ -78,7 +79,7 @@ module _ (mode : Mode) (L : LawsOf mode) (later : atOnce (alphabetOf mode) ≡ f
       length (takenIn (take (untilSynchronized mode ds) ds)) ≤ n
   unfolding does offered OffersChars takenIn untilSynchronized
   bound [] m n t f h = omega arith
-  bound (Offer cs ∷ steps) m n t f h = bound steps (offered mode cs m) n (t .1) (fine-offered mode cs m (t .0) f) h
+  bound (Offer cs ∷ steps) m n t f h = bound steps (offered mode cs m) n (t .1) (fine-offered mode cs m f) h
   bound (Ms x ∷ steps) m n t f h =
       let r = ms-room m x n f h in
       go (endsSynchronizing mode (did mode m .ended)) (r .0) (r .1) (λ e. bound steps (msAfter mode m x) (r .0) t (fine-ms mode L m x f) (r .2 e))

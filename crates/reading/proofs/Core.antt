@@ -147,7 +147,7 @@ module _ (mode : Mode) (L : LawsOf mode) where
   taken-chars : (steps : List Step) (m : Model) → OffersChars steps → Fine mode m → allChars (takenIn (does mode m steps)) ≡ true
   unfolding does did takenIn OffersChars allAtMost
   taken-chars [] m t f = refl
-  taken-chars (Offer cs ∷ steps) m t f = taken-chars steps (offered mode cs m) (t .1) (fine-offered mode cs m (t .0) f)
+  taken-chars (Offer cs ∷ steps) m t f = taken-chars steps (offered mode cs m) (t .1) (fine-offered mode cs m f)
   taken-chars (Ms x ∷ steps) m t f =
       most-append 0x7f (load mode m .taken) _ (begins-chars (load-view mode L m f .2)) (taken-chars steps (msAfter mode m x) t (fine-ms mode L m x f))
 

@@ -28,7 +28,9 @@ use Rattle.line.specs.Reader.{keyEvent, prefixAfter, hear, inhibited}
 use Rattle.line.specs.Range.{ReaderIn}
 use Rattle.line.specs.Words.{wordsOf}
 use Rattle.chain.specs.Examples.{chars}
-use Rattle.reading.specs.Model.{Did, sendable, offered, mayBegin, mayEnd, begun, codeBegins, nextCode, load, levelOn, oneGone, ended, closed, isInhibited, did, msAfter, modelAfter, does, takenIn}
+use Rattle.access.specs.Rules.{mayBegin, mayEnd}
+use Rattle.queue.specs.Queue.{waiters}
+use Rattle.reading.specs.Model.{Did, offered, begun, codeBegins, nextCode, load, levelOn, oneGone, ended, closed, isInhibited, did, msAfter, modelAfter, does, takenIn}
 use Rattle.reading.specs.Reading.{synchronizes, untilSynchronized, NoBurst, EndsIdle, OffersChars, eventsInhibited}
 use Rattle.reading.specs.Examples.{Holds, AllHold, fortyOf, baudot45, baudot50, dtmf, edt}
 
@@ -56,7 +58,7 @@ in-range mode r a b c d e f g = record {
 }
 
 baudot45-holds : Holds baudot45
-unfolding baudot45 chars noBurst sendable offered mayBegin mayEnd begun codeBegins nextCode load levelOn oneGone ended closed isInhibited did msAfter modelAfter does takenIn synchronizes untilSynchronized NoBurst EndsIdle OffersChars eventsInhibited hear inhibited wordsOf allAtMost sends reads signal lastMs placed sampleAt samplesOf sampled frameStep wanted sendBaudot readBaudot printedAt leftRows rightRows rows bits bitsFrom a1 a2 digits held baudotSignal baudotKinds
+unfolding baudot45 chars noBurst waiters offered mayBegin mayEnd begun codeBegins nextCode load levelOn oneGone ended closed isInhibited did msAfter modelAfter does takenIn synchronizes untilSynchronized NoBurst EndsIdle OffersChars eventsInhibited hear inhibited wordsOf allAtMost sends reads signal lastMs placed sampleAt samplesOf sampled frameStep wanted sendBaudot readBaudot printedAt leftRows rightRows rows bits bitsFrom a1 a2 digits held baudotSignal baudotKinds
 baudot45-holds = record {
   premises = record {
     chars = (refl, (refl, tt));
@@ -72,7 +74,7 @@ baudot45-holds = record {
 }
 
 baudot50-holds : Holds baudot50
-unfolding baudot50 chars noBurst sendable offered mayBegin mayEnd begun codeBegins nextCode load levelOn oneGone ended closed isInhibited did msAfter modelAfter does takenIn synchronizes untilSynchronized NoBurst EndsIdle OffersChars eventsInhibited hear inhibited wordsOf allAtMost sends reads signal lastMs placed sampleAt samplesOf sampled frameStep wanted sendBaudot readBaudot printedAt leftRows rightRows rows bits bitsFrom a1 a2 digits held baudotSignal baudotKinds
+unfolding baudot50 chars noBurst waiters offered mayBegin mayEnd begun codeBegins nextCode load levelOn oneGone ended closed isInhibited did msAfter modelAfter does takenIn synchronizes untilSynchronized NoBurst EndsIdle OffersChars eventsInhibited hear inhibited wordsOf allAtMost sends reads signal lastMs placed sampleAt samplesOf sampled frameStep wanted sendBaudot readBaudot printedAt leftRows rightRows rows bits bitsFrom a1 a2 digits held baudotSignal baudotKinds
 baudot50-holds = record {
   premises = record {
     chars = (refl, (refl, tt));
@@ -88,7 +90,7 @@ baudot50-holds = record {
 }
 
 dtmf-holds : Holds dtmf
-unfolding dtmf chars noBurst sendable offered mayBegin mayEnd begun codeBegins nextCode load levelOn oneGone ended closed isInhibited did msAfter modelAfter does takenIn synchronizes untilSynchronized NoBurst EndsIdle OffersChars eventsInhibited hear inhibited wordsOf allAtMost sends reads signal lastMs placed sampleAt samplesOf sampled frameStep keyStep keyEvent prefixAfter keys prefixes keysOf heldKeys withMark codeFrom marksThenDigit among notStruck remaining names firstSign named readIn readDtmf sendIn hasRow sendFrom sendDtmf leftRows rightRows rows b1 b2 printedAt
+unfolding dtmf chars noBurst waiters offered mayBegin mayEnd begun codeBegins nextCode load levelOn oneGone ended closed isInhibited did msAfter modelAfter does takenIn synchronizes untilSynchronized NoBurst EndsIdle OffersChars eventsInhibited hear inhibited wordsOf allAtMost sends reads signal lastMs placed sampleAt samplesOf sampled frameStep keyStep keyEvent prefixAfter keys prefixes keysOf heldKeys withMark codeFrom marksThenDigit among notStruck remaining names firstSign named readIn readDtmf sendIn hasRow sendFrom sendDtmf leftRows rightRows rows b1 b2 printedAt
 dtmf-holds = record {
   premises = record {
     chars = (refl, tt);
@@ -104,7 +106,7 @@ dtmf-holds = record {
 }
 
 edt-holds : Holds edt
-unfolding edt chars noBurst sendable offered mayBegin mayEnd begun codeBegins nextCode load levelOn oneGone ended closed isInhibited did msAfter modelAfter does takenIn synchronizes untilSynchronized NoBurst EndsIdle OffersChars eventsInhibited hear inhibited wordsOf allAtMost sends reads signal lastMs placed sampleAt samplesOf sampled frameStep edtSignal edtElements digits sum tabulate edtKinds
+unfolding edt chars noBurst waiters offered mayBegin mayEnd begun codeBegins nextCode load levelOn oneGone ended closed isInhibited did msAfter modelAfter does takenIn synchronizes untilSynchronized NoBurst EndsIdle OffersChars eventsInhibited hear inhibited wordsOf allAtMost sends reads signal lastMs placed sampleAt samplesOf sampled frameStep edtSignal edtElements digits sum tabulate edtKinds
 edt-holds = record {
   premises = record {
     chars = (refl, (refl, tt));

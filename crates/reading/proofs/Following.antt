@@ -86,7 +86,7 @@ module _ (mode : Mode) (L : LawsOf mode) where
       → words mode r (sentIn (does mode m steps)) ≡ words mode r (left (m .onLine)) ++ normals (takenIn (does mode m steps))
   unfolding modelAfter does offered OffersChars takenIn normalForm outputs wordsOf
   follows [] m r t f h z = rw z refl
-  follows (Offer cs ∷ steps) m r t f h z = follows steps (offered mode cs m) r (t .1) (fine-offered mode cs m (t .0) f) h z
+  follows (Offer cs ∷ steps) m r t f h z = follows steps (offered mode cs m) r (t .1) (fine-offered mode cs m f) h z
   follows (Ms x ∷ steps) m r t f h z =
       let g = followed m x r f h in
       let d = did mode m in
@@ -168,7 +168,7 @@ module _ (mode : Mode) (L : LawsOf mode) where
       wordsOf (drop k (events mode r (sentIn ds))) ≡ normals (takenIn (drop k ds))
   unfolding modelAfter does offered OffersChars takenIn normalForm outputs wordsOf untilSynchronized
   follows-after [] m r t f h z = refl
-  follows-after (Offer cs ∷ steps) m r t f h z = follows-after steps (offered mode cs m) r (t .1) (fine-offered mode cs m (t .0) f) h z
+  follows-after (Offer cs ∷ steps) m r t f h z = follows-after steps (offered mode cs m) r (t .1) (fine-offered mode cs m f) h z
   follows-after (Ms x ∷ steps) m r t f h z =
       let g = awaited m x r f h in
       let f′ = fine-ms mode L m x f in

@@ -42,7 +42,8 @@ use Rattle.chain.specs.Resting.{Settled}
 use Rattle.chain.proofs.Chain.{Gives, none, marks-pass}
 use Rattle.chain.proofs.BaudotChain.{codes-read, code-45, code-50, code-edt}
 use Rattle.chain.proofs.DtmfChain.{keys-given, shape-keys, row-shape, row-read}
-use Rattle.reading.specs.Model.{Preamble, ShiftCode, OwnCode, shiftWanted, senderAfterOwn}
+use Rattle.access.specs.Line.{shiftWanted, senderAfterOwn}
+use Rattle.reading.specs.Model.{Preamble, ShiftCode, OwnCode}
 use Rattle.reading.specs.Reading.{synchronizes, atOnce, mostBefore}
 
 -- a character that can wait: it sends a code

@@ -1,20 +1,28 @@
 -- What a ms of the send model can begin with and end in: views that every proof over the model goes by. When a burst begins
 -- and ends is left open in them.
 use mathlib.Core.Path.{_≡_, refl, sym, subst}
-use mathlib.Core.Bool.{Bool, true, false, cond}
+use mathlib.Core.Bool.{Bool, true, false, cond, true≢false}
 use mathlib.Core.List.{List, [], _∷_, _++_}
 use Prim.Native.Nat.{ℕ}
 use native.Mathlib.Omega.{arith}
-use lib.Dec.{eqb}
-use Rattle.lists.proofs.Lists.{at-most-head, at-most-tail}
+use lib.Dec.{eqb, leb}
+use lib.ListN.{length}
+use borrow.Author.Tests.{leb-true}
+use Rattle.lists.proofs.Lists.{and-left, and-right}
+use Rattle.alphabet.specs.declared.Alphabet.{Alphabet}
 use Rattle.alphabet.specs.declared.Mode.{Mode}
 use Rattle.alphabet.specs.declared.Sends.{Sends}
 use Rattle.alphabet.specs.declared.Sends.the-variants.{Nothing, Code}
 use Rattle.alphabet.specs.Modes.{alphabetOf}
-use Rattle.alphabet.specs.Normal.{sends, isCode, allChars}
+use Rattle.alphabet.specs.Normal.{sends}
 use Rattle.baudot.specs.declared.Sender.{Sender}
+use Rattle.alphabet.specs.Normal.{isCode}
 use Rattle.signal.specs.Signal.{preamble}
-use Rattle.reading.specs.Model.{Part, Preamble, OnLine, Idle, Sending, Model, Loaded, Step, Offer, Ms, sendable, offered, mayBegin, mayEnd, begun, shiftWanted, loaded, shiftBegins, ownBegins, codeBegins, nextCode, load, closed, msAfter, modelAfter}
+use Rattle.access.specs.Rules.{mayBegin, mayEnd}
+use Rattle.access.specs.Line.{shiftWanted}
+use Rattle.queue.specs.Queue.{waits, waiters, allWait}
+use Rattle.queue.proofs.Laws.{waiters-wait}
+use Rattle.reading.specs.Model.{Part, Preamble, OnLine, Idle, Sending, Model, Loaded, Step, Offer, Ms, offered, isCodePart, begun, loaded, shiftBegins, ownBegins, codeBegins, nextCode, load, closed, msAfter, modelAfter}
 use Rattle.reading.specs.Reading.{OffersChars}
 use Rattle.reading.proofs.Laws.{Waits, SenderIn, LawsOf}
 
@@ -71,7 +79,7 @@ pub closed-view : (waiting : List ℕ) (on : OnLine) → Closes on (closed waiti
 unfolding closed
 closed-view waiting Idle = keeps
 closed-view waiting (Sending part (x ∷ ms)) = keeps
-closed-view waiting (Sending part []) = go (mayEnd part waiting)
+closed-view waiting (Sending part []) = go (mayEnd (isCodePart part) (length waiting))
   where
     go : (b : Bool) → Closes (Sending part []) (cond b Idle (Sending part []))
     go true = ends
@@ -86,18 +94,23 @@ waits-append : (mode : Mode) (xs ys : List ℕ) → AllWait mode xs → AllWait 
 waits-append mode [] ys h k = k
 waits-append mode (x ∷ xs) ys h k = (h .0, waits-append mode xs ys (h .1) k)
 
-sendable-waits : (mode : Mode) (cs : List ℕ) → allChars cs ≡ true → AllWait mode (sendable mode cs)
-unfolding sendable
-sendable-waits mode [] t = tt
-sendable-waits mode (c ∷ cs) t = waits-append mode (cond (isCode (sends (alphabetOf mode) c)) (c ∷ []) []) (sendable mode cs) (go (sends (alphabetOf mode) c) refl) (sendable-waits mode cs (at-most-tail 0x7f c cs t))
+waiter : (a : Alphabet) (c : ℕ) → waits a c ≡ true → Waits a c
+waiter a c h = go (sends a c) refl (and-right (leb c 0x7f) (isCode (sends a c)) h)
   where
-    go : (x : Sends) → sends (alphabetOf mode) c ≡ x → AllWait mode (cond (isCode x) (c ∷ []) [])
-    go Nothing e = tt
-    go (Code own k) e = let h = at-most-head 0x7f c cs t in (record { char-in = omega arith; own = own; code = k; sent = e }, tt)
+    go : (x : Sends) → sends a c ≡ x → isCode x ≡ true → Waits a c
+    go Nothing e z = absurd (true≢false (sym z))
+    go (Code own k) e z = let l = leb-true c 0x7f (and-left (leb c 0x7f) (isCode (sends a c)) h) in record { char-in = omega arith; own = own; code = k; sent = e }
 
-pub fine-offered : (mode : Mode) (cs : List ℕ) (m : Model) → allChars cs ≡ true → Fine mode m → Fine mode (offered mode cs m)
+all-wait : (mode : Mode) (cs : List ℕ) → allWait (alphabetOf mode) cs ≡ true → AllWait mode cs
+unfolding allWait
+all-wait mode [] h = tt
+all-wait mode (c ∷ cs) h =
+    let a = alphabetOf mode in
+    (waiter a c (and-left (waits a c) (allWait a cs) h), all-wait mode cs (and-right (waits a c) (allWait a cs) h))
+
+pub fine-offered : (mode : Mode) (cs : List ℕ) (m : Model) → Fine mode m → Fine mode (offered mode cs m)
 unfolding offered
-fine-offered mode cs m t f = record { waits = waits-append mode (m .waiting) (sendable mode cs) (f .waits) (sendable-waits mode cs t); sender-in = f .sender-in }
+fine-offered mode cs m f = let a = alphabetOf mode in record { waits = waits-append mode (m .waiting) (waiters a cs) (f .waits) (all-wait mode (waiters a cs) (waiters-wait a cs)); sender-in = f .sender-in }
 
 module _ (mode : Mode) (L : LawsOf mode) where
   fine-begins : {waiting : List ℕ} {on : OnLine} {s : Sender} {l : Loaded} → Begins mode waiting on s l → AllWait mode waiting → SenderIn (alphabetOf mode) s → AllWait mode (l .waiting) × SenderIn (alphabetOf mode) (l .sender)
@@ -108,7 +121,7 @@ module _ (mode : Mode) (L : LawsOf mode) where
   pub load-view : (m : Model) → Fine mode m → (on : OnLine) × Opens mode (m .onLine) on × Begins mode (m .waiting) on (m .sender) (load mode m)
   unfolding load
   load-view m f =
-      let b = mayBegin (m .waiting) (m .silence) in
+      let b = mayBegin (length (m .waiting)) (m .silence) in
       (begun mode b (m .onLine), begun-view mode b (m .onLine), next-view mode (m .waiting) (begun mode b (m .onLine)) (m .sender) (f .waits))
 
   pub fine-ms : (m : Model) (x : ℕ) → Fine mode m → Fine mode (msAfter mode m x)
@@ -118,5 +131,5 @@ module _ (mode : Mode) (L : LawsOf mode) where
   pub fine-after : (steps : List Step) (m : Model) → OffersChars steps → Fine mode m → Fine mode (modelAfter mode m steps)
   unfolding modelAfter OffersChars
   fine-after [] m t f = f
-  fine-after (Offer cs ∷ steps) m t f = fine-after steps (offered mode cs m) (t .1) (fine-offered mode cs m (t .0) f)
+  fine-after (Offer cs ∷ steps) m t f = fine-after steps (offered mode cs m) (t .1) (fine-offered mode cs m f)
   fine-after (Ms x ∷ steps) m t f = fine-after steps (msAfter mode m x) t (fine-ms m x f)

@@ -1,40 +1,19 @@
 -- Demand 3 over the send models of both stations and B's reader, which is all that a station has besides.
-use Prim.Native.Nat.{ℕ}
 use mathlib.Core.Path.{_≡_}
 use mathlib.Core.Logic.{_⊎_}
-use mathlib.Core.Bool.{Bool, true, false, cond, _||_}
+use mathlib.Core.Bool.{true}
 use mathlib.Core.List.{List, [], _∷_, _++_}
-use lib.Dec.{eqb}
 use lib.ListN.{length, drop}
 use Rattle.lists.specs.Lists.{allAtMost}
-use Rattle.alphabet.specs.declared.Alphabet.{Alphabet}
-use Rattle.alphabet.specs.declared.Alphabet.the-variants.{Baudot, Dtmf, Edt}
 use Rattle.alphabet.specs.declared.Mode.{Mode}
-use Rattle.alphabet.specs.Baudot.{letters}
 use Rattle.alphabet.specs.Modes.{alphabetOf}
 use Rattle.line.specs.declared.Event.{Event}
-use Rattle.line.specs.declared.Event.the-variants.{Nothing}
 use Rattle.line.specs.declared.Reader.{Reader}
-use Rattle.line.specs.Reader.{reader, fresh, hear, inhibited}
+use Rattle.line.specs.Reader.{fresh}
+use Rattle.access.specs.Core.{readerMs, eventMs}
+use Rattle.station.specs.Station.{readerOffered}
 use Rattle.reading.specs.Model.{Model, Step, Offer, Ms, Did, freshModel, offered, isInhibited, msAfter, modelAfter, does, sentIn, heardIn}
 use Rattle.reading.specs.Reading.{NoBurst, OffersChars, Reads}
-
--- DEL, when offered, puts the station's own reader in letters; in Baudot alone.
-unfoldable pub hasDel : List ℕ → Bool
-hasDel [] = false
-hasDel (c ∷ cs) = eqb c 0x7f || hasDel cs
-
-abbrev pub readerOffered : Alphabet → List ℕ → Reader → Reader
-readerOffered Baudot cs r = cond (hasDel cs) (reader (r .frame) (r .keys) letters (r .prefix)) r
-readerOffered Dtmf cs r = r
-readerOffered Edt cs r = r
-
--- One ms of a station's reader, and what it ends in.
-abbrev pub readerMs : Mode → Bool → Reader → ℕ → Reader
-readerMs mode isInhibited r heard = cond isInhibited (inhibited r) (hear mode r heard .reader)
-
-abbrev pub eventMs : Mode → Bool → Reader → ℕ → Event
-eventMs mode isInhibited r heard = cond isInhibited Nothing (hear mode r heard .event)
 
 -- The reader of a station after some steps, and what each of their ms ends in.
 unfoldable pub stationReader : Mode → Model → Reader → List Step → Reader

@@ -1,4 +1,6 @@
 pub mod Model
 pub mod Reading
 pub mod BothModels
+pub mod Calls
+pub mod Demand3
 pub mod Examples

@@ -1,20 +1,22 @@
 -- Document 01, "Demand 3 is a single claim": the send model (there: a station's book), ms by ms. It is kept from offers that
 -- succeed and heard ms alone, and never looks at a station.
-use Prim.Native.Nat.{ℕ, suc, _-_}
-use mathlib.Core.Bool.{Bool, true, false, cond, not, _&&_, _||_}
+use Prim.Native.Nat.{ℕ, suc}
+use mathlib.Core.Bool.{Bool, true, false, cond}
 use mathlib.Core.List.{List, [], _∷_, _++_, map}
-use lib.Dec.{eqb, leb, ltb}
-use Rattle.alphabet.specs.declared.Alphabet.{Alphabet}
-use Rattle.alphabet.specs.declared.Alphabet.the-variants.{Baudot, Dtmf, Edt}
+use lib.Dec.{eqb}
+use lib.ListN.{length}
 use Rattle.alphabet.specs.declared.LineCode.{LineCode}
 use Rattle.alphabet.specs.declared.Mode.{Mode}
 use Rattle.alphabet.specs.declared.Sends.{Sends}
 use Rattle.alphabet.specs.declared.Sends.the-variants.{Nothing, Code}
 use Rattle.alphabet.specs.Modes.{alphabetOf}
-use Rattle.alphabet.specs.Normal.{sends, isCode}
+use Rattle.alphabet.specs.Normal.{sends}
 use Rattle.baudot.specs.declared.Sender.{Sender}
-use Rattle.baudot.specs.Sending.{fresh, wanted, shiftCode, shifted, counted}
+use Rattle.baudot.specs.Sending.{fresh, shiftCode, shifted}
 use Rattle.signal.specs.Signal.{quiet, signal, preamble}
+use Rattle.access.specs.Rules.{freeMs, mayBegin, mayEnd, isInhibited as inhibitedBy, inhibitedAfter, isSilent}
+use Rattle.access.specs.Line.{shiftWanted, senderAfterOwn}
+use Rattle.queue.specs.Queue.{waiters}
 
 -- What is on the line in a burst: the preamble (there: lead), a shift code (there: case code), a character's own code.
 pub data Part : Type 0 where
@@ -36,52 +38,28 @@ pub record Model : Type 0 where
 
 -- It starts with none waiting, no burst, a fresh sender and 300 ms of silence.
 abbrev pub freshModel : Model
-freshModel = record { waiting = []; onLine = Idle; sender = fresh; silence = 300; inhibitedMs = 0 }
+freshModel = record { waiting = []; onLine = Idle; sender = fresh; silence = freeMs; inhibitedMs = 0 }
 
--- Those of an offer that send something; the others never wait.
-unfoldable pub sendable : Mode → List ℕ → List ℕ
-sendable mode [] = []
-sendable mode (c ∷ cs) = cond (isCode (sends (alphabetOf mode) c)) (c ∷ []) [] ++ sendable mode cs
-
--- An offer that succeeds puts them behind those waiting.
+-- An offer that succeeds puts those that send something behind those waiting; the others never wait.
 unfoldable pub offered : Mode → List ℕ → Model → Model
 offered mode cs m = record {
-  waiting = m .waiting ++ sendable mode cs;
+  waiting = m .waiting ++ waiters (alphabetOf mode) cs;
   onLine = m .onLine;
   sender = m .sender;
   silence = m .silence;
   inhibitedMs = m .inhibitedMs;
 }
 
-abbrev pub noneWaits : List ℕ → Bool
-noneWaits [] = true
-noneWaits (c ∷ cs) = false
-
--- A burst may begin: characters wait, and there were at least 300 ms of silence.
-unfoldable pub mayBegin : List ℕ → ℕ → Bool
-mayBegin waiting silence = not (noneWaits waiting) && leb 300 silence
-
--- A burst may end with the last ms of a part: a code, and none waits.
-unfoldable pub mayEnd : Part → List ℕ → Bool
-mayEnd Preamble waiting = false
-mayEnd ShiftCode waiting = noneWaits waiting
-mayEnd OwnCode waiting = noneWaits waiting
+-- The preamble is no code.
+abbrev pub isCodePart : Part → Bool
+isCodePart Preamble = false
+isCodePart ShiftCode = true
+isCodePart OwnCode = true
 
 -- In no burst, one begins with its preamble if it may.
 unfoldable pub begun : Mode → Bool → OnLine → OnLine
 begun mode may Idle = cond may (Sending Preamble (preamble mode)) Idle
 begun mode may (Sending part left) = Sending part left
-
--- The shift code that the sending rule wants, 0 for none, and the sender after an own code. DTMF and EDT have no shifts.
-abbrev pub shiftWanted : Alphabet → Sender → ℕ → ℕ
-shiftWanted Baudot s own = wanted s own
-shiftWanted Dtmf s own = 0
-shiftWanted Edt s own = 0
-
-abbrev pub senderAfterOwn : Alphabet → Sender → Sender
-senderAfterOwn Baudot s = counted s
-senderAfterOwn Dtmf s = s
-senderAfterOwn Edt s = s
 
 -- What a ms starts with: those waiting, what is on the line, the sender, and what is taken.
 pub record Loaded : Type 0 where
@@ -117,7 +95,7 @@ nextCode mode (c ∷ cs) (Sending part []) s = codeBegins mode c cs s (sends (al
 
 -- Within each ms, sending is settled first.
 unfoldable pub load : Mode → Model → Loaded
-load mode m = nextCode mode (m .waiting) (begun mode (mayBegin (m .waiting) (m .silence)) (m .onLine)) (m .sender)
+load mode m = nextCode mode (m .waiting) (begun mode (mayBegin (length (m .waiting)) (m .silence)) (m .onLine)) (m .sender)
 
 -- The level that is sent: quiet outside a burst.
 unfoldable pub levelOn : OnLine → ℕ
@@ -144,19 +122,16 @@ ended (Sending part (x ∷ left)) = []
 -- If the last ms of a part has come, the burst ends with that ms if it may.
 unfoldable pub closed : List ℕ → OnLine → OnLine
 closed waiting Idle = Idle
-closed waiting (Sending part []) = cond (mayEnd part waiting) Idle (Sending part [])
+closed waiting (Sending part []) = cond (mayEnd (isCodePart part) (length waiting)) Idle (Sending part [])
 closed waiting (Sending part (x ∷ left)) = Sending part (x ∷ left)
 
--- The receiver is inhibited in a burst and for 300 ms after it.
+-- The receiver is inhibited in the ms.
 unfoldable pub isInhibited : Mode → Model → Bool
-isInhibited mode m = inBurst (load mode m .onLine) || ltb 0 (m .inhibitedMs)
+isInhibited mode m = inhibitedBy (inBurst (load mode m .onLine)) (m .inhibitedMs)
 
-abbrev pub inhibitedAfter : Bool → ℕ → ℕ
-inhibitedAfter burst n = cond burst 300 (n - 1)
-
--- Silence grows by a ms that is heard as 0 or is inhibited; otherwise it is 0 again.
-abbrev pub silenceAfter : Bool → ℕ → ℕ → ℕ
-silenceAfter without heard silence = cond (without || eqb heard quiet) (suc silence) 0
+-- Silence grows by a ms without signal; otherwise it is 0 again.
+abbrev pub silenceAfter : Bool → ℕ → ℕ
+silenceAfter silent silence = cond silent (suc silence) 0
 
 -- What a ms does: the level sent, whether in a burst, the character taken, the part that ended with it.
 pub record Did : Type 0 where
@@ -179,7 +154,7 @@ msAfter mode m heard =
       waiting = l .waiting;
       onLine = closed (l .waiting) (oneGone (l .onLine));
       sender = l .sender;
-      silence = silenceAfter (isInhibited mode m) heard (m .silence);
+      silence = silenceAfter (isSilent (isInhibited mode m) heard) (m .silence);
       inhibitedMs = inhibitedAfter burst (m .inhibitedMs);
     }
 

@@ -1,0 +1,206 @@
+-- The station in numbers goes with its model and reader.
+use mathlib.Core.Path.{_≡_, _∙_, refl, sym, ap, subst}
+use mathlib.Core.Bool.{Bool, true, false, cond, _&&_}
+use mathlib.Core.List.{List, [], _∷_, _++_}
+use Prim.Native.Nat.{ℕ, zero, suc, _≤_}
+use native.Mathlib.Omega.{arith}
+use native.Mathlib.Numerals.{add-one}
+use lib.Dec.{leb, ltb}
+use lib.ListN.{length, getD, take, drop}
+use lib.Seq.{length-take-le}
+use Rattle.lists.proofs.Lists.{and-right}
+use Rattle.alphabet.specs.declared.Mode.{Mode}
+use Rattle.alphabet.specs.declared.Mode.the-variants.{Baudot45, Baudot50, Dtmf, Edt}
+use Rattle.alphabet.specs.Modes.{modeNumber, modeOf, alphabetOf}
+use Rattle.alphabet.specs.Normal.{sends}
+use Rattle.alphabet.specs.Normal.{isCode}
+use Rattle.line.specs.declared.Reader.{Reader}
+use Rattle.line.specs.Reader.{fresh}
+use Rattle.access.specs.declared.Loaded.{Loaded as LoadedLine}
+use Rattle.access.specs.Rules.{mayBegin, inhibitedAfter, isSilent, isInhibited as inhibitedBy}
+use Rattle.access.specs.Line as line
+use Rattle.access.specs.Core as core
+use Rattle.access.specs.Core.{readerMs, eventMs, settled, coreFrom}
+use Rattle.queue.specs.Queue.{waits, waiters, waitingOf, taken}
+use Rattle.queue.proofs.Laws.{waiting-offered, waiting-taken}
+use Rattle.station.specs.declared.Station.{Station}
+use Rattle.station.specs.Station.{modeOfStation, alphabetOfStation, queueOf, freshStation, readerOffered, offeredTo, front, charsAfter, stationMs, sentMs, eventOf}
+use Rattle.station.specs.Range.{inRange}
+use Rattle.station.specs.Entries.{isMode, offerAnswer, highestLevel}
+use Rattle.station.proofs.Range.{core-in, front-waits, fresh-in, fresh-full, ms-in, ms-full, accepted, offered-in, offered-full}
+use Rattle.access.proofs.Range.{takes-waiting}
+use Rattle.reading.specs.Model.{Model, Loaded, freshModel, offered, begun, nextCode, load, inBurst, oneGone, closed, isInhibited, silenceAfter, did, msAfter}
+use Rattle.reading.proofs.Attach.{Attached, Capped, same, capped-may, capped-next}
+use Rattle.reading.proofs.Stands.{Stands, rests, LoadedLike, Heads, none, some, burst-same, level-same, gone-stands, closed-stands, begun-stands, next-like}
+
+-- the station is as the model and the reader say
+pub record Like (mode : Mode) (s : Station) (m : Model) (r : Reader) : Type 0 where
+  pub in-range : inRange s ≡ true
+  pub full : length (s .chars) ≡ 256
+  pub mode-is : s .core .mode ≡ modeNumber mode
+  pub waiting-is : m .waiting ≡ waitingOf (queueOf s)
+  pub line-is : Stands mode (s .core .line) (m .onLine)
+  pub sender-is : s .core .sender ≡ m .sender
+  pub silence-is : Capped (m .silence) (s .core .silence)
+  pub inhibited-is : s .core .inhibited ≡ m .inhibitedMs
+  pub reader-is : s .core .reader ≡ r
+
+mode-of : (mode : Mode) → modeOf (modeNumber mode) ≡ mode
+mode-of Baudot45 = refl
+mode-of Baudot50 = refl
+mode-of Dtmf = refl
+mode-of Edt = refl
+
+number-in : (mode : Mode) → isMode (modeNumber mode) ≡ true
+number-in Baudot45 = refl
+number-in Baudot50 = refl
+number-in Dtmf = refl
+number-in Edt = refl
+
+-- those that wait are as many as the number says
+count-is : (s : Station) → length (s .chars) ≡ 256 → inRange s ≡ true → length (waitingOf (queueOf s)) ≡ s .core .waiting
+count-is s full i = let h = core-in s i .waiting-in in length-take-le (s .core .waiting) (s .chars) (omega arith)
+
+heads : (mode : Mode) (n : ℕ) (cs : List ℕ) → n ≤ length cs → (1 ≤ n → isCode (sends (alphabetOf mode) (getD cs 0 0)) ≡ true) → Heads mode n (getD cs 0 0) (take n cs)
+heads mode zero cs h w = none (getD cs 0 0)
+heads mode (suc n) [] h w = absurd (omega arith)
+heads mode (suc n) (c ∷ cs) h w =
+    let e = length-take-le n cs (omega arith) in
+    subst (λ (k : ℕ). Heads mode (suc k) c (c ∷ take n cs)) e (some c (take n cs) (w (omega arith)))
+
+capped-after : (silent : Bool) {n s : ℕ} → Capped n s → Capped (silenceAfter silent n) (core.silenceAfter silent s)
+unfolding core.silenceAfter
+capped-after true c = rw add-one (capped-next c)
+capped-after false c = same 0 (omega arith)
+
+module _ (mode : Mode) (s : Station) (m : Model) (r : Reader) (h : Like mode s m r) where
+  mode-same : modeOfStation s ≡ mode
+  mode-same = ap modeOf (h .mode-is) ∙ mode-of mode
+
+  count-same : s .core .waiting ≡ length (m .waiting)
+  count-same = sym (count-is s (h .full) (h .in-range)) ∙ ap length (sym (h .waiting-is))
+
+  may-same : mayBegin (s .core .waiting) (s .core .silence) ≡ mayBegin (length (m .waiting)) (m .silence)
+  unfolding mayBegin
+  may-same = λ i. ltb 0 (count-same i) && sym (capped-may (h .silence-is)) i
+
+  heads-are : Heads mode (s .core .waiting) (front s) (m .waiting)
+  heads-are =
+      let c = core-in s (h .in-range) .waiting-in in
+      let f = h .full in
+      let w : 1 ≤ s .core .waiting → waits (alphabetOf mode) (front s) ≡ true = λ o. subst (λ (d : Mode). waits (alphabetOf d) (front s) ≡ true) mode-same (front-waits s f (h .in-range) o) in
+      subst (Heads mode (s .core .waiting) (front s)) (sym (h .waiting-is))
+      (heads mode (s .core .waiting) (s .chars) (omega arith) (λ o. and-right (leb (front s) 0x7f) (isCode (sends (alphabetOf mode) (front s))) (w o)))
+
+  -- sending is settled
+  abbrev x : LoadedLine
+  x = settled (s .core) (front s)
+
+  abbrev y : Loaded
+  y = load mode m
+
+  settled-like : LoadedLike mode (m .waiting) x y
+  unfolding settled load
+  settled-like =
+      let c = s .core in
+      let l = line.begun (mayBegin (c .waiting) (c .silence)) (c .line) in
+      let in-mode : line.nextCode mode (c .waiting) (front s) l (c .sender) ≡ x = sym (ap (λ (d : Mode). line.nextCode d (c .waiting) (front s) l (c .sender)) mode-same) in
+      let in-model : nextCode mode (m .waiting) (begun mode (mayBegin (c .waiting) (c .silence)) (m .onLine)) (c .sender) ≡ y = λ i. nextCode mode (m .waiting) (begun mode (may-same i) (m .onLine)) (h .sender-is i) in
+      subst (λ (z : LoadedLine). LoadedLike mode (m .waiting) z y) in-mode
+      (subst (LoadedLike mode (m .waiting) (line.nextCode mode (c .waiting) (front s) l (c .sender))) in-model
+      (next-like mode (c .sender) heads-are (begun-stands mode (mayBegin (c .waiting) (c .silence)) (h .line-is))))
+
+  burst-is : line.inBurst (x .line) ≡ inBurst (y .onLine)
+  burst-is = burst-same mode (settled-like .line-is)
+
+  inhibited-same : core.inhibitedIn (s .core) (front s) ≡ isInhibited mode m
+  unfolding isInhibited
+  inhibited-same = λ i. inhibitedBy (burst-is i) (h .inhibited-is i)
+
+  pub sent-same : sentMs s 0 ≡ did mode m .sent
+  unfolding sentMs did
+  sent-same = ap (λ (d : Mode). line.levelOn d (x .line)) mode-same ∙ level-same mode (settled-like .line-is)
+
+  module _ (heard : ℕ) where
+    pub event-same : eventOf s heard ≡ eventMs mode (isInhibited mode m) r heard
+    unfolding eventOf
+    event-same = λ i. eventMs (mode-same i) (inhibited-same i) (h .reader-is i) heard
+
+    -- those that wait after the ms
+    waiting-after : y .waiting ≡ waitingOf (queueOf (stationMs s heard))
+    unfolding stationMs coreFrom taken
+    waiting-after = settled-like .waiting-is ∙ go (x .takes) refl
+      where
+        go : (b : Bool) → x .takes ≡ b → cond b (drop 1 (m .waiting)) (m .waiting) ≡ take (core.waitingAfter b (s .core .waiting)) (charsAfter b (s .chars))
+        go true e =
+            let o = takes-waiting (s .core) (front s) e in
+            ap (drop 1) (h .waiting-is) ∙ sym (waiting-taken (alphabetOfStation s) (queueOf s) (h .full) o (core-in s (h .in-range) .waiting-in))
+        go false e = h .waiting-is
+
+    pub ms-like : heard ≤ highestLevel mode → Like mode (stationMs s heard) (msAfter mode m heard) (readerMs mode (isInhibited mode m) r heard)
+    unfolding stationMs coreFrom msAfter
+    ms-like l =
+        let i = ms-in s heard (h .full) (h .in-range) (subst (λ (d : Mode). heard ≤ highestLevel d) (sym mode-same) l) in
+        let f = ms-full s heard (h .full) in
+        let n : core.waitingAfter (x .takes) (s .core .waiting) ≡ length (y .waiting) = sym (count-is (stationMs s heard) f i) ∙ ap length (sym waiting-after) in
+        record {
+          in-range = i;
+          full = f;
+          mode-is = h .mode-is;
+          waiting-is = waiting-after;
+          line-is =
+              subst (λ (d : Mode). Stands mode (line.closed d (core.waitingAfter (x .takes) (s .core .waiting)) (line.oneGone d (x .line))) (closed (y .waiting) (oneGone (y .onLine)))) (sym mode-same)
+              (subst (λ (k : ℕ). Stands mode (line.closed mode k (line.oneGone mode (x .line))) (closed (y .waiting) (oneGone (y .onLine)))) (sym n)
+              (closed-stands mode (y .waiting) (gone-stands mode (settled-like .line-is))));
+          sender-is = settled-like .sender-is;
+          silence-is = subst (λ (b : Bool). Capped (silenceAfter (isSilent (isInhibited mode m) heard) (m .silence)) (core.silenceAfter (isSilent b heard) (s .core .silence))) (sym inhibited-same) (capped-after (isSilent (isInhibited mode m) heard) (h .silence-is));
+          inhibited-is = λ j. inhibitedAfter (burst-is j) (h .inhibited-is j);
+          reader-is = λ j. readerMs (mode-same j) (inhibited-same j) (h .reader-is j) heard;
+        }
+
+  -- an offer that succeeds
+  pub offer-like : (cs : List ℕ) → offerAnswer s cs ≡ 0 → Like mode (offeredTo s cs) (offered mode cs m) (readerOffered (alphabetOf mode) cs r)
+  unfolding offeredTo offered
+  offer-like cs z =
+      let t = accepted s cs z in
+      let w = waiting-offered (alphabetOfStation s) (queueOf s) (h .full) cs (t .space) in
+      record {
+        in-range = offered-in s cs (h .full) z;
+        full = offered-full s cs (h .full);
+        mode-is = h .mode-is;
+        waiting-is = (λ i. h .waiting-is i ++ waiters (alphabetOf (sym mode-same i)) cs) ∙ sym w;
+        line-is = h .line-is;
+        sender-is = h .sender-is;
+        silence-is = h .silence-is;
+        inhibited-is = h .inhibited-is;
+        reader-is = λ i. readerOffered (alphabetOf (mode-same i)) cs (h .reader-is i);
+      }
+
+pub fresh-like : (mode : Mode) → Like mode (freshStation (modeNumber mode)) freshModel fresh
+unfolding freshStation
+fresh-like mode = record {
+  in-range = fresh-in (modeNumber mode) (number-in mode);
+  full = fresh-full (modeNumber mode);
+  mode-is = refl;
+  waiting-is = refl;
+  line-is = rests;
+  sender-is = refl;
+  silence-is = same 300 (omega arith);
+  inhibited-is = refl;
+  reader-is = refl;
+}
+
+abbrev pub attached : (mode : Mode) → Attached mode Station
+attached mode = record {
+  offer = offeredTo;
+  ms = stationMs;
+  sent = λ s. sentMs s 0;
+  event = eventOf;
+  Takes = λ s cs. offerAnswer s cs ≡ 0;
+  Hears = λ x. x ≤ highestLevel mode;
+  Like = Like mode;
+  offer-like = λ s m r cs z h. offer-like mode s m r h cs z;
+  ms-like = λ s m r x l h. ms-like mode s m r h x l;
+  sent-is = λ s m r h. sent-same mode s m r h;
+  event-is = λ s m r x l h. event-same mode s m r h x;
+}

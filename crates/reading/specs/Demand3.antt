@@ -1,0 +1,135 @@
+-- DEMAND 3: what station B reads of what station A sends, over whole lists of calls. Document 01's word for the idle period is
+-- a rest, for the synchronizing code the settling code, for the send model a station's book.
+use Prim.Native.Nat.{ℕ, _+_, _-_, _≤_, _<_}
+use mathlib.Core.Path.{_≡_}
+use mathlib.Core.Bool.{true}
+use mathlib.Core.List.{List, [], _∷_, _++_, map}
+use lib.ListN.{length, take, drop}
+use Rattle.alphabet.specs.declared.Alphabet.{Alphabet}
+use Rattle.alphabet.specs.declared.Mode.{Mode}
+use Rattle.alphabet.specs.Modes.{modeOf, alphabetOf}
+use Rattle.alphabet.specs.Normal.{normalForm, allChars}
+use Rattle.line.specs.Words.{characterWord}
+use Rattle.reading.specs.Model.{Step, Did, freshModel, modelAfter, does, sentIn, takenIn, heardIn}
+use Rattle.reading.specs.Reading.{synchronizedAfter, mostBefore, NoBurst, EndsIdle}
+use Rattle.reading.specs.BothModels.{OffersNone}
+use Rattle.reading.specs.Calls.{Call, RunCall, opened, succeeds, leftBy, sentBy, wordsBy, stepsBy, msIn, upTo}
+
+-- "For every list of offers and runs on station A and every such list on station B." "One clock numbers the ms of both."
+pub record Lists : Type 0 where
+  -- "both stations fresh and of one mode": the number that both openings are given (one that is no mode's opens mode 1)
+  pub mode : ℕ
+  pub callsA : List Call
+  pub callsB : List Call
+  -- "Either may be opened at any ms": the numbers of the first ms of each
+  pub openA : ℕ
+  pub openB : ℕ
+  -- the first ms of the idle period, and the ms asked about
+  pub start : ℕ
+  pub asked : ℕ
+
+abbrev pub theMode : Lists → Mode
+theMode d = modeOf (d .mode)
+
+abbrev pub theAlphabet : Lists → Alphabet
+theAlphabet d = alphabetOf (theMode d)
+
+-- "A station's book is kept from its calls alone": the steps of each model.
+abbrev pub stepsA : Lists → List Step
+stepsA d = stepsBy (opened (d .mode)) (d .callsA)
+
+abbrev pub stepsB : Lists → List Step
+stepsB d = stepsBy (opened (d .mode)) (d .callsB)
+
+-- What A's model does in each of its ms; the sent ms that A's calls hand out; the ms that B's successful runs hear.
+abbrev pub didsA : Lists → List Did
+didsA d = does (theMode d) freshModel (stepsA d)
+
+abbrev pub sentA : Lists → List ℕ
+sentA d = sentBy (opened (d .mode)) (d .callsA)
+
+abbrev pub heardB : Lists → List ℕ
+heardB d = heardIn (stepsB d)
+
+-- "the words up to a ms inside a run are those up to a cut after it": the words of B's ms before the ms t of the clock.
+abbrev pub wordsBefore : Lists → ℕ → List ℕ
+wordsBefore d t = wordsBy (opened (d .mode)) (upTo (opened (d .mode)) (d .callsB) (t - d .openB))
+
+-- Of a list that has an entry for each ms from `first` on: the entries of the ms from `from` on and before `to`.
+abbrev pub between : {X : Type 0} → ℕ → ℕ → ℕ → List X → List X
+between first from to xs = take (to - from) (drop (from - first) xs)
+
+-- "The premises".
+pub record Premises (d : Lists) : Type 0 where
+  -- "every later millisecond that both have run": the ms asked about
+  pub later : d .start + 300 ≤ d .asked
+  pub run-A : d .asked < d .openA + msIn (stepsA d)
+  pub run-B : d .asked < d .openB + msIn (stepsB d)
+  -- "A rest is 300 ms in a row in which a station is in no burst."
+  pub opened-A : d .openA ≤ d .start
+  pub idle-A : NoBurst (between (d .openA) (d .start) (d .start + 300) (didsA d))
+  -- "B at the latest at the first of the 40"
+  pub opened-B : d .openB ≤ d .start + 260
+  -- B's steps before the idle period, from its start up to the ms asked about, and after that
+  pub past : List Step
+  pub since : List Step
+  pub beyond : List Step
+  pub cut : stepsB d ≡ past ++ (since ++ beyond)
+  pub past-ms : msIn past ≡ d .start - d .openB
+  pub since-ms : msIn (past ++ since) ≡ d .asked + 1 - d .openB
+  -- "if the rest began earlier, B's premises hold from its opening"
+  pub from-opening : d .start < d .openB → past ≡ []
+  -- "from the start of the rest B has nothing waiting, is in no burst, and no offer to it that holds a character succeeds"
+  pub none-waits : modelAfter (theMode d) freshModel past .waiting ≡ []
+  pub idle-B : NoBurst (does (theMode d) (modelAfter (theMode d) freshModel past) since)
+  pub offers-none : OffersNone since
+  -- "from those 40 ms on B hears exactly what A sends", "up to the one asked about"
+  pub hears : between (d .openB) (d .start + 260) (d .asked + 1) (heardB d) ≡ between (d .openA) (d .start + 260) (d .asked + 1) (sentA d)
+
+-- What A's model does after the idle period, up to the ms asked about.
+abbrev pub followsA : Lists → List Did
+followsA d = between (d .openA) (d .start + 300) (d .asked + 1) (didsA d)
+
+-- How many of these ms there are up to the synchronizing code's last, "or so far while no settling code has ended".
+abbrev pub synchronized : Lists → ℕ
+synchronized d = synchronizedAfter (theMode d) (followsA d)
+
+-- The words of kind 0 "for the normal form of the characters that A's book has by then taken after it, in the order taken".
+abbrev pub wordsDue : Lists → List ℕ
+wordsDue d = map characterWord (normalForm (theAlphabet d) (takenIn (drop (synchronized d) (followsA d))))
+
+pub record Conclusion (d : Lists) : Type 0 where
+  -- "At most 72 characters in Baudot, one in DTMF and none in EDT precede that point", at every later ms
+  pub before : length (takenIn (take (synchronized d) (followsA d))) ≤ mostBefore (theAlphabet d)
+  -- "at every later millisecond .. at which A is in no burst, the words B has handed out after the settling code are exactly" these
+  pub text : EndsIdle (followsA d) → wordsBefore d (d .asked + 1) ≡ wordsBefore d (d .start + 300 + synchronized d) ++ wordsDue d
+  -- "with no fault": each is a character
+  pub no-fault : EndsIdle (followsA d) → allChars (wordsDue d) ≡ true
+
+-- "it is part of the claim that each sent ms is the line signal of the book's lead or code, and quiet outside a burst": for each
+-- station by itself, whatever it is called with.
+abbrev pub SendsAsModel : Type 0
+SendsAsModel = (mode : ℕ) (calls : List Call)
+    → sentBy (opened mode) calls ≡ sentIn (does (modeOf mode) freshModel (stepsBy (opened mode) calls))
+
+-- "A list's words are .. the same if such a run is cut in two", and so are its sent ms and its model's steps: a run that succeeds
+-- after some calls, and in its place the run on its first ms and the run on the others, with slices that are long enough.
+pub record Same (cs ds : List Call) (mode : ℕ) : Type 0 where
+  pub same-words : wordsBy (opened mode) cs ≡ wordsBy (opened mode) ds
+  pub same-sent : sentBy (opened mode) cs ≡ sentBy (opened mode) ds
+  pub same-steps : stepsBy (opened mode) cs ≡ stepsBy (opened mode) ds
+
+abbrev pub CutInTwo : Type 0
+CutInTwo = (mode : ℕ) (past next : List Call) (xs ys sent words sent′ words′ : List ℕ)
+    → succeeds (leftBy (opened mode) past) (RunCall (xs ++ ys) sent words) ≡ true → length ys ≤ length sent′ → length ys ≤ length words′
+    → Same (past ++ (RunCall (xs ++ ys) sent words ∷ next)) (past ++ (RunCall xs sent words ∷ RunCall ys sent′ words′ ∷ next)) mode
+
+-- "In every mode, taking the normal form twice equals taking it once."
+abbrev pub NormalTwice : Type 0
+NormalTwice = (a : Alphabet) (text : List ℕ) → allChars text ≡ true → normalForm a (normalForm a text) ≡ normalForm a text
+
+pub record Demand3 : Type 0 where
+  pub sends : SendsAsModel
+  pub reads : (d : Lists) → Premises d → Conclusion d
+  pub cut-in-two : CutInTwo
+  pub normal-twice : NormalTwice
