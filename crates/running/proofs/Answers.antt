@@ -1,0 +1,62 @@
+-- What a run answers: what a refusal leaves, and what success gives.
+use mathlib.Core.Path.{_≡_, _∙_, refl, sym, ap}
+use mathlib.Core.List.{List, [], _∷_, _++_}
+use Prim.Native.Nat.{ℕ, suc, _+_, _≤_}
+use native.Mathlib.Omega.{arith}
+use lib.ListN.{length, length-append}
+use lib.Seq.{sets}
+use Rattle.lists.specs.Steps.{outputs}
+use Rattle.lists.proofs.Lists.{sets-front}
+use Rattle.line.specs.declared.Event.{Event}
+use Rattle.line.specs.Words.{wordOf, wordsOf}
+use Rattle.station.specs.declared.Station.{Station}
+use Rattle.station.specs.declared.Ran.{Ran}
+use Rattle.station.specs.Station.{stationMs, sentMs, eventOf, stationAfter, sentBy, wordsBy}
+use Rattle.station.specs.Entries.{runAnswer, ran, ranOf, sentAfter, wordsAfter}
+use Rattle.station.proofs.Answers.{refused-run, refused-sent, refused-words}
+use Rattle.running.proofs.Fold.{one}
+
+-- one sent ms for each ms heard, and at most one word
+sent-length : (s : Station) (heard : List ℕ) → length (sentBy s heard) ≡ length heard
+unfolding outputs
+sent-length s [] = refl
+sent-length s (x ∷ xs) = ap suc (sent-length (stationMs s x) xs)
+
+words-most : (s : Station) (heard : List ℕ) → length (wordsBy s heard) ≤ length heard
+unfolding outputs wordsOf
+words-most s [] = omega arith
+words-most s (x ∷ xs) =
+    let w = wordOf (eventOf s x) in
+    let ws = wordsBy (stationMs s x) xs in
+    let o = one (eventOf s x) in
+    let m = words-most (stationMs s x) xs in
+    let l = length-append w ws in
+    omega arith
+
+module _ (s : Station) (heard sent words : List ℕ) where
+  -- the station after a run, its answer and its count; the two slices
+  abbrev pub Gives : Ran → List ℕ → List ℕ → Type 0
+  Gives r sent′ words′ =
+      (r ≡ ranOf s heard (length sent) (length words))
+      × ((sent′ ≡ sentAfter s heard (length words) sent) × (words′ ≡ wordsAfter s heard (length sent) words))
+
+  -- a refusal leaves the station and the slices
+  pub refused : (n : ℕ) → (n ≡ 0 → ⊥) → runAnswer s heard (length sent) (length words) ≡ n → (r : Ran) → r ≡ ran s n 0 → Gives r sent words
+  refused n z e r f =
+      let no : runAnswer s heard (length sent) (length words) ≡ 0 → ⊥ = λ y. z (sym e ∙ y) in (
+        f ∙ ap (λ (k : ℕ). ran s k 0) (sym e) ∙ sym (refused-run s heard (length sent) (length words) no),
+        (sym (refused-sent s heard (length words) sent no), sym (refused-words s heard (length sent) words no)),
+      )
+
+  -- success gives the station after all the ms, one sent ms for each and the words from the slices' fronts
+  pub accepted : runAnswer s heard (length sent) (length words) ≡ 0 → length heard ≤ length sent → length heard ≤ length words
+      → (t : Station) → t ≡ stationAfter s heard → (k : ℕ) → k ≡ length (wordsBy s heard)
+      → (sent′ : List ℕ) → sent′ ≡ sets sent 0 (sentBy s heard) → (words′ : List ℕ) → words′ ≡ sets words 0 (wordsBy s heard)
+      → Gives (ran t 0 k) sent′ words′
+  unfolding ranOf sentAfter wordsAfter
+  accepted a p q t e k f sent′ g words′ h =
+      let n = sent-length s heard in
+      let m = words-most s heard in (
+        simp (a, e, f),
+        (simp a (g ∙ sets-front sent (sentBy s heard) (omega arith)), simp a (h ∙ sets-front words (wordsBy s heard) (omega arith))),
+      )
