@@ -8,15 +8,20 @@ use lib.Seq.{sets}
 use Rattle.lists.specs.Steps.{outputs}
 use Rattle.lists.proofs.Lists.{sets-front}
 use Rattle.line.specs.declared.Event.{Event}
+use Rattle.line.specs.declared.Event.the-variants.{Character, Fault, Nothing}
 use Rattle.line.specs.Words.{wordOf, wordsOf}
 use Rattle.station.specs.declared.Station.{Station}
 use Rattle.station.specs.declared.Ran.{Ran}
 use Rattle.station.specs.Station.{stationMs, sentMs, eventOf, stationAfter, sentBy, wordsBy}
 use Rattle.station.specs.Entries.{runAnswer, ran, ranOf, sentAfter, wordsAfter}
 use Rattle.station.proofs.Answers.{refused-run, refused-sent, refused-words}
-use Rattle.running.proofs.Fold.{one}
 
 -- one sent ms for each ms heard, and at most one word
+one : (e : Event) → length (wordOf e) ≤ 1
+one (Character c) = omega arith
+one Fault = omega arith
+one Nothing = omega arith
+
 sent-length : (s : Station) (heard : List ℕ) → length (sentBy s heard) ≡ length heard
 unfolding outputs
 sent-length s [] = refl

@@ -70,7 +70,7 @@ slice-aggregate-run-all c = search needs
 run-all-requires : tie.Need-run-all-requires
 run-all-requires c κs = let l = ap (λ (m : ℕ). allAtMost m (c .before .before .before .before .before .before .before .before .before .before .before .before .before .before .before .before .before .args .heard .now)) (sym (c .before .before .before .before .before .before .before .before .highest-level .ensures ∙ ap highestLevel (c .before .before .before .before .before .before .before .before .before .of .ensures))) ∙ sym (c .before .before .before .before .before .before .before .all-at-most .ensures) ∙ not-false (c .before .before .before .before .before .before .before .all-at-most .result) (c .before .before .before .before .before .before .if3 .left) in
     let f : length (c .before .before .before .before .before .before .before .before .before .before .before .before .before .before .before .before .before .args .s .chars) ≡ 256 = search needs in
-    (sym (c .before .before .before .before .before .before .before .before .before .before .before .before .before .in-range .ensures) ∙ not-false (c .before .before .before .before .before .before .before .before .before .before .before .before .before .in-range .result) (c .before .before .before .before .before .before .before .before .before .before .before .before .if1 .left), (f, (c .before .before .before .before .before .before .before .before .before .before .before .if2 .left, (l, (c .before .before .before .before .before .if4 .left, c .before .before .before .before .if5 .left)))))
+    (sym (c .before .before .before .before .before .before .before .before .before .before .before .before .before .in-range .ensures) ∙ not-false (c .before .before .before .before .before .before .before .before .before .before .before .before .before .in-range .result) (c .before .before .before .before .before .before .before .before .before .before .before .before .if1 .left), (f, (l, (c .before .before .before .before .before .if4 .left, c .before .before .before .before .if5 .left))))
 
 same-length : tie.Need-same-length
 same-length c = search needs
