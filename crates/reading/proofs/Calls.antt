@@ -29,7 +29,7 @@ use Rattle.station.specs.declared.Ran.{Ran}
 use Rattle.station.specs.Station.{modeOfStation, alphabetOfStation, queueOf, freshStation, offeredTo, stationMs, sentMs, eventOf, stationAfter, eventsBy, sentBy as sentRun, wordsBy as wordsRun}
 use Rattle.station.specs.Range.{inRange}
 use Rattle.station.specs.Entries.{answered, ran, highestLevel, offerAnswer, offerOf, runAnswer, ranOf, sentAfter, wordsAfter}
-use Rattle.reading.specs.Model.{Model, Step, Offer, Ms, Did, freshModel, offered, msAfter, modelAfter, does, sentIn, heardIn}
+use Rattle.reading.specs.Model.{Model, Step, Offer, Ms, freshModel, offered, msAfter, modelAfter, does, sentIn, heardIn}
 use Rattle.reading.specs.Reading.{OffersChars}
 use Rattle.reading.specs.BothModels.{stationReader, stationEvents}
 use Rattle.reading.specs.Calls.{Call, OfferCall, RunCall, opened, left, succeeds, sentFor, wordsFor, stepsFor, stepsIf, leftBy, sentBy, wordsBy, stepsBy, accepts, modelSteps, msIn, cutFor, upTo}
@@ -153,6 +153,11 @@ run-succeeds-by s heard sent words = go (runAnswer s heard (length sent) (length
 run-answer : (s : Station) (heard sent words : List ℕ) → succeeds s (RunCall heard sent words) ≡ true → runAnswer s heard (length sent) (length words) ≡ 0
 run-answer s heard sent words e = eqb-true (runAnswer s heard (length sent) (length words)) 0 (sym (run-succeeds-by s heard sent words) ∙ e)
 
+-- a refused call leaves the station
+pub refused-left : (s : Station) (c : Call) → succeeds s c ≡ false → left s c ≡ s
+refused-left s (OfferCall text) e = ap (λ (a : Answered). a .station) (offer-no s text (sym (offer-succeeds s text) ∙ e))
+refused-left s (RunCall heard sent words) e = ap (λ (a : Ran). a .station) (run-no s heard (length sent) (length words) (sym (run-succeeds-by s heard sent words) ∙ e))
+
 sent-length : (heard : List ℕ) (s : Station) → length (sentRun s heard) ≡ length heard
 unfolding outputs
 sent-length [] s = refl
@@ -243,10 +248,10 @@ module _ (mode : Mode) (L : StationLike mode) where
   no-words n = rw (take-nil {A = Event} n) refl
 
   -- it is refused
-  refused : (c : Call) (s : Station) (m : Model) (r : Reader) → succeeds s c ≡ false → left s c ≡ s → L .A .Like s m r → CallLike c s m r
+  refused : (c : Call) (s : Station) (m : Model) (r : Reader) → succeeds s c ≡ false → L .A .Like s m r → CallLike c s m r
   unfolding modelAfter stationReader does stationEvents heardIn OffersChars allAtMost
-  refused c s m r e l h = record {
-    like = rw (e, l) h;
+  refused c s m r e h = record {
+    like = rw (e, refused-left s c e) h;
     sent-are = rw e refl;
     chars = rw e tt;
     levels = rw e refl;
@@ -298,15 +303,13 @@ module _ (mode : Mode) (L : StationLike mode) where
       go : (b : Bool) → eqb (offerAnswer s text) 0 ≡ b → CallLike (OfferCall text) s m r
       go true e = offers text s m r (eqb-true (offerAnswer s text) 0 e) h
       go false e =
-          let y = offer-no s text e in
-          refused (OfferCall text) s m r (ap (λ (a : Answered). eqb (a .answer) 0) y ∙ e) (ap (λ (a : Answered). a .station) y) h
+          refused (OfferCall text) s m r (offer-succeeds s text ∙ e) h
   call-like (RunCall heard sent words) s m r h = go (eqb (runAnswer s heard (length sent) (length words)) 0) refl
     where
       go : (b : Bool) → eqb (runAnswer s heard (length sent) (length words)) 0 ≡ b → CallLike (RunCall heard sent words) s m r
       go true e = runs heard sent words s m r (eqb-true (runAnswer s heard (length sent) (length words)) 0 e) h
       go false e =
-          let y = run-no s heard (length sent) (length words) e in
-          refused (RunCall heard sent words) s m r (ap (λ (a : Ran). eqb (a .answer) 0) y ∙ e) (ap (λ (a : Ran). a .station) y) h
+          refused (RunCall heard sent words) s m r (run-succeeds-by s heard sent words ∙ e) h
 
   -- which calls succeed is told by the model
   pub accepts-is : (c : Call) (s : Station) (m : Model) (r : Reader) → L .A .Like s m r → succeeds s c ≡ accepts mode m c

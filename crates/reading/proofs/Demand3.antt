@@ -28,13 +28,13 @@ use Rattle.station.proofs.Range.{station-in}
 use Rattle.reading.specs.Model.{Model, Step, Did, freshModel, modelAfter, does, sentIn, heardIn}
 use Rattle.reading.specs.Reading.{endsSynchronizing, untilSynchronized, synchronizedAfter, atOnce, NoBurst, EndsIdle, OffersChars, Reads}
 use Rattle.reading.specs.BothModels.{stationReader, stationEvents, OffersNone, modelOf, doesAfter, BothPremises}
-use Rattle.reading.specs.Calls.{Call, opened, stepsBy, wordsBy, upTo, msIn}
-use Rattle.reading.specs.Demand3.{Lists, theMode, stepsA, stepsB, didsA, sentA, heardB, wordsBefore, between, Premises, followsA, synchronized, wordsDue, Conclusion, Demand3}
+use Rattle.reading.specs.Calls.{Call, opened, stepsBy, wordsBy, modelSteps, upTo, msIn}
+use Rattle.reading.specs.Demand3.{Lists, theMode, stepsA, stepsB, didsA, sentA, heardB, between, Premises, followsA, synchronized, wordsDue, Conclusion, Demand3}
 use Rattle.reading.proofs.Core.{does-append}
 use Rattle.reading.proofs.BothModels.{after-append, both-read}
 use Rattle.reading.proofs.Cuts.{between-is, most-left, heard-append, chars-left, none-right, idle-left, idle-right, sent-append, events-append, does-length, events-length, Cut, cut-after, ms-append}
 use Rattle.reading.proofs.StationAttached.{Like, fresh-like, attached}
-use Rattle.reading.proofs.Calls.{StationLike, CallsLike, calls-like, words-up-to, cut-same}
+use Rattle.reading.proofs.Calls.{StationLike, CallsLike, model-steps, calls-like, words-up-to, cut-same}
 
 -- ---- cuts
 
@@ -405,6 +405,10 @@ opened-like n = subst (λ (s : Station). stationLike (modeOf n) .A .Like s fresh
 pub of-calls : (n : ℕ) (calls : List Call) → CallsLike (modeOf n) (stationLike (modeOf n)) calls (opened n) freshModel fresh
 of-calls n calls = calls-like (modeOf n) (stationLike (modeOf n)) calls (opened n) freshModel fresh (opened-like n)
 
+-- which calls succeed is told by the model
+pub steps-are : (n : ℕ) (calls : List Call) → stepsBy (opened n) calls ≡ modelSteps (modeOf n) freshModel calls
+steps-are n calls = model-steps (modeOf n) (stationLike (modeOf n)) calls (opened n) freshModel fresh (opened-like n)
+
 reads-on : (d : Lists) → Premises d → Conclusion d
 reads-on d p =
     let a = of-calls (d .mode) (d .callsA) in
@@ -419,5 +423,5 @@ demand-3 = record {
   sends = λ n calls. of-calls n calls .sent-are;
   reads = reads-on;
   cut-in-two = λ n past next xs ys sent words sent′ words′. cut-same (modeOf n) (stationLike (modeOf n)) n past next xs ys sent words sent′ words′ (opened-like n);
-  normal-twice = normal-form-twice;
+  normal-twice = λ mode. normal-form-twice (alphabetOf mode);
 }

@@ -78,19 +78,6 @@ unfoldable pub stepsBy : Station → List Call → List Step
 stepsBy s [] = []
 stepsBy s (c ∷ cs) = stepsFor s c ++ stepsBy (left s c) cs
 
--- Which calls succeed, told by the send model: question 3, and 4 of those that wait in it; 5, 6, 7 and 8. (Question 1 is always
--- answered yes on a station that calls have left.)
-unfoldable pub accepts : Mode → Model → Call → Bool
-accepts mode m (OfferCall text) = allChars text && leb (length (m .waiting) + length (waiters (alphabetOf mode) text)) 256
-accepts mode m (RunCall heard sent words) =
-    leb (length heard) 4_096 && allAtMost (highestLevel mode) heard && leb (length heard) (length sent) && leb (length heard) (length words)
-
-unfoldable pub modelSteps : Mode → Model → List Call → List Step
-modelSteps mode m [] = []
-modelSteps mode m (c ∷ cs) =
-    let steps = cond (accepts mode m c) (stepsIf c) [] in
-    steps ++ modelSteps mode (modelAfter mode m steps) cs
-
 -- How many ms there are in some steps.
 abbrev pub msIn : List Step → ℕ
 msIn steps = length (heardIn steps)
@@ -108,3 +95,16 @@ unfoldable pub upTo : Station → List Call → ℕ → List Call
 upTo s [] n = []
 upTo s (c ∷ cs) zero = []
 upTo s (c ∷ cs) (suc n) = cutFor s c (suc n) ∷ upTo (left s c) cs (suc n - msIn (stepsFor s c))
+
+-- Besides: which calls succeed, told by the send model. Questions 3 and 4, the latter by those that wait in the model; 5 to 8.
+-- (After calls on a fresh station the answer to question 1 is yes.)
+unfoldable pub accepts : Mode → Model → Call → Bool
+accepts mode m (OfferCall text) = allChars text && leb (length (m .waiting) + length (waiters (alphabetOf mode) text)) 256
+accepts mode m (RunCall heard sent words) =
+    leb (length heard) 4_096 && allAtMost (highestLevel mode) heard && leb (length heard) (length sent) && leb (length heard) (length words)
+
+unfoldable pub modelSteps : Mode → Model → List Call → List Step
+modelSteps mode m [] = []
+modelSteps mode m (c ∷ cs) =
+    let steps = cond (accepts mode m c) (stepsIf c) [] in
+    steps ++ modelSteps mode (modelAfter mode m steps) cs

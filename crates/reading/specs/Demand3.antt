@@ -1,5 +1,5 @@
--- DEMAND 3: what station B reads of what station A sends, over whole lists of calls. Document 01's word for the idle period is
--- a rest, for the synchronizing code the settling code, for the send model a station's book.
+-- DEMAND 3, over whole lists of calls. Each line names the words of the demand (D3) or of document 01 (01) that it is. A rest is
+-- called idle period here, the settling code synchronizing code, a station's book send model, a lead preamble, a case shift.
 use Prim.Native.Nat.{ℕ, _+_, _-_, _≤_, _<_}
 use mathlib.Core.Path.{_≡_}
 use mathlib.Core.Bool.{true}
@@ -15,16 +15,16 @@ use Rattle.reading.specs.Reading.{synchronizedAfter, mostBefore, NoBurst
 use Rattle.reading.specs.BothModels.{OffersNone}
 use Rattle.reading.specs.Calls.{Call, RunCall, opened, succeeds, leftBy, sentBy, wordsBy, stepsBy, msIn, upTo}
 
--- "For every list of offers and runs on station A and every such list on station B." "One clock numbers the ms of both."
+-- D3: "every list of offers and runs on station A and every such list on station B". 01: "One clock numbers the ms of both."
 pub record Lists : Type 0 where
-  -- "both stations fresh and of one mode": the number that both openings are given (one that is no mode's opens mode 1)
+  -- D3: "both stations fresh and of one mode". The number that both openings are given; one that is no mode's opens mode 1.
   pub mode : ℕ
   pub callsA : List Call
   pub callsB : List Call
-  -- "Either may be opened at any ms": the numbers of the first ms of each
+  -- 01: "Either may be opened at any ms". The numbers of the first ms of each.
   pub openA : ℕ
   pub openB : ℕ
-  -- the first ms of the idle period, and the ms asked about
+  -- The first ms of the idle period, and the ms asked about.
   pub start : ℕ
   pub asked : ℕ
 
@@ -34,86 +34,88 @@ theMode d = modeOf (d .mode)
 abbrev pub theAlphabet : Lists → Alphabet
 theAlphabet d = alphabetOf (theMode d)
 
--- "A station's book is kept from its calls alone": the steps of each model.
+-- 01: "A station's book is kept from its calls alone". The steps of each model.
 abbrev pub stepsA : Lists → List Step
 stepsA d = stepsBy (opened (d .mode)) (d .callsA)
 
 abbrev pub stepsB : Lists → List Step
 stepsB d = stepsBy (opened (d .mode)) (d .callsB)
 
--- What A's model does in each of its ms; the sent ms that A's calls hand out; the ms that B's successful runs hear.
+-- What A's model does in each of its ms.
 abbrev pub didsA : Lists → List Did
 didsA d = does (theMode d) freshModel (stepsA d)
 
+-- The sent ms that A's calls hand out; the ms that B's successful runs hear.
 abbrev pub sentA : Lists → List ℕ
 sentA d = sentBy (opened (d .mode)) (d .callsA)
 
 abbrev pub heardB : Lists → List ℕ
 heardB d = heardIn (stepsB d)
 
--- "the words up to a ms inside a run are those up to a cut after it": the words of B's ms before the ms t of the clock.
+-- 01: "the words up to a ms inside a run are those up to a cut after it". The words of B's ms before the ms t of the clock.
 abbrev pub wordsBefore : Lists → ℕ → List ℕ
 wordsBefore d t = wordsBy (opened (d .mode)) (upTo (opened (d .mode)) (d .callsB) (t - d .openB))
 
--- Of a list that has an entry for each ms from `first` on: the entries of the ms from `from` on and before `to`.
+-- Of a list with one entry for each ms from `first` on: the entries of the ms from `from` on and before `to`.
 abbrev pub between : {X : Type 0} → ℕ → ℕ → ℕ → List X → List X
 between first from to xs = take (to - from) (drop (from - first) xs)
 
--- "The premises".
+-- D3: "The premises".
 pub record Premises (d : Lists) : Type 0 where
-  -- "every later millisecond that both have run": the ms asked about
+  -- 01: "A rest is 300 ms in a row in which a station is in no burst."
+  pub opened-A : d .openA ≤ d .start
+  pub idle-A : NoBurst (between (d .openA) (d .start) (d .start + 300) (didsA d))
+  -- D3: "every later millisecond that both have run"
   pub later : d .start + 300 ≤ d .asked
   pub run-A : d .asked < d .openA + msIn (stepsA d)
   pub run-B : d .asked < d .openB + msIn (stepsB d)
-  -- "A rest is 300 ms in a row in which a station is in no burst."
-  pub opened-A : d .openA ≤ d .start
-  pub idle-A : NoBurst (between (d .openA) (d .start) (d .start + 300) (didsA d))
-  -- "B at the latest at the first of the 40"
+  -- 01: "B at the latest at the first of the 40"
   pub opened-B : d .openB ≤ d .start + 260
-  -- B's steps before the idle period, from its start up to the ms asked about, and after that
+  -- D3: "from the start of the rest". B's steps before that, from there up to the ms asked about, and beyond it.
   pub past : List Step
   pub since : List Step
   pub beyond : List Step
   pub cut : stepsB d ≡ past ++ (since ++ beyond)
   pub past-ms : msIn past ≡ d .start - d .openB
   pub since-ms : msIn (past ++ since) ≡ d .asked + 1 - d .openB
-  -- "if the rest began earlier, B's premises hold from its opening"
+  -- 01: "if the rest began earlier, B's premises hold from its opening"
   pub from-opening : d .start < d .openB → past ≡ []
-  -- "from the start of the rest B has nothing waiting, is in no burst, and no offer to it that holds a character succeeds"
+  -- D3: "B has nothing waiting"; with no character offered, nothing waits later either. (The proof does not need it.)
   pub none-waits : modelAfter (theMode d) freshModel past .waiting ≡ []
+  -- D3: "is in no burst"
   pub idle-B : NoBurst (does (theMode d) (modelAfter (theMode d) freshModel past) since)
+  -- D3: "no offer to it that holds a character succeeds"
   pub offers-none : OffersNone since
-  -- "from those 40 ms on B hears exactly what A sends", "up to the one asked about"
+  -- D3: "from those 40 ms on B hears exactly what A sends". 01: "up to the one asked about".
   pub hears : between (d .openB) (d .start + 260) (d .asked + 1) (heardB d) ≡ between (d .openA) (d .start + 260) (d .asked + 1) (sentA d)
 
 -- What A's model does after the idle period, up to the ms asked about.
 abbrev pub followsA : Lists → List Did
 followsA d = between (d .openA) (d .start + 300) (d .asked + 1) (didsA d)
 
--- How many of these ms there are up to the synchronizing code's last, "or so far while no settling code has ended".
+-- How many of these ms there are up to the synchronizing code's last. 01: "or so far while no settling code has ended".
 abbrev pub synchronized : Lists → ℕ
 synchronized d = synchronizedAfter (theMode d) (followsA d)
 
--- The words of kind 0 "for the normal form of the characters that A's book has by then taken after it, in the order taken".
+-- D3: "the words of kind 0 for the normal form of the characters" that A's model has "by then taken after it, in the order taken".
 abbrev pub wordsDue : Lists → List ℕ
 wordsDue d = map characterWord (normalForm (theAlphabet d) (takenIn (drop (synchronized d) (followsA d))))
 
 pub record Conclusion (d : Lists) : Type 0 where
-  -- "At most 72 characters in Baudot, one in DTMF and none in EDT precede that point", at every later ms
+  -- D3: "At most 72 characters in Baudot, one in DTMF and none in EDT"; in a burst, too.
   pub before : length (takenIn (take (synchronized d) (followsA d))) ≤ mostBefore (theAlphabet d)
-  -- "at every later millisecond .. at which A is in no burst, the words B has handed out after the settling code are exactly" these
+  -- D3: "at which A is in no burst, the words B has handed out after the settling code are exactly" these.
   pub text : EndsIdle (followsA d) → wordsBefore d (d .asked + 1) ≡ wordsBefore d (d .start + 300 + synchronized d) ++ wordsDue d
-  -- "with no fault": each is a character
+  -- D3: "with no fault". Each of them is a character.
   pub no-fault : EndsIdle (followsA d) → allChars (wordsDue d) ≡ true
 
--- "it is part of the claim that each sent ms is the line signal of the book's lead or code, and quiet outside a burst": for each
--- station by itself, whatever it is called with.
+-- 01: "each sent ms is the line signal of the book's lead or code, and quiet outside a burst". For each station by itself.
 abbrev pub SendsAsModel : Type 0
 SendsAsModel = (mode : ℕ) (calls : List Call)
     → sentBy (opened mode) calls ≡ sentIn (does (modeOf mode) freshModel (stepsBy (opened mode) calls))
 
--- "A list's words are .. the same if such a run is cut in two", and so are its sent ms and its model's steps: a run that succeeds
--- after some calls, and in its place the run on its first ms and the run on the others, with slices that are long enough.
+-- 01: a list's words are "the same if such a run is cut in two"; and so are its sent ms and the steps of its model. In place of a
+-- run that succeeds after some calls: the run on its first ms, and the run on the others, with slices that are long enough.
 pub record Same (cs ds : List Call) (mode : ℕ) : Type 0 where
   pub same-words : wordsBy (opened mode) cs ≡ wordsBy (opened mode) ds
   pub same-sent : sentBy (opened mode) cs ≡ sentBy (opened mode) ds
@@ -124,9 +126,10 @@ CutInTwo = (mode : ℕ) (past next : List Call) (xs ys sent words sent′ words�
     → succeeds (leftBy (opened mode) past) (RunCall (xs ++ ys) sent words) ≡ true → length ys ≤ length sent′ → length ys ≤ length words′
     → Same (past ++ (RunCall (xs ++ ys) sent words ∷ next)) (past ++ (RunCall xs sent words ∷ RunCall ys sent′ words′ ∷ next)) mode
 
--- "In every mode, taking the normal form twice equals taking it once."
+-- D3: "taking the normal form twice equals taking it once", in every mode.
 abbrev pub NormalTwice : Type 0
-NormalTwice = (a : Alphabet) (text : List ℕ) → allChars text ≡ true → normalForm a (normalForm a text) ≡ normalForm a text
+NormalTwice = (mode : Mode) (text : List ℕ) → allChars text ≡ true
+    → normalForm (alphabetOf mode) (normalForm (alphabetOf mode) text) ≡ normalForm (alphabetOf mode) text
 
 pub record Demand3 : Type 0 where
   pub sends : SendsAsModel
