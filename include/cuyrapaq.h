@@ -1,14 +1,15 @@
 /*
  * cuyrapaq.h: the C interface of the Cuyrapaq textphone line engine.
  *
- * Two entries convert text to five-bit Baudot codes (ITU-T V.18, Annex A) and back. Three more are a
- * calling set (clause 5.1): what it sends while it calls, and the tone that it chooses among those it
- * hears. Each works on slices that the host lends for the call: a pointer and a number of elements. The
- * engine uses no heap, keeps nothing between calls and calls nothing back. Several threads may call it
- * at the same time, each with its own slice to be written and its own state.
+ * Three entries are a station: it sends typed characters over the line and reads those of the other end,
+ * in Baudot, DTMF or EDT (ITU-T V.18, Annexes A to C). Two convert text to five-bit Baudot codes and back.
+ * Three more are a calling set (clause 5.1): what it sends while it calls, and the tone that it chooses
+ * among those it hears. Each works on slices that the host lends for the call: a pointer and a number of
+ * elements. The engine uses no heap, keeps nothing between calls and calls nothing back. Several threads
+ * may call it at the same time, each with its own slice to be written and its own state.
  *
- * Link libbaudot.a for the conversions and libcalling.a for the calling set (x86-64, System V calling
- * convention).
+ * Link libcuyrapaq.a for the station, libbaudot.a for the conversions and libcalling.a for the calling set
+ * (x86-64, System V calling convention).
  */
 #ifndef CUYRAPAQ_H
 #define CUYRAPAQ_H
@@ -33,10 +34,11 @@ extern "C" {
 
 /*
  * Answers. 0 is success, any other number is the reason of a refusal. The numbers are the same for all
- * entries of the engine; the conversions give 0, 1, 3, 9 and 10, the calling set 0, 5, 7, 11 and 12.
+ * entries of the engine; the conversions give 0, 1, 3, 9 and 10, the station 0 to 8, the calling set 0, 5,
+ * 7, 11 and 12.
  */
 #define CQ_OK                       0
-#define CQ_REFUSED_STATE            1 /* a number of the state is out of range (here: shift or count) */
+#define CQ_REFUSED_STATE            1 /* a number of the station, or the shift or count, is out of range */
 #define CQ_REFUSED_MODE             2 /* the mode is not 1 to 4 */
 #define CQ_REFUSED_CHARACTER        3 /* a byte of the text is above 127 */
 #define CQ_REFUSED_FULL             4 /* no space for all characters that send something */
@@ -205,6 +207,167 @@ uint8_t cq_calling_choice(const cq_calling *state);
 uint8_t cq_calling_run(cq_calling *state, const uint8_t *tones, size_t tones_length, uint8_t *sent,
                        size_t sent_length);
 
+/*
+ * The station works in milliseconds (ms). For each ms the host says what is heard on the line, and is told
+ * what to send in that ms. What it reads comes out as words.
+ */
+
+/* The modes. */
+#define CQ_MODE_BAUDOT_45 1 /* Baudot at 45.45 bit/s */
+#define CQ_MODE_BAUDOT_50 2 /* Baudot at 50 bit/s */
+#define CQ_MODE_DTMF      3
+#define CQ_MODE_EDT       4
+
+/* What is heard or sent in a ms: quiet; in Baudot and EDT mark or space; in DTMF a key. */
+#define CQ_LEVEL_QUIET 0
+#define CQ_LEVEL_MARK  1
+#define CQ_LEVEL_SPACE 2
+
+/* The keys of DTMF: 1 to 9 are the digits' own numbers. */
+#define CQ_KEY_0    10
+#define CQ_KEY_STAR 11
+#define CQ_KEY_HASH 12
+#define CQ_KEY_A    13
+#define CQ_KEY_B    14
+#define CQ_KEY_C    15
+#define CQ_KEY_D    16
+
+/* The highest level of a mode. */
+#define CQ_LEVEL_MAX(mode) ((mode) == CQ_MODE_DTMF ? CQ_KEY_D : CQ_LEVEL_SPACE)
+
+/* The most ms of one call, and the most characters that wait. */
+#define CQ_STATION_MS_MAX      4096
+#define CQ_STATION_WAITING_MAX 256
+
+/*
+ * Words. The kind stands in bits 31 to 28. A character, of T.50 and seven bits, stands in bits 6 to 0; the
+ * character NULL (00) is a word like others, 0. All other bits are zero. A fault is a code that was heard
+ * and could not be read.
+ */
+#define CQ_WORD_CHARACTER 0
+#define CQ_WORD_FAULT     1
+
+#define CQ_WORD_KIND(word) ((unsigned)((uint32_t)(word) >> 28))
+#define CQ_WORD_CHAR(word) ((uint8_t)((uint32_t)(word) & 0x7F))
+
+/*
+ * A station, which the host keeps: make it with cq_station_open, and let nothing but cq_station_offer and
+ * cq_station_run change it. It holds no pointer, so it may be copied, moved and stored. The fields are
+ * listed with their ranges, since each entry asks for them first; only `waiting` is of use to a host.
+ */
+typedef struct cq_on_line {
+    uint16_t at;  /* ms of the part that are sent, at most those that the part has */
+    uint8_t part; /* 0 in no burst, 1 the preamble, 2 a code */
+    uint8_t code; /* the code: below 32 in Baudot and 128 in EDT; in DTMF 16 times the prefix and the digit's key */
+} cq_on_line;
+
+typedef struct cq_sender {
+    uint8_t shift; /* CQ_SHIFT_FRESH, CQ_SHIFT_LETTERS or CQ_SHIFT_FIGURES */
+    uint8_t count; /* characters since the last shift code, 0 to 72 */
+} cq_sender;
+
+typedef struct cq_frame {
+    uint8_t place;  /* 0 hunting, 1 waiting after a fault, m + 1 before ms m of a frame; at most 144, 131, 1, 96 */
+    uint8_t digits; /* those sampled so far; below 32, 32, 1, 128 in modes 1 to 4 */
+} cq_frame;
+
+typedef struct cq_keys {
+    uint8_t key;    /* the key that is heard, 0 to 16 */
+    uint8_t ms;     /* its ms in a row, 0 to 39 */
+    uint8_t needed; /* quiet ms that are needed before the next, 0 to 40 */
+} cq_keys;
+
+typedef struct cq_reader {
+    cq_frame frame; /* in Baudot and EDT */
+    cq_keys keys;   /* in DTMF */
+    uint8_t shift;  /* CQ_SHIFT_LETTERS or CQ_SHIFT_FIGURES */
+    uint8_t prefix; /* the * and # ahead of a digit, 0 to 15 */
+} cq_reader;
+
+typedef struct cq_core {
+    uint16_t waiting;   /* how many characters wait, 0 to 256 */
+    uint16_t silence;   /* ms in a row without signal, 0 to 300; the count stays where it is enough */
+    uint16_t inhibited; /* ms for which the receiver stays inhibited after the burst, 0 to 300 */
+    cq_on_line line;
+    cq_sender sender;
+    cq_reader reader;
+    uint8_t mode; /* 1 to 4 */
+} cq_core;
+
+typedef struct cq_station {
+    cq_core core;
+    uint8_t chars[CQ_STATION_WAITING_MAX]; /* those waiting, the front one first; each sends something */
+} cq_station;
+
+/* What cq_station_open gives back. */
+typedef struct cq_opened {
+    cq_station station;
+    uint8_t answer; /* CQ_OK or CQ_REFUSED_MODE */
+} cq_opened;
+
+/* What cq_station_run gives back. */
+typedef struct cq_station_ran {
+    uint8_t answer; /* CQ_OK or a refusal */
+    size_t words;   /* words written; after a refusal 0 */
+} cq_station_ran;
+
+/*
+ * A fresh station of a mode: nothing waits, the line is free, the sender is fresh and the reader hunts in
+ * letters.
+ *
+ * CQ_REFUSED_MODE (2): the mode is not 1 to 4. The station given back is then a fresh one of mode 1.
+ */
+cq_opened cq_station_open(uint8_t mode);
+
+/*
+ * Offers a text to be sent.
+ *
+ * station            the station, which the call changes
+ * text, text_length  the characters, one T.50 character of seven bits (00 to 7F) in each byte, any number
+ *
+ * CQ_OK: the characters that send something wait behind those that waited already, in the order offered.
+ * Those that send nothing in the mode never wait (docs/ANNEXES.md lists them). In Baudot the character 7F
+ * (DEL) puts the station's own reader in letters. A waiting character gives its space back in the first ms
+ * of its own code.
+ *
+ * Refusals, asked in this order; the first that applies is the answer:
+ *   CQ_REFUSED_STATE      (1)  a number of the station is out of range
+ *   CQ_REFUSED_CHARACTER  (3)  a byte of text is above 127
+ *   CQ_REFUSED_FULL       (4)  no space for all characters of the text that send something
+ * Each leaves the station as it was.
+ */
+uint8_t cq_station_offer(cq_station *station, const uint8_t *text, size_t text_length);
+
+/*
+ * Runs a station for some ms.
+ *
+ * station              the station, which the call changes
+ * heard, heard_length  what is heard, one level in each byte, at most CQ_STATION_MS_MAX of them
+ * sent, sent_length    where the sent ms go, one level in each byte; at least as many as heard
+ * words, words_length  where the words go; at least as many as heard
+ *
+ * A burst begins when characters wait and the line has been free for 300 ms: its preamble, then codes
+ * without gap, up to the end of a code behind which none waits. Outside a burst quiet is sent. In a burst and
+ * for 300 ms after it the station reads nothing, so its own echo does no harm.
+ *
+ * CQ_OK: the first heard_length elements of `sent` are what to send in these ms, and `words` begins with as
+ * many words as the result says, at most one for each ms; everything behind them stays as it was. A list of
+ * ms may be cut into calls in any way, with the same result.
+ *
+ * Refusals, asked in this order; the first that applies is the answer:
+ *   CQ_REFUSED_STATE       (1)  a number of the station is out of range
+ *   CQ_REFUSED_DURATION    (5)  heard_length is above CQ_STATION_MS_MAX
+ *   CQ_REFUSED_HEARD       (6)  an element of heard is above CQ_LEVEL_MAX of the mode
+ *   CQ_REFUSED_SENT_SLICE  (7)  sent_length is less than heard_length
+ *   CQ_REFUSED_WORD_SLICE  (8)  words_length is less than heard_length
+ * Each leaves the station, `sent` and `words` as they were, and has 0 words.
+ *
+ * Pointers and slices are as for the conversions: `sent` and `words` overlap neither each other nor `heard`
+ * nor `station`.
+ */
+cq_station_ran cq_station_run(cq_station *station, const uint8_t *heard, size_t heard_length, uint8_t *sent,
+                              size_t sent_length, uint32_t *words, size_t words_length);
+
 /* Checked when the host is compiled: the structs are laid out as in the library. */
 #if defined(__cplusplus) && __cplusplus >= 201103L
 static_assert(sizeof(size_t) == 8, "size_t has 8 bytes");
@@ -214,6 +377,14 @@ static_assert(sizeof(cq_baudot_text) == 16, "cq_baudot_text has 16 bytes");
 static_assert(offsetof(cq_baudot_text, length) == 8, "length stands at byte 8");
 static_assert(sizeof(cq_calling) == 6, "cq_calling has 6 bytes");
 static_assert(offsetof(cq_calling, choice) == 5, "choice stands at byte 5");
+static_assert(sizeof(cq_core) == 20, "cq_core has 20 bytes");
+static_assert(offsetof(cq_core, mode) == 19, "mode stands at byte 19");
+static_assert(sizeof(cq_station) == 276, "cq_station has 276 bytes");
+static_assert(offsetof(cq_station, chars) == 20, "chars stand from byte 20 on");
+static_assert(sizeof(cq_opened) == 278, "cq_opened has 278 bytes");
+static_assert(offsetof(cq_opened, answer) == 276, "answer stands at byte 276");
+static_assert(sizeof(cq_station_ran) == 16, "cq_station_ran has 16 bytes");
+static_assert(offsetof(cq_station_ran, words) == 8, "words stands at byte 8");
 #else
 typedef char cq_check_size_t[sizeof(size_t) == 8 ? 1 : -1];
 typedef char cq_check_baudot_sent[sizeof(cq_baudot_sent) == 16 ? 1 : -1];
@@ -222,6 +393,14 @@ typedef char cq_check_baudot_text[sizeof(cq_baudot_text) == 16 ? 1 : -1];
 typedef char cq_check_baudot_text_length[offsetof(cq_baudot_text, length) == 8 ? 1 : -1];
 typedef char cq_check_calling[sizeof(cq_calling) == 6 ? 1 : -1];
 typedef char cq_check_calling_choice[offsetof(cq_calling, choice) == 5 ? 1 : -1];
+typedef char cq_check_core[sizeof(cq_core) == 20 ? 1 : -1];
+typedef char cq_check_core_mode[offsetof(cq_core, mode) == 19 ? 1 : -1];
+typedef char cq_check_station[sizeof(cq_station) == 276 ? 1 : -1];
+typedef char cq_check_station_chars[offsetof(cq_station, chars) == 20 ? 1 : -1];
+typedef char cq_check_opened[sizeof(cq_opened) == 278 ? 1 : -1];
+typedef char cq_check_opened_answer[offsetof(cq_opened, answer) == 276 ? 1 : -1];
+typedef char cq_check_station_ran[sizeof(cq_station_ran) == 16 ? 1 : -1];
+typedef char cq_check_station_ran_words[offsetof(cq_station_ran, words) == 8 ? 1 : -1];
 #endif
 
 #ifdef __cplusplus
