@@ -6,7 +6,8 @@ fn main() {
     println!("cargo:rerun-if-env-changed=CQ_LIB_DIR");
     if let Ok(folder) = std::env::var("CQ_LIB_DIR") {
         println!("cargo:rustc-link-search=native={folder}");
-        println!("cargo:rerun-if-changed={folder}/libbaudot.a");
-        println!("cargo:rerun-if-changed={folder}/libcalling.a");
+        for name in ["cuyrapaq", "baudot", "calling"] {
+            println!("cargo:rerun-if-changed={folder}/lib{name}.a");
+        }
     }
 }

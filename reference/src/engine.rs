@@ -3,8 +3,104 @@
 
 use reference::baudot::{Sent, Text};
 use reference::calling::State;
+use reference::demand3::Entries;
+use reference::mode::Mode;
+use reference::station::{Ran, MOST_WAITING};
 
-const _: &str = env!("CQ_LIB_DIR", "set CQ_LIB_DIR to the folder of libbaudot.a and libcalling.a");
+const _: &str = env!("CQ_LIB_DIR", "set CQ_LIB_DIR to the folder of the engine's libraries");
+
+/// What is on the line.
+#[repr(C)]
+#[derive(Clone, Copy, Debug, PartialEq, Eq)]
+pub struct OnLine {
+    pub at: u16,
+    pub part: u8,
+    pub code: u8,
+}
+
+#[repr(C)]
+#[derive(Clone, Copy, Debug, PartialEq, Eq)]
+pub struct Sender {
+    pub shift: u8,
+    pub count: u8,
+}
+
+#[repr(C)]
+#[derive(Clone, Copy, Debug, PartialEq, Eq)]
+pub struct Frame {
+    pub place: u8,
+    pub digits: u8,
+}
+
+#[repr(C)]
+#[derive(Clone, Copy, Debug, PartialEq, Eq)]
+pub struct Keys {
+    pub key: u8,
+    pub ms: u8,
+    pub needed: u8,
+}
+
+#[repr(C)]
+#[derive(Clone, Copy, Debug, PartialEq, Eq)]
+pub struct Reader {
+    pub frame: Frame,
+    pub keys: Keys,
+    pub shift: u8,
+    pub prefix: u8,
+}
+
+#[repr(C)]
+#[derive(Clone, Copy, Debug, PartialEq, Eq)]
+pub struct Core {
+    pub waiting: u16,
+    pub silence: u16,
+    pub inhibited: u16,
+    pub line: OnLine,
+    pub sender: Sender,
+    pub reader: Reader,
+    pub mode: u8,
+}
+
+/// A station as the engine holds it; `cuyrapaq.h` says what its numbers mean. It has no padding, so
+/// that two are equal if their bytes are.
+#[repr(C)]
+#[derive(Clone, Copy, Debug, PartialEq, Eq)]
+pub struct Station {
+    pub core: Core,
+    pub chars: [u8; MOST_WAITING],
+}
+
+const _: () = assert!(size_of::<Core>() == 20 && size_of::<Station>() == 276);
+
+#[repr(C)]
+struct Opened {
+    station: Station,
+    answer: u8,
+}
+
+#[repr(C)]
+struct StationRan {
+    answer: u8,
+    words: usize,
+}
+
+// First, since it may hold the other entries too.
+#[link(name = "cuyrapaq", kind = "static")]
+extern "C" {
+    fn cq_station_open(mode: u8) -> Opened;
+
+    fn cq_station_offer(station: *mut Station, text: *const u8, text_length: usize) -> u8;
+
+    fn cq_station_run(
+        station: *mut Station,
+        heard: *const u8,
+        heard_length: usize,
+        sent: *mut u8,
+        sent_length: usize,
+        words: *mut u32,
+        words_length: usize,
+    ) -> StationRan;
+}
 
 #[link(name = "baudot", kind = "static")]
 extern "C" {
@@ -66,4 +162,39 @@ pub fn calling_choice(state: &State) -> u8 {
 pub fn calling_run(state: &mut State, tones: &[u8], sent: &mut [u8]) -> u8 {
     // Safety: the pointer leads to a state, and each other goes with the length of its slice.
     unsafe { cq_calling_run(state, tones.as_ptr(), tones.len(), sent.as_mut_ptr(), sent.len()) }
+}
+
+impl Station {
+    pub fn open(mode: u8) -> (u8, Station) {
+        // Safety: it takes a number.
+        let opened = unsafe { cq_station_open(mode) };
+        (opened.answer, opened.station)
+    }
+}
+
+impl Entries for Station {
+    fn open(mode: Mode) -> Station {
+        Station::open(mode.number()).1
+    }
+
+    fn offer(&mut self, text: &[u8]) -> u8 {
+        // Safety: the pointer leads to a station, and the other goes with the length of its slice.
+        unsafe { cq_station_offer(self, text.as_ptr(), text.len()) }
+    }
+
+    fn run(&mut self, heard: &[u8], sent: &mut [u8], words: &mut [u32]) -> Ran {
+        // Safety: the pointer leads to a station, and each other goes with the length of its slice.
+        let ran = unsafe {
+            cq_station_run(
+                self,
+                heard.as_ptr(),
+                heard.len(),
+                sent.as_mut_ptr(),
+                sent.len(),
+                words.as_mut_ptr(),
+                words.len(),
+            )
+        };
+        Ran { answer: ran.answer, words: ran.words }
+    }
 }

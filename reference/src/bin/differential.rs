@@ -1,15 +1,22 @@
-//! Compares the engine with the reference on random conversions and on a calling set's random ms,
-//! refused calls among them. Arguments: number of cases (one sending, one reading and four ms
-//! each), seed. Exit 1 on a difference.
+//! Compares the engine with the reference on random conversions, on a calling set's random ms and
+//! on stations' random calls, refused and damaged ones among them, and checks demand 3 with the
+//! engine as both stations. Arguments: number of cases (one sending, one reading, four ms of the
+//! calling set and 35 ms of stations in each mode), seed. Exit 1 on a difference.
 
 #[path = "../calling_sessions.rs"]
 mod calling_sessions;
+#[path = "../damaged_stations.rs"]
+mod damaged_stations;
 #[path = "../engine.rs"]
 mod engine;
+#[path = "../station_sessions.rs"]
+mod station_sessions;
 
 use reference::annex::{FIGURES, LETTERS};
 use reference::answer::{CHARACTER, CODE, RESULT_SLICE, STATE, SUCCESS};
 use reference::baudot::{self, FRESH, REPEAT};
+use reference::demand3_lists::{check_lists, Summary};
+use reference::mode::Mode;
 use reference::normal::Alphabet;
 use reference::random::Random;
 use std::fmt::Debug;
@@ -60,6 +67,32 @@ fn main() {
         met("read", &reads, [SUCCESS, STATE, RESULT_SLICE, CODE]),
     );
     println!("{}", calling_sessions::compare(&mut random, (4 * cases).max(1_000_000)));
+    println!("{}", station_sessions::compare(&mut random, (30 * cases).max(1_000_000)));
+    println!("{}", damaged_stations::check(&mut random, 10_000));
+    for mode in Mode::ALL {
+        println!("{}", demand_3(mode, seed, (5 * cases as usize).max(500_000)));
+    }
+}
+
+/// Demand 3 on random lists, with the engine as both stations.
+fn demand_3(mode: Mode, seed: u64, ms: usize) -> String {
+    let summary = match check_lists::<engine::Station>(mode, seed, ms) {
+        Ok(summary) => summary,
+        Err(error) => {
+            println!("demand 3: {error}");
+            exit(1);
+        }
+    };
+    let Summary { ms, idle, compared, read, most_before, just_inhibited } = summary;
+    if [idle, compared, read, just_inhibited].contains(&0) {
+        println!("demand 3, mode {}: not tried, {summary:?}", mode.number());
+        exit(1);
+    }
+    format!(
+        "demand 3, mode {}: holds; ms {ms}, idle periods {idle}, ms compared {compared}, characters \
+         read {read}, most before synchronizing {most_before}, just inhibited {just_inhibited}",
+        mode.number()
+    )
 }
 
 /// Every text and every code of one byte, at the ends of the ranges.
