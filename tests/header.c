@@ -1,7 +1,7 @@
 /*
  * Calls all entries through the header: the worked examples, the calling set's timetable, pause and
- * choice, every refusal and what it leaves, empty slices, slices that fit exactly, and the bytes around
- * the result. Prints what failed.
+ * choice, a station that sends to another, every refusal and what it leaves, empty slices, slices that
+ * fit exactly, and the bytes around the result. Prints what failed.
  */
 #include "cuyrapaq.h"
 
@@ -124,6 +124,42 @@ static void layout(void)
     check(offsetof(cq_calling, place) == 2, "place", "cq_calling");
     check(offsetof(cq_calling, tone) == 4, "tone", "cq_calling");
     check(offsetof(cq_calling, choice) == 5, "choice", "cq_calling");
+    check(sizeof(cq_on_line) == 4 && sizeof(cq_sender) == 2 && sizeof(cq_frame) == 2 && sizeof(cq_keys) == 3 &&
+              sizeof(cq_reader) == 7,
+          "sizes", "parts of cq_core");
+    check(sizeof(cq_core) == 20, "size", "cq_core");
+    check(offsetof(cq_core, waiting) == 0, "waiting", "cq_core");
+    check(offsetof(cq_core, silence) == 2, "silence", "cq_core");
+    check(offsetof(cq_core, inhibited) == 4, "inhibited", "cq_core");
+    check(offsetof(cq_core, line) == 6, "line", "cq_core");
+    check(offsetof(cq_on_line, at) == 0 && offsetof(cq_on_line, part) == 2 && offsetof(cq_on_line, code) == 3,
+          "fields", "cq_on_line");
+    check(offsetof(cq_core, sender) == 10, "sender", "cq_core");
+    check(offsetof(cq_sender, shift) == 0 && offsetof(cq_sender, count) == 1, "fields", "cq_sender");
+    check(offsetof(cq_core, reader) == 12, "reader", "cq_core");
+    check(offsetof(cq_reader, frame) == 0 && offsetof(cq_reader, keys) == 2 && offsetof(cq_reader, shift) == 5 &&
+              offsetof(cq_reader, prefix) == 6,
+          "fields", "cq_reader");
+    check(offsetof(cq_frame, place) == 0 && offsetof(cq_frame, digits) == 1, "fields", "cq_frame");
+    check(offsetof(cq_keys, key) == 0 && offsetof(cq_keys, ms) == 1 && offsetof(cq_keys, needed) == 2, "fields",
+          "cq_keys");
+    check(offsetof(cq_core, mode) == 19, "mode", "cq_core");
+    check(sizeof(cq_station) == 276, "size", "cq_station");
+    check(offsetof(cq_station, core) == 0 && offsetof(cq_station, chars) == 20, "fields", "cq_station");
+    check(sizeof(cq_opened) == 278, "size", "cq_opened");
+    check(offsetof(cq_opened, station) == 0 && offsetof(cq_opened, answer) == 276, "fields", "cq_opened");
+    check(sizeof(cq_station_ran) == 16, "size", "cq_station_ran");
+    check(offsetof(cq_station_ran, answer) == 0 && offsetof(cq_station_ran, words) == 8, "fields", "cq_station_ran");
+    check(CQ_MODE_BAUDOT_45 == 1 && CQ_MODE_BAUDOT_50 == 2 && CQ_MODE_DTMF == 3 && CQ_MODE_EDT == 4,
+          "numbers of the modes", "macros");
+    check(CQ_LEVEL_QUIET == 0 && CQ_LEVEL_MARK == 1 && CQ_LEVEL_SPACE == 2 && CQ_KEY_0 == 10 && CQ_KEY_STAR == 11 &&
+              CQ_KEY_HASH == 12 && CQ_KEY_A == 13 && CQ_KEY_B == 14 && CQ_KEY_C == 15 && CQ_KEY_D == 16,
+          "numbers of the levels", "macros");
+    check(CQ_LEVEL_MAX(CQ_MODE_DTMF) == 16 && CQ_LEVEL_MAX(CQ_MODE_EDT) == 2, "CQ_LEVEL_MAX", "macros");
+    check(CQ_STATION_MS_MAX == 4096 && CQ_STATION_WAITING_MAX == 256, "most ms, most waiting", "macros");
+    check(CQ_WORD_KIND(0x41) == CQ_WORD_CHARACTER && CQ_WORD_CHAR(0x41) == 'A' &&
+              CQ_WORD_KIND(0x10000000) == CQ_WORD_FAULT,
+          "words taken apart", "macros");
     check(CQ_OK == 0 && CQ_REFUSED_STATE == 1 && CQ_REFUSED_MODE == 2 && CQ_REFUSED_CHARACTER == 3 &&
               CQ_REFUSED_FULL == 4 && CQ_REFUSED_DURATION == 5 && CQ_REFUSED_HEARD == 6 &&
               CQ_REFUSED_SENT_SLICE == 7 && CQ_REFUSED_WORD_SLICE == 8 && CQ_REFUSED_RESULT_SLICE == 9 &&
@@ -427,8 +463,219 @@ static void calling(void)
     run_refused("12, zeros", bad, tones, 0, 0, CQ_REFUSED_CALLING_STATE);
 }
 
+/* A slice for words with the pattern around it. */
+static uint32_t word_area[GUARD + CQ_STATION_MS_MAX + 1 + GUARD];
+static uint32_t *const word_slice = word_area + GUARD;
+#define WORD_PATTERN(i) (0xF0000000u | (uint32_t)(i))
+
+static void fill_words(void)
+{
+    size_t i;
+    for (i = 0; i < sizeof word_area / sizeof word_area[0]; i++) {
+        word_area[i] = WORD_PATTERN(i);
+    }
+}
+
+static int words_stay(size_t length)
+{
+    size_t i;
+    for (i = 0; i < sizeof word_area / sizeof word_area[0]; i++) {
+        if ((i < GUARD || i >= GUARD + length) && word_area[i] != WORD_PATTERN(i)) {
+            return 0;
+        }
+    }
+    return 1;
+}
+
+/* A station has no padding, so that its bytes are its fields. */
+static int same_station(const cq_station *a, const cq_station *b)
+{
+    return memcmp(a, b, sizeof *a) == 0;
+}
+
+static cq_station opened(uint8_t mode)
+{
+    cq_opened o = cq_station_open(mode);
+    check(o.answer == CQ_OK && o.station.core.mode == mode && o.station.core.waiting == 0, "a fresh station", "open");
+    return o.station;
+}
+
+/* Offers a text that is taken; `waiting` wait then. */
+static void offers(const char *which, cq_station *station, const char *text, size_t length, uint16_t waiting)
+{
+    check(cq_station_offer(station, (const uint8_t *)text, length) == CQ_OK, "an offer is not refused", which);
+    check(station->core.waiting == waiting, "how many wait", which);
+}
+
+/* Hears some ms in one call; what is sent stands in `slice`, the words in `word_slice`. Gives back their count. */
+static size_t runs(const char *which, cq_station *station, const uint8_t *heard, size_t ms)
+{
+    cq_station_ran r;
+    fill();
+    fill_words();
+    r = cq_station_run(station, heard, ms, slice, ms, word_slice, ms);
+    check(r.answer == CQ_OK && r.words <= ms, "a run is not refused", which);
+    check(stays(ms), "bytes around the sent ms stay", which);
+    check(words_stay(r.words), "words around the result stay", which);
+    return r.words;
+}
+
+/* Whether the ms of `slice` from `*at` on have a level; moves behind them. */
+static int level_for(size_t *at, uint8_t level, size_t ms)
+{
+    int all = 1;
+    for (; ms > 0; ms--) {
+        all = all && slice[(*at)++] == level;
+    }
+    return all;
+}
+
+static void offer_refused(const char *which, cq_station station, const uint8_t *text, size_t length, uint8_t answer)
+{
+    cq_station before = station;
+    check(cq_station_offer(&station, text, length) == answer, "refusal of an offer", which);
+    check(same_station(&station, &before), "a refusal leaves the station", which);
+}
+
+static void station_refused(const char *which, cq_station station, const uint8_t *heard, size_t ms, size_t room,
+                            size_t word_room, uint8_t answer)
+{
+    cq_station before = station;
+    cq_station_ran r;
+    fill();
+    fill_words();
+    r = cq_station_run(&station, heard, ms, slice, room, word_slice, word_room);
+    check(r.answer == answer && r.words == 0, "refusal of a run", which);
+    check(stays(0) && words_stay(0), "a refusal leaves the slices", which);
+    check(same_station(&station, &before), "a refusal leaves the station", which);
+}
+
+/* The worked examples of document 01's second group. */
+static void station_examples(void)
+{
+    static uint8_t heard[CQ_STATION_MS_MAX];
+    static char text[CQ_STATION_WAITING_MAX + 1];
+    cq_station station;
+    size_t at = 0;
+
+    memset(text, 'e', sizeof text);
+    station = opened(CQ_MODE_BAUDOT_45);
+    offer_refused("257 characters", station, (const uint8_t *)text, 257, CQ_REFUSED_FULL);
+    offers("256 characters", &station, text, 256, 256);
+    offer_refused("one more than 256", station, (const uint8_t *)text, 1, CQ_REFUSED_FULL);
+
+    /* E: the preamble, 11111 and 00001 (space 22, mark 22, space 88, mark 33). */
+    station = opened(CQ_MODE_BAUDOT_45);
+    offers("E", &station, "E", 1, 1);
+    memset(heard, CQ_LEVEL_QUIET, sizeof heard);
+    check(runs("E", &station, heard, 1000) == 0, "nothing is read", "E");
+    check(level_for(&at, CQ_LEVEL_MARK, 150), "preamble", "E");
+    check(level_for(&at, CQ_LEVEL_SPACE, 22) && level_for(&at, CQ_LEVEL_MARK, 143), "11111", "E");
+    check(level_for(&at, CQ_LEVEL_SPACE, 22) && level_for(&at, CQ_LEVEL_MARK, 22) &&
+              level_for(&at, CQ_LEVEL_SPACE, 88) && level_for(&at, CQ_LEVEL_MARK, 33),
+          "00001", "E");
+    check(level_for(&at, CQ_LEVEL_QUIET, 1000 - at), "quiet behind it", "E");
+    check(station.core.waiting == 0, "none waits", "E");
+
+    /* b is key 1, the colon **4. */
+    station = opened(CQ_MODE_DTMF);
+    offers("b:", &station, "b:", 2, 2);
+    runs("b:", &station, heard, 600);
+    at = 0;
+    check(level_for(&at, 1, 70) && level_for(&at, CQ_LEVEL_QUIET, 50), "b", "b:");
+    check(level_for(&at, CQ_KEY_STAR, 70) && level_for(&at, CQ_LEVEL_QUIET, 50) && level_for(&at, CQ_KEY_STAR, 70) &&
+              level_for(&at, CQ_LEVEL_QUIET, 50) && level_for(&at, 4, 70) && level_for(&at, CQ_LEVEL_QUIET, 170),
+          "colon", "b:");
+
+    /* A key of 39 ms is not heard, one of 40 is. */
+    station = opened(CQ_MODE_DTMF);
+    memset(heard, 1, 39);
+    check(runs("39 ms", &station, heard, 100) == 0, "a key of 39 ms", "DTMF");
+    memset(heard, 1, 40);
+    check(runs("40 ms", &station, heard, 100) == 1 && word_slice[0] == 'b', "a key of 40 ms", "DTMF");
+    memset(heard, CQ_KEY_A, 40);
+    check(runs("key A", &station, heard, 100) == 1 && CQ_WORD_KIND(word_slice[0]) == CQ_WORD_FAULT, "a fault", "DTMF");
+}
+
+/* A text goes from one station to another, in calls of `cut` ms, while each hears what the other sends. */
+static void conversation(uint8_t mode, size_t cut)
+{
+    static const char text[] = "TOO 599 EE";
+    static uint8_t line[CQ_STATION_MS_MAX];
+    char read[16];
+    cq_station a = opened(mode), b = opened(mode);
+    size_t i, n, count = 0, ms;
+
+    memset(line, CQ_LEVEL_QUIET, sizeof line);
+    offers("conversation", &a, text, 10, 10);
+    for (ms = 0; ms < 8000; ms += cut) {
+        check(runs("conversation", &a, line, cut) == 0, "the sender reads nothing", "conversation");
+        memcpy(line, slice, cut);
+        n = runs("conversation", &b, line, cut);
+        for (i = 0; i < n && count < sizeof read; i++) {
+            check(CQ_WORD_KIND(word_slice[i]) == CQ_WORD_CHARACTER, "no fault", "conversation");
+            read[count++] = (char)CQ_WORD_CHAR(word_slice[i]);
+        }
+        memcpy(line, slice, cut);
+    }
+    /* In DTMF these capitals are read as small letters. */
+    check(count == 10, "number of characters read", "conversation");
+    check(memcmp(read, mode == CQ_MODE_DTMF ? "too 599 ee" : text, 10) == 0, "characters read", "conversation");
+    check(a.core.waiting == 0 && b.core.waiting == 0, "none waits", "conversation");
+}
+
+static void station_refusals(void)
+{
+    static uint8_t heard[CQ_STATION_MS_MAX + 1];
+    static const uint8_t above[] = {'E', 128};
+    uint8_t mode, numbers[] = {0, 5, 255};
+    size_t i;
+    for (i = 0; i < sizeof numbers; i++) {
+        cq_opened o = cq_station_open(numbers[i]);
+        cq_station first = opened(CQ_MODE_BAUDOT_45);
+        check(o.answer == CQ_REFUSED_MODE, "a mode that is none", "open");
+        check(same_station(&o.station, &first), "a fresh station of mode 1", "open");
+    }
+    for (mode = CQ_MODE_BAUDOT_45; mode <= CQ_MODE_EDT; mode++) {
+        cq_station station = opened(mode), bad;
+        offers("waiting", &station, "e", 1, 1);
+        memset(heard, CQ_LEVEL_QUIET, sizeof heard);
+        offer_refused("3", station, above, 2, CQ_REFUSED_CHARACTER);
+        station_refused("5", station, heard, CQ_STATION_MS_MAX + 1, ROOM, CQ_STATION_MS_MAX + 1, CQ_REFUSED_DURATION);
+        station_refused("7", station, heard, 10, 9, 10, CQ_REFUSED_SENT_SLICE);
+        station_refused("7 ahead of 8", station, heard, 10, 9, 0, CQ_REFUSED_SENT_SLICE);
+        station_refused("8", station, heard, 10, 10, 9, CQ_REFUSED_WORD_SLICE);
+        heard[9] = (uint8_t)(CQ_LEVEL_MAX(mode) + 1);
+        station_refused("6", station, heard, 10, 10, 10, CQ_REFUSED_HEARD);
+        station_refused("6 ahead of 7", station, heard, 10, 0, 0, CQ_REFUSED_HEARD);
+        station_refused("5 ahead of 6", station, heard, CQ_STATION_MS_MAX + 1, 0, 0, CQ_REFUSED_DURATION);
+        bad = station;
+        bad.core.silence = 301;
+        offer_refused("1, silence", bad, above, 2, CQ_REFUSED_STATE);
+        station_refused("1, silence", bad, heard, CQ_STATION_MS_MAX + 1, 0, 0, CQ_REFUSED_STATE);
+        bad = station;
+        bad.core.waiting = 257;
+        offer_refused("1, waiting", bad, above, 0, CQ_REFUSED_STATE);
+        bad = station;
+        bad.chars[0] = 128;
+        station_refused("1, characters", bad, heard, 1, 1, 1, CQ_REFUSED_STATE);
+        bad = station;
+        bad.core.reader.shift = 0;
+        station_refused("1, shift", bad, heard, 0, 0, 0, CQ_REFUSED_STATE);
+        memset(&bad, 0, sizeof bad);
+        offer_refused("1, zeros", bad, above, 0, CQ_REFUSED_STATE);
+        station_refused("1, zeros", bad, heard, 0, 0, 0, CQ_REFUSED_STATE);
+        /* No ms and no text are taken. */
+        offers("no text", &station, "", 0, 1);
+        check(runs("no ms", &station, heard, 0) == 0, "no words", "no ms");
+        heard[9] = CQ_LEVEL_QUIET;
+        check(runs("most ms", &station, heard, CQ_STATION_MS_MAX) == 0, "no words", "most ms");
+    }
+}
+
 int main(void)
 {
+    uint8_t mode;
     layout();
     examples();
     continued();
@@ -437,6 +684,13 @@ int main(void)
     refusals();
     whole_and_cut();
     calling();
+    station_examples();
+    for (mode = CQ_MODE_BAUDOT_45; mode <= CQ_MODE_EDT; mode++) {
+        conversation(mode, 1);
+        conversation(mode, 20);
+        conversation(mode, 1000);
+    }
+    station_refusals();
     if (failures != 0) {
         printf("header: %lu of %lu checks failed\n", failures, checks);
         return 1;

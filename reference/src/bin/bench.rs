@@ -1,15 +1,20 @@
 //! Speed of the engine and of the reference, side by side: millions of characters (sending), codes
-//! (reading) or ms (calling set) a second, the best of several rounds in which the two alternate.
+//! (reading) or ms (calling set) a second and ns a ms (stations), the best of several rounds in
+//! which the two alternate; a ratio above 1 says that the engine is faster. Then sizes.
 
 #[path = "../engine.rs"]
 mod engine;
+#[path = "../station_bench.rs"]
+mod station_bench;
 
 use reference::annex::LETTERS;
 use reference::answer::SUCCESS;
 use reference::baudot::{self, FRESH};
-use reference::calling::{Set, MOST};
+use reference::calling::{Set, State, MOST};
 use reference::random::Random;
+use reference::station::Station;
 use std::hint::black_box;
+use std::process::Command;
 use std::time::Instant;
 
 const LENGTH: usize = 1 << 16;
@@ -37,6 +42,47 @@ fn main() {
     let mut chosen = vec![0; LENGTH];
     chosen[0] = 1;
     calling_row("calling set, choice made", &chosen);
+    station_bench::rows(&mut random);
+    station_bench::calls(&mut random);
+    sizes();
+}
+
+/// Bytes of each state, and of the code and the constants of each library.
+fn sizes() {
+    println!("\n{:<42} {:>8} {:>10}", "bytes of a state", "engine", "reference");
+    let row = |name: &str, engine: usize, reference: usize| {
+        println!("{name:<42} {engine:>8} {reference:>10}");
+    };
+    row("station", size_of::<engine::Station>(), size_of::<Station>());
+    row("calling set", size_of::<State>(), size_of::<Set>());
+    println!("\n{:<42} {:>8} {:>10}  called", "bytes of a library", "code", "constants");
+    for name in ["cuyrapaq", "baudot", "calling"] {
+        let library = format!("{}/lib{name}.a", env!("CQ_LIB_DIR"));
+        let [size, symbols] = [["size", "-A"], ["nm", "-u"]].map(|[tool, option]| {
+            let output = Command::new(tool).args([option, &library]).output();
+            output.map(|output| String::from_utf8_lossy(&output.stdout).into_owned())
+        });
+        let (Ok(size), Ok(symbols)) = (size, symbols) else {
+            println!("lib{name}.a: size and nm are not there");
+            continue;
+        };
+        let of = |sections: &[&str]| -> usize {
+            let mut columns = size.lines().map(|line| line.split_whitespace());
+            let named = |name: &str| sections.iter().any(|section| name.starts_with(section));
+            columns
+                .by_ref()
+                .filter(|line| line.clone().next().is_some_and(named))
+                .filter_map(|mut line| line.nth(1)?.parse::<usize>().ok())
+                .sum()
+        };
+        let mut called: Vec<_> =
+            symbols.lines().filter_map(|line| line.trim().strip_prefix("U ")).collect();
+        called.sort();
+        called.dedup();
+        let called = if called.is_empty() { "nothing".into() } else { called.join(" ") };
+        let (code, constants) = (of(&[".text"]), of(&[".rodata", ".data", ".bss"]));
+        println!("{:<42} {code:>8} {constants:>10}  {called}", format!("lib{name}.a"));
+    }
 }
 
 /// Tones that must last more than 1 ms, for a few ms each.

@@ -1,0 +1,148 @@
+//! Stations of the engine and of the reference, side by side: ns a ms, and the first and the
+//! millionth call. Part of `bench`.
+
+use crate::engine;
+use reference::answer::SUCCESS;
+use reference::demand3::Entries;
+use reference::line::{preamble, signal, text_codes, QUIET};
+use reference::mode::Mode;
+use reference::random::Random;
+use reference::station::{Station, MOST_MS, MOST_WAITING};
+use std::hint::black_box;
+use std::time::Instant;
+
+/// The ms of a pass; 256 waiting characters take longer in every mode.
+const LENGTH: usize = 4 * MOST_MS;
+const PASSES: usize = 12;
+const ROUNDS: usize = 15;
+
+/// The ms of a short call.
+const SHORT: usize = 20;
+
+/// What a station has to do: the text it was offered, and what it hears.
+struct Work {
+    name: &'static str,
+    mode: Mode,
+    text: Vec<u8>,
+    heard: Vec<u8>,
+}
+
+fn works(random: &mut Random, mode: Mode) -> [Work; 4] {
+    let work = |name, text, heard| Work { name, mode, text, heard };
+    let mut reading = preamble(mode);
+    while reading.len() < LENGTH {
+        for code in text_codes(mode, &random.english(100)) {
+            reading.extend(signal(mode, &code));
+        }
+    }
+    reading.truncate(LENGTH);
+    // English without the characters that send nothing in the mode.
+    let mut text = random.english(2 * MOST_WAITING);
+    text.retain(|&character| mode.alphabet().normal(character).is_some());
+    text.truncate(MOST_WAITING);
+    let noise = random.uniform(LENGTH, usize::from(mode.highest_level()) + 1);
+    let none = Vec::new;
+    [
+        work("idle", none(), vec![QUIET; LENGTH]),
+        work("sending", text, vec![QUIET; LENGTH]),
+        work("reading", none(), reading),
+        work("noise", none(), noise),
+    ]
+}
+
+/// A row for each mode, work and length of a call.
+pub fn rows(random: &mut Random) {
+    println!("\n{:<42} {:>8} {:>10} {:>6}", "station, ns a ms", "engine", "reference", "ratio");
+    for mode in Mode::ALL {
+        for work in works(random, mode) {
+            for call in [MOST_MS, SHORT] {
+                let [engine, reference] = ns(&work, call);
+                let name = format!("mode {}, {}, calls of {call} ms", mode.number(), work.name);
+                println!("{name:<42} {engine:>8.2} {reference:>10.2} {:>6.2}", reference / engine);
+            }
+        }
+    }
+}
+
+/// The ns a ms of the engine and of the reference.
+fn ns(work: &Work, call: usize) -> [f64; 2] {
+    let (mut engine, mut reference) =
+        (Pass::<engine::Station>::new(work), Pass::<Station>::new(work));
+    let mut best = [f64::INFINITY; 2];
+    for _ in 0..ROUNDS {
+        best[0] = best[0].min(engine.time(work, call));
+        best[1] = best[1].min(reference.time(work, call));
+    }
+    let same = (engine.sent, engine.words, engine.count)
+        == (reference.sent, reference.words, reference.count);
+    assert!(same, "the two differ");
+    best
+}
+
+/// A station before a pass, and what the pass gives.
+struct Pass<S> {
+    station: S,
+    sent: Vec<u8>,
+    words: Vec<u32>,
+    count: usize,
+}
+
+impl<S: Entries> Pass<S> {
+    fn new(work: &Work) -> Pass<S> {
+        let mut station = S::open(work.mode);
+        assert_eq!(station.offer(&work.text), SUCCESS);
+        Pass { station, sent: vec![0; LENGTH], words: vec![0; LENGTH], count: 0 }
+    }
+
+    /// The ns a ms of some passes.
+    fn time(&mut self, work: &Work, call: usize) -> f64 {
+        let start = Instant::now();
+        for _ in 0..PASSES {
+            let mut station = black_box(&self.station).clone();
+            self.count = 0;
+            let calls = black_box(&work.heard).chunks(call).zip(self.sent.chunks_mut(call));
+            for (heard, sent) in calls {
+                let ran = station.run(heard, sent, &mut self.words[self.count..]);
+                assert_eq!(ran.answer, SUCCESS);
+                self.count += ran.words;
+            }
+            black_box(&station);
+        }
+        start.elapsed().as_secs_f64() * 1e9 / (PASSES * LENGTH) as f64
+    }
+}
+
+/// The first and the millionth call of a station that reads, and the mean of the first and of the
+/// last thousand.
+pub fn calls(random: &mut Random) {
+    const CALLS: usize = 1_000_000;
+    let name = format!("station, ns a call of {SHORT} ms");
+    println!("\n{name:<42} {:>8} {:>10}", "engine", "reference");
+    let work = &works(random, Mode::Baudot45)[2];
+    let (engine, reference) =
+        (call_times::<engine::Station>(work, CALLS), call_times::<Station>(work, CALLS));
+    let mean = |ns: &[u32]| ns.iter().sum::<u32>() / ns.len() as u32;
+    for (name, of) in [
+        ("first", &(|ns: &[u32]| ns[0]) as &dyn Fn(&[u32]) -> u32),
+        ("millionth", &|ns| ns[CALLS - 1]),
+        ("mean of the first thousand", &|ns| mean(&ns[..1000])),
+        ("mean of the last thousand", &|ns| mean(&ns[CALLS - 1000..])),
+    ] {
+        println!("{name:<42} {:>8} {:>10}", of(&engine), of(&reference));
+    }
+}
+
+/// The ns of each call of a list.
+fn call_times<S: Entries>(work: &Work, calls: usize) -> Vec<u32> {
+    let mut station = S::open(work.mode);
+    let (mut sent, mut words) = ([0; SHORT], [0; SHORT]);
+    let heard = work.heard.chunks_exact(SHORT).cycle().take(calls);
+    let time = |heard| {
+        let start = Instant::now();
+        let ran = black_box(&mut station).run(heard, &mut sent, &mut words);
+        let ns = start.elapsed().as_nanos() as u32;
+        assert_eq!(ran.answer, SUCCESS);
+        ns
+    };
+    heard.map(time).collect()
+}
