@@ -1,7 +1,7 @@
 # make demo      lists the Baudot codes of a line of text; another line: make demo TEXT='GA TO YOU'
 # make test      the gate: every proof and every test, from nothing
-# make lib       target/staticlib/libbaudot.a and libcalling.a, for hosts in C
-# make bench     speed of the engine beside the reference
+# make lib       libcuyrapaq.a, libbaudot.a and libcalling.a in target/staticlib, for hosts in C
+# make bench     speed and sizes of the engine beside the reference
 # make vectors   rewrites the expected output of the test programs from the reference
 #
 # Needs rt, gcc and cargo, and no network. No target needs another one first.
@@ -24,6 +24,7 @@ test:
 	.ci/run
 
 lib:
+	rt staticlib cuyrapaq
 	rt staticlib baudot
 	rt staticlib calling
 
@@ -32,9 +33,11 @@ bench: lib
 	target/cargo/release/bench
 
 vectors:
-	$(CARGO_BUILD) --bin tables --bin calling_tables --bin line_signals --bin line_words
+	$(CARGO_BUILD) --bin tables --bin calling_tables --bin line_signals --bin line_words --bin station_calls
 	target/cargo/release/tables >target/vectors && cp target/vectors crates/alphabet_tables/stdout
 	target/cargo/release/calling_tables >target/vectors && cp target/vectors crates/calling_tables/stdout
 	target/cargo/release/line_signals >target/vectors && cp target/vectors crates/line_signals/stdout
 	target/cargo/release/line_words input >target/vectors && cp target/vectors crates/line_words/stdin
 	target/cargo/release/line_words words <crates/line_words/stdin >target/vectors && cp target/vectors crates/line_words/stdout
+	target/cargo/release/station_calls input >target/vectors && cp target/vectors crates/station_calls/stdin
+	target/cargo/release/station_calls answers <crates/station_calls/stdin >target/vectors && cp target/vectors crates/station_calls/stdout

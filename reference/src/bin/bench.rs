@@ -13,6 +13,7 @@ use reference::baudot::{self, FRESH};
 use reference::calling::{Set, State, MOST};
 use reference::random::Random;
 use reference::station::Station;
+use std::collections::BTreeSet;
 use std::hint::black_box;
 use std::process::Command;
 use std::time::Instant;
@@ -58,7 +59,7 @@ fn sizes() {
     println!("\n{:<42} {:>8} {:>10}  called", "bytes of a library", "code", "constants");
     for name in ["cuyrapaq", "baudot", "calling"] {
         let library = format!("{}/lib{name}.a", env!("CQ_LIB_DIR"));
-        let [size, symbols] = [["size", "-A"], ["nm", "-u"]].map(|[tool, option]| {
+        let [size, symbols] = [["size", "-A"], ["nm", "-P"]].map(|[tool, option]| {
             let output = Command::new(tool).args([option, &library]).output();
             output.map(|output| String::from_utf8_lossy(&output.stdout).into_owned())
         });
@@ -75,10 +76,17 @@ fn sizes() {
                 .filter_map(|mut line| line.nth(1)?.parse::<usize>().ok())
                 .sum()
         };
-        let mut called: Vec<_> =
-            symbols.lines().filter_map(|line| line.trim().strip_prefix("U ")).collect();
-        called.sort();
-        called.dedup();
+        let (undefined, defined): (BTreeSet<_>, BTreeSet<_>) = symbols.lines().fold(
+            Default::default(),
+            |(mut undefined, mut defined), line| {
+                let mut columns = line.split_whitespace();
+                if let (Some(name), Some(kind)) = (columns.next(), columns.next()) {
+                    if kind == "U" { &mut undefined } else { &mut defined }.insert(name);
+                }
+                (undefined, defined)
+            },
+        );
+        let called: Vec<_> = undefined.difference(&defined).copied().collect();
         let called = if called.is_empty() { "nothing".into() } else { called.join(" ") };
         let (code, constants) = (of(&[".text"]), of(&[".rodata", ".data", ".bss"]));
         println!("{:<42} {code:>8} {constants:>10}  {called}", format!("lib{name}.a"));
