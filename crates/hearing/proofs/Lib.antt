@@ -1,1 +1,4 @@
 pub mod Fold
+pub mod Searching
+pub mod Passing
+pub mod Keying

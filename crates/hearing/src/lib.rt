@@ -11,6 +11,9 @@ ghost use Rattle.line.specs.Range.{ReaderIn};
 ghost use Rattle.line.specs.Words.{readerAfter, words as wordsHeard};
 ghost use Rattle.hearing.specs.Skipping.{Skips};
 
+pub mod runs;
+pub mod skipping;
+
 // A reader after some ms, and the place behind their words.
 pub struct Heard {
     pub reader: Reader,
@@ -23,13 +26,17 @@ pub struct Skipped {
     pub to: usize,
 }
 
-// The ms from a place on that end in nothing.
+// The ms from a place on that end in nothing, as far as they are skipped.
 fn skip(mode: Mode, r: Reader, heard: &[u8], i: usize) -> Skipped
     requires { ⌜ ReaderIn mode r ⌝ }
+    requires { ⌜ allAtMost 16 (now heard) ≡ true ⌝ }
     requires { ⌜ i ≤ length (now heard) ⌝ }
     ensures { λ s. ⌜ Skips mode (now (heard .entry)) r i s ⌝ }
 {
-    Skipped { reader: r, to: i }
+    let Mode::Dtmf = mode else {
+        return skipping::skip_frame(mode, r, heard, i);
+    };
+    skipping::skip_keys(r, heard, i)
 }
 
 // The ms of a list, one after the other.

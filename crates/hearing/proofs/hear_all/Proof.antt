@@ -24,7 +24,7 @@ abbrev μ-loop : tie.MeasureT-loop
 μ-loop mode heard words₀ at reader₀ i₀ n₀ words reader i n = length heard - i
 
 skip-requires : tie.Need-skip-requires Inv-loop μ-loop
-skip-requires c κs = search needs
+skip-requires c κs = let p = c .before .before .pre in (p .0, (p .1 .0, omega arith))
 
 loop-holds : tie.Need-loop-holds Inv-loop μ-loop
 loop-holds c =
@@ -53,7 +53,7 @@ skip-requires-2 c κs =
     let h = c .before .before .before .before .before .before .before .loop-test .taken in
     let s = c .before .before .before .before .before .before .before .before .before .before .before .before .before in
     let x = at-most-at 16 (s .args .heard .now) (s .pre .1 .0) (l .loop .i) h in
-    (rw (c .before .before .before .before .before .hear .ensures) (hear-in _ _ _ x (l .loop .inv .in-range)), omega arith)
+    (rw (c .before .before .before .before .before .hear .ensures) (hear-in _ _ _ x (l .loop .inv .in-range)), (s .pre .1 .0, omega arith))
 
 loop-less : tie.Need-loop-less Inv-loop μ-loop
 loop-less c =

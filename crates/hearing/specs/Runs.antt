@@ -1,0 +1,22 @@
+-- Places of a list.
+use Prim.Native.Nat.{ℕ, _+_, _≤_, _<_}
+use mathlib.Core.Path.{_≡_}
+use mathlib.Core.List.{List}
+use lib.ListN.{getD}
+
+-- Up to a place, a level does not stand; up to a place, no other does.
+pub record Until (heard : List ℕ) (from end level to : ℕ) : Type 0 where
+  pub low : from ≤ to
+  pub high : to ≤ end
+  pub others : (k : ℕ) → from ≤ k → k < to → getD heard k 0 ≡ level → ⊥
+
+pub record Through (heard : List ℕ) (from end level to : ℕ) : Type 0 where
+  pub low : from ≤ to
+  pub high : to ≤ end
+  pub same : (k : ℕ) → from ≤ k → k < to → getD heard k 0 ≡ level
+
+-- At most so many places on.
+pub record UpTo (i most len to : ℕ) : Type 0 where
+  pub low : i ≤ to
+  pub high : to ≤ len
+  pub few : to ≤ i + most

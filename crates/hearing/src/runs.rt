@@ -1,0 +1,47 @@
+// Places of a list of ms.
+ghost use Prim.Native.Nat.{_≤_};
+ghost use lib.ListN.{length};
+ghost use Rattle.hearing.specs.Runs.{Until, Through, UpTo};
+
+// The first place of a level, from a place to another; the end if it has none.
+pub fn until(heard: &[u8], from: usize, end: usize, level: u8) -> usize
+    requires { ⌜ from ≤ end ⌝ }
+    requires { ⌜ end ≤ length (now heard) ⌝ }
+    ensures { λ r. ⌜ Until (now (heard .entry)) from end level r ⌝ }
+{
+    let mut i = from;
+    while i < end {
+        if heard[i] == level {
+            return i;
+        }
+        i += 1;
+    }
+    i
+}
+
+// The first place of another level.
+pub fn through(heard: &[u8], from: usize, end: usize, level: u8) -> usize
+    requires { ⌜ from ≤ end ⌝ }
+    requires { ⌜ end ≤ length (now heard) ⌝ }
+    ensures { λ r. ⌜ Through (now (heard .entry)) from end level r ⌝ }
+{
+    let mut i = from;
+    while i < end {
+        if heard[i] != level {
+            return i;
+        }
+        i += 1;
+    }
+    i
+}
+
+// Some places on, at most up to the end.
+pub fn up_to(i: usize, most: usize, len: usize) -> usize
+    requires { ⌜ i ≤ len ⌝ }
+    ensures { λ r. ⌜ UpTo i most len r ⌝ }
+{
+    if len - i < most {
+        return len;
+    }
+    i + most
+}

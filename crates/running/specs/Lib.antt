@@ -1,2 +1,0 @@
-pub mod Cores
-pub mod Stretches

@@ -1,0 +1,195 @@
+-- What the functions on cores need of the definitions.
+use mathlib.Core.Path.{_≡_, _∙_, refl, sym, ap}
+use mathlib.Core.Bool.{Bool, true, false, cond}
+use mathlib.Core.List.{List, [], _∷_, _++_}
+use Prim.Native.Nat.{ℕ, zero, suc, _+_, _-_, _≤_, _<_}
+use native.Mathlib.Omega.{arith}
+use lib.Dec.{eqb, leb, ltb}
+use lib.ListN.{length, getD, take, length-replicate}
+use lib.Seq.{take-suc, take-all}
+use borrow.Author.Tests.{eq-eqb, ne-eqb, eqb-true, lt-ltb, le-ltb, le-leb, ltb-true, ltb-false}
+use Rattle.lists.specs.Steps.{stateAfter}
+use Rattle.lists.proofs.Steps.{after-append}
+use Rattle.alphabet.specs.declared.Mode.{Mode}
+use Rattle.alphabet.specs.declared.Mode.the-variants.{Baudot45, Baudot50, Dtmf, Edt}
+use Rattle.alphabet.specs.declared.Alphabet.{Alphabet}
+use Rattle.alphabet.specs.declared.Alphabet.the-variants as alphabet
+use Rattle.alphabet.specs.Modes.{alphabetOf, preambleOf}
+use Rattle.alphabet.specs.Packing.{codes}
+use Rattle.signal.specs.Signal.{signal, preamble}
+use Rattle.signal.specs.Packing.{longest}
+use Rattle.frames.specs.Frames.{hunting}
+use Rattle.keys.specs.Keys.{needs}
+use Rattle.line.specs.declared.Reader.{Reader}
+use Rattle.line.specs.Reader.{reader}
+use Rattle.access.specs.declared.OnLine.{OnLine}
+use Rattle.access.specs.Rules.{mayBegin, isSilent}
+use Rattle.access.specs.Line.{onLine, isCode, inBurst, partMs, isOver, levelOn}
+use Rattle.access.specs.Core.{silenceAfter}
+use Rattle.access.specs.Range.{LineIn}
+use Rattle.access.proofs.Laws.{within}
+use Rattle.stretching.specs.Cores.{silenceFor, silenceNext, silenceOver, deafReader, burstLeft}
+
+-- ---- silence
+
+module _ (s n : ℕ) where
+  pub silence-full : 300 ≤ s + n → silenceFor s n ≡ 300
+  silence-full h = rw (le-ltb (s + n) 300 h) refl
+
+  pub silence-sum : s + n < 300 → silenceFor s n ≡ s + n
+  silence-sum h = rw (lt-ltb (s + n) 300 h) refl
+
+pub silence-none : (s : ℕ) → s ≤ 300 → silenceFor s 0 ≡ s
+silence-none s h = go (ltb (s + 0) 300) refl
+  where
+    go : (a : Bool) → ltb (s + 0) 300 ≡ a → cond a (s + 0) 300 ≡ s
+    go true e = omega arith
+    go false e = let g = ltb-false (s + 0) 300 e in omega arith
+
+after-in : (silent : Bool) (s : ℕ) → s ≤ 300 → silenceAfter silent s ≤ 300
+unfolding silenceAfter
+after-in false s h = omega arith
+after-in true s h = go (ltb s 300) refl
+  where
+    go : (b : Bool) → ltb s 300 ≡ b → cond b (s + 1) s ≤ 300
+    go true e = let l = ltb-true s 300 e in omega arith
+    go false e = h
+
+over-in : (s : ℕ) (xs : List ℕ) → s ≤ 300 → silenceOver s xs ≤ 300
+unfolding stateAfter
+over-in s [] h = h
+over-in s (x ∷ xs) h = over-in (silenceNext s x) xs (after-in (isSilent false x) s h)
+
+silence-shift : (s n : ℕ) → s ≤ 300 → silenceFor (silenceAfter true s) n ≡ silenceFor s (n + 1)
+unfolding silenceAfter
+silence-shift s n h = go (ltb s 300) refl
+  where
+    go : (b : Bool) → ltb s 300 ≡ b → silenceFor (cond b (s + 1) s) n ≡ silenceFor s (n + 1)
+    go true e = let z : s + 1 + n ≡ s + (n + 1) = omega arith in ap (λ (m : ℕ). cond (ltb m 300) m 300) z
+    go false e = let l = ltb-false s 300 e in silence-full s n (omega arith) ∙ sym (silence-full s (n + 1) (omega arith))
+
+-- the last ms of a list
+over-last : (s : ℕ) (xs : List ℕ) (j : ℕ) → j < length xs → silenceOver s (take (suc j) xs) ≡ silenceNext (silenceOver s (take j xs)) (getD xs j 0)
+unfolding stateAfter
+over-last s xs j h = ap (silenceOver s) (take-suc xs j 0 h) ∙ after-append silenceNext (λ (t x : ℕ). t) s (take j xs) (getD xs j 0 ∷ [])
+
+-- The n last ms of a list are quiet, and so many are left before them.
+pub record Tail (heard : List ℕ) (silence left n : ℕ) : Type 0 where
+  pub all : left + n ≡ length heard
+  pub few : n ≤ 300
+  pub silent : silenceFor (silenceOver silence (take left heard)) n ≡ silenceOver silence heard
+
+module _ (heard : List ℕ) (silence : ℕ) (h : silence ≤ 300) where
+  pub tail-start : Tail heard silence (length heard) 0
+  tail-start = record {
+    all = omega arith;
+    few = omega arith;
+    silent = silence-none (silenceOver silence (take (length heard) heard)) (over-in silence (take (length heard) heard) h) ∙ ap (silenceOver silence) (take-all (length heard) heard (omega arith));
+  }
+
+  module _ (left n : ℕ) (t : Tail heard silence left n) where
+    pub tail-free : n ≡ 300 → 300 ≡ silenceOver silence heard
+    tail-free e = sym (silence-full (silenceOver silence (take left heard)) n (omega arith)) ∙ t .silent
+
+    tail-last : 0 < left → silenceOver silence (take left heard) ≡ silenceNext (silenceOver silence (take (left - 1) heard)) (getD heard (left - 1) 0)
+    tail-last o =
+        let a = t .all in
+        let e : left ≡ suc (left - 1) = omega arith in
+        ap (λ (m : ℕ). silenceOver silence (take m heard)) e ∙ over-last silence heard (left - 1) (omega arith)
+
+    pub tail-signal : 0 < left → (n ≡ 300 → ⊥) → (getD heard (left - 1) 0 ≡ 0 → ⊥) → n ≡ silenceOver silence heard
+    unfolding silenceAfter
+    tail-signal o f g =
+        let few = t .few in
+        let z : silenceOver silence (take left heard) ≡ 0 = tail-last o ∙ (rw (ne-eqb (getD heard (left - 1) 0) 0 g) refl) in
+        let s = silence-sum 0 n (omega arith) in
+        (omega arith) ∙ sym s ∙ sym (ap (λ (m : ℕ). silenceFor m n) z) ∙ t .silent
+
+    pub tail-quiet : 0 < left → (n ≡ 300 → ⊥) → getD heard (left - 1) 0 ≡ 0 → Tail heard silence (left - 1) (n + 1)
+    tail-quiet o f g =
+        let all = t .all in
+        let few = t .few in
+        let u = silenceOver silence (take (left - 1) heard) in
+        let z : silenceOver silence (take left heard) ≡ silenceAfter true u = tail-last o ∙ (rw g refl) in
+        record {
+          all = omega arith;
+          few = omega arith;
+          silent = sym (silence-shift u n (over-in silence (take (left - 1) heard) h)) ∙ sym (ap (λ (m : ℕ). silenceFor m n) z) ∙ t .silent;
+        }
+
+    pub tail-end : left ≤ 0 → silenceFor silence n ≡ silenceOver silence heard
+    unfolding stateAfter
+    tail-end o = let e : left ≡ 0 = omega arith in sym (ap (λ (m : ℕ). silenceFor (silenceOver silence (take m heard)) n) e) ∙ t .silent
+
+-- no burst may begin while characters wait: the line is not free
+pub not-free : (waiting silence : ℕ) → mayBegin waiting silence ≡ false → (waiting ≡ 0 → ⊥) → silence < 300
+unfolding mayBegin
+not-free waiting silence e n = go (ltb silence 300) refl
+  where
+    go : (b : Bool) → ltb silence 300 ≡ b → silence < 300
+    go true f = ltb-true silence 300 f
+    go false f =
+        let z : _≡_ {A = Bool} true false = sym (rw (lt-ltb 0 waiting (omega arith), le-leb 300 silence (ltb-false silence 300 f)) refl) ∙ e in
+        let y : _≡_ {A = ℕ} 0 1 = cc in
+        absurd (omega arith)
+
+-- ---- readers
+
+pub deaf-some : (r : Reader) (n : ℕ) → 1 ≤ n → reader hunting (needs (r .keys .needed - n)) (r .shift) (r .prefix) ≡ deafReader r n
+unfolding deafReader
+deaf-some r zero h = absurd (omega arith)
+deaf-some r (suc n) h = refl
+
+pub burst-some : (i n : ℕ) → 1 ≤ n → 300 ≡ burstLeft i n
+unfolding burstLeft
+burst-some i zero h = absurd (omega arith)
+burst-some i (suc n) h = refl
+
+-- ---- parts
+
+few-codes : (a : Alphabet) → codes a ≤ 256
+few-codes alphabet.Baudot = omega arith
+few-codes alphabet.Dtmf = omega arith
+few-codes alphabet.Edt = omega arith
+
+longest-480 : (mode : Mode) → longest mode ≤ 480
+longest-480 Baudot45 = omega arith
+longest-480 Baudot50 = omega arith
+longest-480 Dtmf = omega arith
+longest-480 Edt = omega arith
+
+preamble-480 : (mode : Mode) → preambleOf mode ≤ 480
+preamble-480 Baudot45 = omega arith
+preamble-480 Baudot50 = omega arith
+preamble-480 Dtmf = omega arith
+preamble-480 Edt = omega arith
+
+-- no part is longer than four keys
+pub part-most : (mode : Mode) (l : OnLine) → LineIn mode l → length (partMs mode l) ≤ 480
+unfolding partMs
+part-most mode l i =
+    let f = few-codes (alphabetOf mode) in
+    let k = i .code-in in
+    let a = within mode (l .code) (omega arith) in
+    let b = longest-480 mode in
+    let p = length-replicate {A = ℕ} (preambleOf mode) 1 in
+    let q = preamble-480 mode in
+    go (isCode l) (inBurst l) (omega arith) (omega arith)
+  where
+    go : (a b : Bool) → length (signal mode (l .code)) ≤ 480 → length (preamble mode) ≤ 480 → length (cond a (signal mode (l .code)) (cond b (preamble mode) [])) ≤ 480
+    go true b p q = p
+    go false true p q = q
+    go false false p q = omega arith
+
+module _ (mode : Mode) (l : OnLine) where
+  -- a part that is not over has a ms left
+  pub has-more : inBurst l ≡ true → isOver mode l ≡ false → l .at < length (partMs mode l)
+  unfolding isOver
+  has-more b f = go (ltb (l .at) (length (partMs mode l))) refl
+    where
+      go : (t : Bool) → ltb (l .at) (length (partMs mode l)) ≡ t → l .at < length (partMs mode l)
+      go true e = ltb-true (l .at) (length (partMs mode l)) e
+      go false e =
+          let z : _≡_ {A = Bool} true false = sym (rw (b, le-leb (length (partMs mode l)) (l .at) (ltb-false (l .at) (length (partMs mode l)) e)) refl) ∙ f in
+          let y : _≡_ {A = ℕ} 0 1 = cc in
+          absurd (omega arith)

@@ -1,0 +1,181 @@
+-- A run in stretches: what is left at a place, for the loop that runs them.
+use mathlib.Core.Path.{_≡_, _∙_, refl, sym, ap}
+use mathlib.Core.Bool.{true}
+use mathlib.Core.List.{List, [], _∷_, _++_}
+use Prim.Native.Nat.{ℕ, suc, _+_, _-_, _≤_, _<_}
+use native.Mathlib.Nat.{add-assoc}
+use native.Mathlib.Omega.{arith}
+use lib.ListN.{length, take, drop, drop-of-length-le, take-append-drop, length-append}
+use lib.Seq.{sets, length-sets, drop-drop}
+use Rattle.lists.specs.Lists.{allAtMost}
+use Rattle.lists.specs.Steps.{stateAfter, outputs}
+use borrow.Author.Tests.{le-leb}
+use Rattle.lists.proofs.Lists.{sets-append, at-most-head, at-most-tail, at-most-drop}
+use Rattle.alphabet.specs.declared.Mode.{Mode}
+use Rattle.alphabet.specs.declared.Mode.the-variants.{Baudot45, Baudot50, Dtmf, Edt}
+use Rattle.line.specs.declared.Event.{Event}
+use Rattle.line.specs.declared.Event.the-variants.{Character, Fault, Nothing}
+use Rattle.line.specs.Words.{wordOf, wordsOf}
+use Rattle.access.specs.declared.Core.{Core}
+use Rattle.access.specs.Core.{modeIn, coreFrom}
+use Rattle.station.specs.declared.Station.{Station}
+use Rattle.station.specs.Station.{station, modeOfStation, stationMs, sentMs, eventOf, stationAfter, sentBy, wordsBy}
+use Rattle.station.specs.Range.{inRange}
+use Rattle.station.specs.Entries.{highestLevel}
+use Rattle.station.proofs.Range.{after-full, after-in}
+use Rattle.station.proofs.Cuts.{Cut, cut}
+use Rattle.stretching.specs.declared.Stretched.{Stretched}
+use Rattle.stretching.specs.Stretches.{between, Stretches}
+use Rattle.stretching.proofs.Laws.{at-most-take}
+use Rattle.stretching.proofs.Joining.{between-length}
+
+-- one sent ms for each ms heard, and at most one word
+sent-length : (s : Station) (xs : List ℕ) → length (sentBy s xs) ≡ length xs
+unfolding outputs
+sent-length s [] = refl
+sent-length s (x ∷ xs) = ap suc (sent-length (stationMs s x) xs)
+
+one-word : (e : Event) → length (wordOf e) ≤ 1
+one-word (Character c) = omega arith
+one-word Fault = omega arith
+one-word Nothing = omega arith
+
+few-words : (s : Station) (xs : List ℕ) → length (wordsBy s xs) ≤ length xs
+unfolding outputs wordsOf
+few-words s [] = omega arith
+few-words s (x ∷ xs) =
+    let a = one-word (eventOf s x) in
+    let b = few-words (stationMs s x) xs in
+    let c = length-append (wordOf (eventOf s x)) (wordsBy (stationMs s x) xs) in
+    omega arith
+
+-- the mode stays
+mode-stays : (s : Station) (xs : List ℕ) → modeOfStation (stationAfter s xs) ≡ modeOfStation s
+unfolding stateAfter stationMs coreFrom
+mode-stays s [] = refl
+mode-stays s (x ∷ xs) = mode-stays (stationMs s x) xs
+
+module _ (s : Station) where
+  after-none : stationAfter s [] ≡ s
+  unfolding stateAfter
+  after-none = refl
+
+  sent-none : sentBy s [] ≡ []
+  unfolding outputs
+  sent-none = refl
+
+  words-none : wordsBy s [] ≡ []
+  unfolding outputs wordsOf
+  words-none = refl
+
+-- the ms of a stretch, and then the others
+left-of : (heard : List ℕ) (i to : ℕ) → i ≤ to → drop i heard ≡ between i to heard ++ drop to heard
+left-of heard i to h =
+    let e : i + (to - i) ≡ to = omega arith in
+    sym (take-append-drop (to - i) (drop i heard)) ∙ ap (λ (l : List ℕ). between i to heard ++ l) (drop-drop (to - i) i heard ∙ ap (λ (m : ℕ). drop m heard) e)
+
+-- The ms heard are run from the core c₀ on; at the place i this is left.
+pub record Left (heard chars₀ sent₀ words₀ : List ℕ) (c₀ : Core) (chars sent₁ words₁ : List ℕ) (c : Core) (i n : ℕ) : Type 0 where
+  pub sent-size : length sent₁ ≡ length sent₀
+  pub words-size : length words₁ ≡ length words₀
+  pub full : length chars ≡ 256
+  pub within : i ≤ length heard
+  pub room : n ≤ i
+  pub in-range : inRange (station c chars) ≡ true
+  pub mode : modeIn c ≡ modeIn c₀
+  pub after : stationAfter (station c chars) (drop i heard) ≡ stationAfter (station c₀ chars₀) heard
+  pub sent : sets sent₁ i (sentBy (station c chars) (drop i heard)) ≡ sets sent₀ 0 (sentBy (station c₀ chars₀) heard)
+  pub place : n + length (wordsBy (station c chars) (drop i heard)) ≡ length (wordsBy (station c₀ chars₀) heard)
+  pub words : sets words₁ n (wordsBy (station c chars) (drop i heard)) ≡ sets words₀ 0 (wordsBy (station c₀ chars₀) heard)
+
+module _ (heard chars₀ sent₀ words₀ : List ℕ) (c₀ : Core) where
+  pub left-start : inRange (station c₀ chars₀) ≡ true → length chars₀ ≡ 256 → Left heard chars₀ sent₀ words₀ c₀ chars₀ sent₀ words₀ c₀ 0 0
+  left-start i f = record {
+    sent-size = refl;
+    words-size = refl;
+    full = f;
+    within = omega arith;
+    room = omega arith;
+    in-range = i;
+    mode = refl;
+    after = refl;
+    sent = refl;
+    place = omega arith;
+    words = refl;
+  }
+
+  module _ (chars sent₁ words₁ : List ℕ) (c : Core) (i n : ℕ) (l : Left heard chars₀ sent₀ words₀ c₀ chars sent₁ words₁ c i n) where
+    -- one stretch more
+    pub left-turn : allAtMost (highestLevel (modeIn c₀)) heard ≡ true
+        → (x : Stretched) (chars' sent' words' : List ℕ) → Stretches heard c chars sent₁ words₁ i n x chars' sent' words'
+        → Left heard chars₀ sent₀ words₀ c₀ chars' sent' words' (x .core) (x .at) (x .words)
+    left-turn levels x chars' sent' words' t =
+        let s = station c chars in
+        let xs = between i (x .at) heard in
+        let ys = drop (x .at) heard in
+        let low = t .low in
+        let a = left-of heard i (x .at) (omega arith) in
+        let k = cut s xs ys in
+        let ws = wordsBy s xs in
+        let vs = wordsBy (station (x .core) chars') ys in
+        let us = sentBy (station (x .core) chars') ys in
+        let size = between-length heard i (x .at) (t .high) in
+        let few = few-words s xs in
+        let room = l .room in
+        let place = t .place in
+        let heights : allAtMost (highestLevel (modeIn c)) xs ≡ true = rw (l .mode) (at-most-take _ (x .at - i) (drop i heard) (at-most-drop _ heard i levels)) in
+        let sl : length (sentBy s xs) ≡ x .at - i = sent-length s xs ∙ size in
+        let sa : x .at ≡ i + length (sentBy s xs) = omega arith in
+        let st : sentBy s xs ++ us ≡ sentBy s (drop i heard) =
+          ap (λ (z : Station). sentBy s xs ++ sentBy z ys) (t .after) ∙ sym (k .sent) ∙ sym (ap (sentBy s) a) in
+        let wt : ws ++ vs ≡ wordsBy s (drop i heard) =
+          ap (λ (z : Station). ws ++ wordsBy z ys) (t .after) ∙ sym (k .words) ∙ sym (ap (wordsBy s) a) in
+        record {
+          sent-size = ap length (t .sent) ∙ length-sets sent₁ i (sentBy s xs) ∙ l .sent-size;
+          words-size = ap length (t .words) ∙ length-sets words₁ n ws ∙ l .words-size;
+          full = ap (λ (z : Station). length (z .chars)) (t .after) ∙ after-full s xs (l .full);
+          within = t .high;
+          room = omega arith;
+          in-range = ap inRange (t .after) ∙ after-in s xs (l .full) (l .in-range) heights;
+          mode = ap modeOfStation (t .after) ∙ mode-stays s xs ∙ l .mode;
+          after = ap (λ (z : Station). stationAfter z ys) (t .after) ∙ sym (k .station) ∙ sym (ap (stationAfter s) a) ∙ l .after;
+          sent = (λ j. sets (t .sent j) (sa j) us) ∙ sym (sets-append sent₁ i (sentBy s xs) us) ∙ ap (sets sent₁ i) st ∙ l .sent;
+          place = ap (λ (m : ℕ). m + length vs) place ∙ add-assoc n (length ws) (length vs) ∙ sym (ap (λ (m : ℕ). n + m) (length-append ws vs)) ∙ ap (λ (z : List ℕ). n + length z) wt ∙ l .place;
+          words = (λ j. sets (t .words j) (place j) vs) ∙ sym (sets-append words₁ n ws vs) ∙ ap (sets words₁ n) wt ∙ l .words;
+        }
+
+    -- nothing is left
+    module _ (h : length heard ≤ i) where
+      none : drop i heard ≡ []
+      none = drop-of-length-le heard h
+
+      pub left-station : station c chars ≡ stationAfter (station c₀ chars₀) heard
+      left-station = sym (ap (stationAfter (station c chars)) none ∙ after-none (station c chars)) ∙ l .after
+
+      pub left-sent : sent₁ ≡ sets sent₀ 0 (sentBy (station c₀ chars₀) heard)
+      left-sent = sym (ap (sets sent₁ i) (ap (sentBy (station c chars)) none ∙ sent-none (station c chars))) ∙ l .sent
+
+      no-words : wordsBy (station c chars) (drop i heard) ≡ []
+      no-words = ap (wordsBy (station c chars)) none ∙ words-none (station c chars)
+
+      pub left-place : n ≡ length (wordsBy (station c₀ chars₀) heard)
+      left-place = let z = ap length no-words in let p = l .place in omega arith
+
+      pub left-words : words₁ ≡ sets words₀ 0 (wordsBy (station c₀ chars₀) heard)
+      left-words = sym (ap (sets words₁ n) no-words) ∙ l .words
+
+-- no mode has a level above 16
+highest-16 : (mode : Mode) → highestLevel mode ≤ 16
+highest-16 Baudot45 = omega arith
+highest-16 Baudot50 = omega arith
+highest-16 Dtmf = omega arith
+highest-16 Edt = omega arith
+
+pub levels-16 : (mode : Mode) (heard : List ℕ) → allAtMost (highestLevel mode) heard ≡ true → allAtMost 16 heard ≡ true
+unfolding allAtMost
+levels-16 mode [] e = refl
+levels-16 mode (x ∷ xs) e =
+    let most = highestLevel mode in
+    let h = at-most-head most x xs e in
+    let m = highest-16 mode in
+    rw (le-leb x 16 (omega arith)) (levels-16 mode xs (at-most-tail most x xs e))

@@ -1,0 +1,6 @@
+pub mod Laws
+pub mod CoreLaws
+pub mod Filling
+pub mod Elements
+pub mod Joining
+pub mod Fold

@@ -1,0 +1,56 @@
+-- A core after some ms that go alike.
+use Prim.Native.Nat.{ℕ, zero, suc, _+_, _-_}
+use mathlib.Core.Bool.{false, cond}
+use mathlib.Core.List.{List}
+use lib.Dec.{ltb}
+use Rattle.lists.specs.Steps.{stateAfter}
+use Rattle.frames.specs.Frames.{hunting}
+use Rattle.keys.specs.Keys.{needs}
+use Rattle.line.specs.declared.Reader.{Reader}
+use Rattle.line.specs.Reader.{reader}
+use Rattle.access.specs.declared.Core.{Core}
+use Rattle.access.specs.declared.OnLine.{OnLine}
+use Rattle.access.specs.Rules.{freeMs, afterMs, isSilent}
+use Rattle.access.specs.Line.{onLine, closed}
+use Rattle.access.specs.Core.{core, modeIn, silenceAfter}
+
+-- The silence after n ms without signal, and after ms that the receiver hears.
+abbrev pub silenceFor : ℕ → ℕ → ℕ
+silenceFor silence n = cond (ltb (silence + n) freeMs) (silence + n) freeMs
+
+abbrev pub silenceNext : ℕ → ℕ → ℕ
+silenceNext silence heard = silenceAfter (isSilent false heard) silence
+
+abbrev pub silenceOver : ℕ → List ℕ → ℕ
+silenceOver silence heard = stateAfter silenceNext silence heard
+
+-- A reader after n inhibited ms.
+unfoldable pub deafReader : Reader → ℕ → Reader
+deafReader r zero = r
+deafReader r (suc n) = reader hunting (needs (r .keys .needed - suc n)) (r .shift) (r .prefix)
+
+-- The inhibited ms to come after n ms of a burst.
+unfoldable pub burstLeft : ℕ → ℕ → ℕ
+burstLeft inhibitedMs zero = inhibitedMs
+burstLeft inhibitedMs (suc n) = afterMs
+
+abbrev pub further : OnLine → ℕ → OnLine
+further l n = onLine (l .part) (l .code) (l .at + n)
+
+-- After n ms of a part; after n inhibited ms in no burst; after ms that the receiver hears.
+unfoldable pub sentFor : Core → ℕ → Core
+sentFor c n =
+    core (c .waiting)
+    (silenceFor (c .silence) n)
+    (burstLeft (c .inhibited) n)
+    (closed (modeIn c) (c .waiting) (further (c .line) n))
+    (c .sender)
+    (deafReader (c .reader) n)
+    (c .mode)
+
+unfoldable pub deafFor : Core → ℕ → Core
+deafFor c n =
+    core (c .waiting) (silenceFor (c .silence) n) (c .inhibited - n) (c .line) (c .sender) (deafReader (c .reader) n) (c .mode)
+
+unfoldable pub listened : Core → ℕ → Reader → Core
+listened c silence r = core (c .waiting) silence (c .inhibited) (c .line) (c .sender) r (c .mode)

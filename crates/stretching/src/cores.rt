@@ -1,0 +1,145 @@
+// Cores after some ms that go alike.
+use access::sending;
+use access::Core;
+use access::OnLine;
+use alphabet::Mode;
+use frames::Frame;
+use keys::Keys;
+use line::Reader;
+ghost use mathlib.Core.Path.{_≡_};
+ghost use Prim.Native.Nat.{_+_, _-_, _≤_};
+ghost use Rattle.stretching.specs.Cores.{silenceFor, silenceOver, deafReader, sentFor, deafFor, listened};
+
+// The silence after n ms without signal.
+pub fn silence_for(silence: u16, n: usize) -> u16
+    requires { ⌜ silence ≤ 300 ⌝ }
+    ensures { λ r. ⌜ r ≡ silenceFor silence n ⌝ }
+{
+    if access::FREE as usize - silence as usize <= n {
+        return access::FREE;
+    }
+    silence + n as u16
+}
+
+// The silence after some ms that the receiver hears: the quiet ms at their end, and the silence before if all are quiet.
+pub fn silence_over(silence: u16, heard: &[u8]) -> u16
+    requires { ⌜ silence ≤ 300 ⌝ }
+    ensures { λ r. ⌜ r ≡ silenceOver silence (now (heard .entry)) ⌝ }
+{
+    let mut left = heard.len();
+    let mut n: usize = 0;
+    while 0 < left {
+        if n == access::FREE as usize {
+            return access::FREE;
+        }
+        left -= 1;
+        if heard[left] != 0 {
+            return n as u16;
+        }
+        n += 1;
+    }
+    silence_for(silence, n)
+}
+
+// The quiet ms that a reader of keys still needs, after n quiet ms.
+fn needed_for(needed: u8, n: usize) -> u8
+    ensures { λ r. ⌜ r ≡ needed - n ⌝ }
+{
+    if needed as usize <= n {
+        return 0;
+    }
+    needed - n as u8
+}
+
+// A reader after n inhibited ms.
+fn deaf_reader(r: Reader, n: usize) -> Reader
+    requires { ⌜ 1 ≤ n ⌝ }
+    ensures { λ q. ⌜ q ≡ deafReader r n ⌝ }
+{
+    let k = r.keys;
+    Reader {
+        frame: Frame {
+            place: 0,
+            digits: 0,
+        },
+        keys: Keys {
+            key: 0,
+            ms: 0,
+            needed: needed_for(k.needed, n),
+        },
+        shift: r.shift,
+        prefix: r.prefix,
+    }
+}
+
+// What is on the line, n ms further.
+fn further(l: OnLine, n: usize) -> OnLine
+    requires { ⌜ l .at + n ≤ 480 ⌝ }
+    ensures { λ r. ⌜ r ≡ record { at = l .at + n; part = l .part; code = l .code } ⌝ }
+{
+    OnLine {
+        at: l.at + n as u16,
+        part: l.part,
+        code: l.code,
+    }
+}
+
+// A core after n ms of a part.
+pub fn sent_for(c: Core, n: usize) -> Core
+    requires { ⌜ 1 ≤ n ⌝ }
+    requires { ⌜ c .silence ≤ 300 ⌝ }
+    requires { ⌜ c .line .at + n ≤ 480 ⌝ }
+    ensures { λ r. ⌜ r ≡ sentFor c n ⌝ }
+{
+    let before = c.line;
+    let line = further(before, n);
+    let sender = c.sender;
+    let reader = c.reader;
+    Core {
+        waiting: c.waiting,
+        silence: silence_for(c.silence, n),
+        inhibited: access::INHIBITED,
+        line: sending::closed(Mode::of(c.mode), c.waiting, line),
+        sender,
+        reader: deaf_reader(reader, n),
+        mode: c.mode,
+    }
+}
+
+// A core after n inhibited ms in no burst.
+pub fn deaf_for(c: Core, n: usize) -> Core
+    requires { ⌜ 1 ≤ n ⌝ }
+    requires { ⌜ n ≤ c .inhibited ⌝ }
+    requires { ⌜ c .silence ≤ 300 ⌝ }
+    ensures { λ r. ⌜ r ≡ deafFor c n ⌝ }
+{
+    let line = c.line;
+    let sender = c.sender;
+    let reader = c.reader;
+    Core {
+        waiting: c.waiting,
+        silence: silence_for(c.silence, n),
+        inhibited: c.inhibited - n as u16,
+        line,
+        sender,
+        reader: deaf_reader(reader, n),
+        mode: c.mode,
+    }
+}
+
+// A core with another silence and another reader.
+pub fn listened(c: Core, silence: u16, reader: Reader) -> Core
+    ensures { λ r. ⌜ r ≡ listened c silence reader ⌝ }
+{
+    let line = c.line;
+    let sender = c.sender;
+    Core {
+        waiting: c.waiting,
+        silence,
+        inhibited: c.inhibited,
+        line,
+        sender,
+        reader,
+        mode: c.mode,
+    }
+}

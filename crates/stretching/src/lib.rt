@@ -1,0 +1,83 @@
+// The ms of a run, in stretches.
+use access::sending;
+use access::Core;
+use alphabet::Mode;
+ghost use mathlib.Core.Path.{_≡_};
+ghost use mathlib.Core.Bool.{true};
+ghost use Prim.Native.Nat.{_+_, _≤_, _<_};
+ghost use lib.ListN.{length};
+ghost use lib.Seq.{sets};
+ghost use Rattle.lists.specs.Lists.{allAtMost};
+ghost use Rattle.access.specs.Core.{modeIn};
+ghost use Rattle.station.specs.Station.{station, stationAfter, sentBy, wordsBy};
+ghost use Rattle.station.specs.Range.{inRange};
+ghost use Rattle.station.specs.Entries.{highestLevel};
+ghost use Rattle.stretching.specs.Stretches.{Stretches};
+
+pub mod cores;
+pub mod levels;
+pub mod stretches;
+
+// A core after the ms of a run, and how many words were written.
+pub struct Ended {
+    pub core: Core,
+    pub words: usize,
+}
+
+// A core after a stretch of a run, the place behind it, and the place behind its words.
+pub struct Stretched {
+    pub core: Core,
+    pub at: usize,
+    pub words: usize,
+}
+
+// The next stretch: a ms in which sending is settled; the ms of a part; inhibited ms; ms that the receiver hears.
+fn stretch(c: Core, chars: &mut [u8], heard: &[u8], i: usize, sent: &mut [u8], words: &mut [u32], n: usize) -> Stretched
+    requires { ⌜ inRange (station c (now chars)) ≡ true ⌝ }
+    requires { ⌜ length (now chars) ≡ 256 ⌝ }
+    requires { ⌜ allAtMost 16 (now heard) ≡ true ⌝ }
+    requires { ⌜ i < length (now heard) ⌝ }
+    requires { ⌜ length (now heard) ≤ length (now sent) ⌝ }
+    requires { ⌜ n + length (now heard) ≤ length (now words) + i ⌝ }
+    ensures { λ x. ⌜ Stretches (now (heard .entry)) c (now (chars .entry)) (now (sent .entry)) (now (words .entry)) i n x (now (chars .exit)) (now (sent .exit)) (now (words .exit)) ⌝ }
+{
+    let line = c.line;
+    if line.part != 0 {
+        if sending::is_over(Mode::of(c.mode), line) {
+            return stretches::settle(c, chars, heard, i, sent, words, n);
+        }
+        return stretches::send(c, heard, i, sent, n);
+    }
+    if access::may_begin(c.waiting, c.silence) {
+        return stretches::settle(c, chars, heard, i, sent, words, n);
+    }
+    if c.inhibited != 0 {
+        return stretches::wait(c, heard, i, sent, n);
+    }
+    stretches::listen(c, heard, i, sent, words, n)
+}
+
+// The ms of a run, one after the other.
+pub fn run_all(c: Core, chars: &mut [u8], heard: &[u8], sent: &mut [u8], words: &mut [u32]) -> Ended
+    requires { ⌜ inRange (station c (now chars)) ≡ true ⌝ }
+    requires { ⌜ length (now chars) ≡ 256 ⌝ }
+    requires { ⌜ allAtMost (highestLevel (modeIn c)) (now heard) ≡ true ⌝ }
+    requires { ⌜ length (now heard) ≤ length (now sent) ⌝ }
+    requires { ⌜ length (now heard) ≤ length (now words) ⌝ }
+    ensures { λ r. ⌜ r .core ≡ stationAfter (station c (now (chars .entry))) (now (heard .entry)) .core ⌝ }
+    ensures { λ r. ⌜ r .words ≡ length (wordsBy (station c (now (chars .entry))) (now (heard .entry))) ⌝ }
+    ensures { λ r. ⌜ now (chars .exit) ≡ stationAfter (station c (now (chars .entry))) (now (heard .entry)) .chars ⌝ }
+    ensures { λ r. ⌜ now (sent .exit) ≡ sets (now (sent .entry)) 0 (sentBy (station c (now (chars .entry))) (now (heard .entry))) ⌝ }
+    ensures { λ r. ⌜ now (words .exit) ≡ sets (now (words .entry)) 0 (wordsBy (station c (now (chars .entry))) (now (heard .entry))) ⌝ }
+{
+    let mut core = c;
+    let mut i: usize = 0;
+    let mut n: usize = 0;
+    while i < heard.len() {
+        let x = stretch(core, chars, heard, i, sent, words, n);
+        core = x.core;
+        i = x.at;
+        n = x.words;
+    }
+    Ended { core, words: n }
+}

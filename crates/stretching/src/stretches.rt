@@ -1,0 +1,135 @@
+// The stretches of a run.
+use crate::cores;
+use crate::levels;
+use crate::Stretched;
+use access::sending;
+use access::Core;
+use alphabet::Mode;
+ghost use mathlib.Core.Path.{_≡_};
+ghost use mathlib.Core.Bool.{true, false};
+ghost use mathlib.Core.List.{List};
+ghost use Prim.Native.Nat.{ℕ, _+_, _≤_, _<_};
+ghost use lib.ListN.{length};
+ghost use Rattle.lists.specs.Lists.{allAtMost};
+ghost use Rattle.access.specs.Rules.{mayBegin};
+ghost use Rattle.access.specs.Line.{inBurst, isOver};
+ghost use Rattle.access.specs.Core.{modeIn};
+ghost use Rattle.access.specs.Range.{CoreIn};
+ghost use Rattle.station.specs.Station.{station, front};
+ghost use Rattle.stretching.specs.Stretches.{Ends, Free, Stretches};
+
+// Where a stretch of at most so many ms ends.
+pub fn end_of(i: usize, most: usize, len: usize) -> usize
+    requires { ⌜ 1 ≤ most ⌝ }
+    requires { ⌜ i < len ⌝ }
+    ensures { λ r. ⌜ Ends i most len r ⌝ }
+{
+    if len - i < most {
+        return len;
+    }
+    i + most
+}
+
+// Where the ms end in which no burst may begin.
+fn free_end(waiting: u16, silence: u16, i: usize, len: usize) -> usize
+    requires { ⌜ mayBegin waiting silence ≡ false ⌝ }
+    requires { ⌜ silence ≤ 300 ⌝ }
+    requires { ⌜ i < len ⌝ }
+    ensures { λ r. ⌜ Free waiting silence i len r ⌝ }
+{
+    if waiting == 0 {
+        return len;
+    }
+    end_of(i, (access::FREE - silence) as usize, len)
+}
+
+// One ms in which sending is settled anew.
+pub fn settle(c: Core, chars: &mut [u8], heard: &[u8], i: usize, sent: &mut [u8], words: &mut [u32], n: usize) -> Stretched
+    requires { ⌜ CoreIn c ⌝ }
+    requires { ⌜ length (now chars) ≡ 256 ⌝ }
+    requires { ⌜ (1 ≤ c .waiting → front (station c (now chars)) < 128) ⌝ }
+    requires { ⌜ i < length (now heard) ⌝ }
+    requires { ⌜ i < length (now sent) ⌝ }
+    requires { ⌜ n < length (now words) ⌝ }
+    ensures { λ x. ⌜ Stretches (now (heard .entry)) c (now (chars .entry)) (now (sent .entry)) (now (words .entry)) i n x (now (chars .exit)) (now (sent .exit)) (now (words .exit)) ⌝ }
+{
+    let x = access::step(c, chars[0], heard[i]);
+    if x.takes {
+        queue::move_up(chars);
+    }
+    sent[i] = x.sent;
+    let event = x.event;
+    let words_end = line::words::put_word(words, n, event);
+    let core = x.core;
+    Stretched {
+        core,
+        at: i + 1,
+        words: words_end,
+    }
+}
+
+// The ms of a part that are left.
+pub fn send(c: Core, heard: &[u8], i: usize, sent: &mut [u8], n: usize) -> Stretched
+    requires { ⌜ CoreIn c ⌝ }
+    requires { ⌜ inBurst (c .line) ≡ true ⌝ }
+    requires { ⌜ isOver (modeIn c) (c .line) ≡ false ⌝ }
+    requires { ⌜ i < length (now heard) ⌝ }
+    requires { ⌜ length (now heard) ≤ length (now sent) ⌝ }
+    ensures { λ x. ⌜ ((chars words : List ℕ) → Stretches (now (heard .entry)) c chars (now (sent .entry)) words i n x chars (now (sent .exit)) words) ⌝ }
+{
+    let l = c.line;
+    let mode = Mode::of(c.mode);
+    let left = (sending::part_ms(mode, l) - l.at) as usize;
+    let to = end_of(i, left, heard.len());
+    levels::put(mode, l, sent, i, to);
+    Stretched {
+        core: cores::sent_for(c, to - i),
+        at: to,
+        words: n,
+    }
+}
+
+// Inhibited ms in no burst, up to one in which a burst may begin.
+pub fn wait(c: Core, heard: &[u8], i: usize, sent: &mut [u8], n: usize) -> Stretched
+    requires { ⌜ CoreIn c ⌝ }
+    requires { ⌜ c .line .part ≡ 0 ⌝ }
+    requires { ⌜ mayBegin (c .waiting) (c .silence) ≡ false ⌝ }
+    requires { ⌜ 1 ≤ c .inhibited ⌝ }
+    requires { ⌜ i < length (now heard) ⌝ }
+    requires { ⌜ length (now heard) ≤ length (now sent) ⌝ }
+    ensures { λ x. ⌜ ((chars words : List ℕ) → Stretches (now (heard .entry)) c chars (now (sent .entry)) words i n x chars (now (sent .exit)) words) ⌝ }
+{
+    let free = free_end(c.waiting, c.silence, i, heard.len());
+    let to = end_of(i, c.inhibited as usize, free);
+    levels::fill(sent, i, to, 0);
+    Stretched {
+        core: cores::deaf_for(c, to - i),
+        at: to,
+        words: n,
+    }
+}
+
+// Ms that the receiver hears, up to one in which a burst may begin.
+pub fn listen(c: Core, heard: &[u8], i: usize, sent: &mut [u8], words: &mut [u32], n: usize) -> Stretched
+    requires { ⌜ CoreIn c ⌝ }
+    requires { ⌜ c .line .part ≡ 0 ⌝ }
+    requires { ⌜ mayBegin (c .waiting) (c .silence) ≡ false ⌝ }
+    requires { ⌜ c .inhibited ≡ 0 ⌝ }
+    requires { ⌜ allAtMost 16 (now heard) ≡ true ⌝ }
+    requires { ⌜ i < length (now heard) ⌝ }
+    requires { ⌜ length (now heard) ≤ length (now sent) ⌝ }
+    requires { ⌜ n + length (now heard) ≤ length (now words) + i ⌝ }
+    ensures { λ x. ⌜ ((chars : List ℕ) → Stretches (now (heard .entry)) c chars (now (sent .entry)) (now (words .entry)) i n x chars (now (sent .exit)) (now (words .exit))) ⌝ }
+{
+    let to = free_end(c.waiting, c.silence, i, heard.len());
+    levels::fill(sent, i, to, 0);
+    let before = c.reader;
+    let h = hearing::hear_all(Mode::of(c.mode), before, &heard[i..to], words, n);
+    let silence = cores::silence_over(c.silence, &heard[i..to]);
+    let reader = h.reader;
+    Stretched {
+        core: cores::listened(c, silence, reader),
+        at: to,
+        words: h.at,
+    }
+}
