@@ -1,0 +1,379 @@
+// Plays a list of calls on stations and prints what each gives, for up to 65,536 bytes of standard input. These stand in
+// pairs, with LF between them anywhere: m and a sign opens a station of the mode that many behind 0; a level, 0 to Z, and a
+// count are ms to be heard; u and a sign, then l and a sign, are the high and the low digit of a character to be offered; n and
+// a count offer the last one so many times more; o and any byte is the offer; r and a sign is the run, with the slices that the
+// sign says. A count is the byte less 32. The expected output is what the reference prints.
+use libc::STDIN_FILENO;
+use libc::STDOUT_FILENO;
+use station::Station;
+ghost use mathlib.Core.Path.{_≡_};
+ghost use Prim.Native.Nat.{_≤_};
+ghost use lib.ListN.{length};
+
+const LF: u8 = b'\n';
+
+// What slices hold before a call: no level and no word.
+const PATTERN: u8 = 99;
+
+const WORD_PATTERN: u32 = 99_999_999;
+
+// A level that was sent, and for how many ms in a row.
+struct Row {
+    value: u8,
+    ms: u64,
+}
+
+// A station; how many ms are to be heard and characters to be offered; 16 times the high digit of the next character; the last
+// character; the first byte of a pair whose second is still to come, or LF.
+struct Play {
+    station: Station,
+    heard: usize,
+    text: usize,
+    high: u8,
+    last: u8,
+    first: u8,
+}
+
+fn number(n: u64) {
+    io::write_all(STDOUT_FILENO, b" ");
+    io::print_decimal(STDOUT_FILENO, n);
+}
+
+fn end() {
+    io::write_all(STDOUT_FILENO, b"\n");
+}
+
+fn print_row(r: Row) {
+    if 0 < r.ms {
+        io::write_all(STDOUT_FILENO, b"sent");
+        number(r.value as u64);
+        number(r.ms);
+        end();
+    }
+}
+
+// One more ms; a row that another value ends is printed.
+fn with_ms(r: Row, value: u8) -> Row {
+    if r.value == value {
+        if r.ms < 1_000_000 {
+            return Row {
+                value,
+                ms: r.ms + 1,
+            };
+        }
+    }
+    print_row(r);
+    Row { value, ms: 1 }
+}
+
+fn print_sent(sent: &[u8]) {
+    let mut row = Row { value: 0, ms: 0 };
+    let mut i: usize = 0;
+    while i < sent.len() {
+        row = with_ms(row, sent[i]);
+        i += 1;
+    }
+    print_row(row);
+}
+
+fn print_word(word: u32) {
+    if word == WORD_PATTERN {
+        return;
+    }
+    io::write_all(STDOUT_FILENO, b"word");
+    number(word as u64);
+    end();
+}
+
+// Every word that was written.
+fn print_words(words: &[u32]) {
+    let mut i: usize = 0;
+    while i < words.len() {
+        print_word(words[i]);
+        i += 1;
+    }
+}
+
+// Slices for one ms more than a call takes, and a few.
+fn levels() -> [u8; 4100]
+    ensures { λ r. ⌜ 4100 ≡ length r ⌝ }
+{
+    [PATTERN; 4100]
+}
+
+fn fresh_words() -> [u32; 4100]
+    ensures { λ r. ⌜ 4100 ≡ length r ⌝ }
+{
+    [WORD_PATTERN; 4100]
+}
+
+fn fresh() -> Play {
+    let r = station::open(1);
+    let station = r.station;
+    Play {
+        station,
+        heard: 0,
+        text: 0,
+        high: 0,
+        last: 0,
+        first: LF,
+    }
+}
+
+fn open(mode: u8) -> Play {
+    let r = station::open(mode);
+    let station = r.station;
+    io::write_all(STDOUT_FILENO, b"open");
+    number(mode as u64);
+    number(r.answer as u64);
+    number(station.core.mode as u64);
+    end();
+    Play {
+        station,
+        heard: 0,
+        text: 0,
+        high: 0,
+        last: 0,
+        first: LF,
+    }
+}
+
+// A value put behind the first ones of a slice; how many there are then.
+fn put_one(slice: &mut [u8], at: usize, value: u8) -> usize {
+    if at < slice.len() {
+        slice[at] = value;
+        return at + 1;
+    }
+    at
+}
+
+fn put(slice: &mut [u8], at: usize, value: u8, count: u8) -> usize {
+    let mut n = at;
+    let mut i: u8 = 0;
+    while i < count {
+        n = put_one(slice, n, value);
+        i += 1;
+    }
+    n
+}
+
+// The count of a byte; 0 for a byte that is none.
+fn count(b: u8) -> u8 {
+    match b {
+        b'!'..=b'~' => b - b' ',
+        _ => 0,
+    }
+}
+
+// The digit of a byte, 0 to 15; 0 for a byte that is none.
+fn digit(b: u8) -> u8
+    ensures { λ r. ⌜ r ≤ 15 ⌝ }
+{
+    match b {
+        b'0'..=b'9' => b - b'0',
+        b'a' => 10,
+        b'b' => 11,
+        b'c' => 12,
+        b'd' => 13,
+        b'e' => 14,
+        b'f' => 15,
+        _ => 0,
+    }
+}
+
+fn high_digit(b: u8) -> u8 {
+    16 * digit(b)
+}
+
+fn offer(x: Play, text: &[u8]) -> Play {
+    let n = x.text;
+    if text.len() < n {
+        return x;
+    }
+    let s = x.station;
+    let r = station::offer(s, &text[..n]);
+    let station = r.station;
+    io::write_all(STDOUT_FILENO, b"offer");
+    number(n as u64);
+    number(r.answer as u64);
+    number(station.core.waiting as u64);
+    end();
+    Play {
+        station,
+        heard: x.heard,
+        text: 0,
+        high: 0,
+        last: 0,
+        first: LF,
+    }
+}
+
+// The station hears what there is to be heard, with slices of these lengths.
+fn run(x: Play, heard: &[u8], sent: &mut [u8], words: &mut [u32]) -> Play {
+    let n = x.heard;
+    if heard.len() < n {
+        return x;
+    }
+    let s = x.station;
+    let r = running::run(s, &heard[..n], sent, words);
+    let station = r.station;
+    io::write_all(STDOUT_FILENO, b"run");
+    number(n as u64);
+    number(r.answer as u64);
+    number(r.words as u64);
+    end();
+    Play {
+        station,
+        heard: 0,
+        text: x.text,
+        high: x.high,
+        last: x.last,
+        first: LF,
+    }
+}
+
+// With the first part of both slices.
+fn run_parts(x: Play, heard: &[u8], sent_length: usize, words_length: usize) -> Play {
+    let mut sent = levels();
+    let mut words = fresh_words();
+    if 4100 < sent_length {
+        return x;
+    }
+    if 4100 < words_length {
+        return x;
+    }
+    let y = run(x, heard, &mut sent[..sent_length], &mut words[..words_length]);
+    print_sent(&sent);
+    print_words(&words);
+    y
+}
+
+fn one_less(n: usize) -> usize {
+    if n == 0 {
+        return 0;
+    }
+    n - 1
+}
+
+// The slices of a run: as long as what is heard; one of them, or both, one shorter; or as long as there is.
+fn run_sign(x: Play, heard: &[u8], sign: u8) -> Play {
+    let n = x.heard;
+    match sign {
+        b's' => run_parts(x, heard, one_less(n), n),
+        b'w' => run_parts(x, heard, n, one_less(n)),
+        b'b' => run_parts(x, heard, one_less(n), one_less(n)),
+        b'+' => run_parts(x, heard, 4100, 4100),
+        _ => run_parts(x, heard, n, n),
+    }
+}
+
+// A character of two digits.
+fn character(x: Play, text: &mut [u8], low: u8) -> Play {
+    let c = std::num::wrapping_add_u8(x.high, low);
+    let station = x.station;
+    Play {
+        station,
+        heard: x.heard,
+        text: put_one(text, x.text, c),
+        high: 0,
+        last: c,
+        first: LF,
+    }
+}
+
+fn again(x: Play, text: &mut [u8], count: u8) -> Play {
+    let station = x.station;
+    Play {
+        station,
+        heard: x.heard,
+        text: put(text, x.text, x.last, count),
+        high: 0,
+        last: x.last,
+        first: LF,
+    }
+}
+
+fn with_high(x: Play, high: u8) -> Play {
+    let station = x.station;
+    Play {
+        station,
+        heard: x.heard,
+        text: x.text,
+        high,
+        last: x.last,
+        first: LF,
+    }
+}
+
+fn level(x: Play, heard: &mut [u8], level: u8, count: u8) -> Play {
+    let station = x.station;
+    Play {
+        station,
+        heard: put(heard, x.heard, level, count),
+        text: x.text,
+        high: x.high,
+        last: x.last,
+        first: LF,
+    }
+}
+
+fn with_first(x: Play, first: u8) -> Play {
+    let station = x.station;
+    Play {
+        station,
+        heard: x.heard,
+        text: x.text,
+        high: x.high,
+        last: x.last,
+        first,
+    }
+}
+
+// A mode's number is that many behind 0.
+fn open_sign(x: Play, sign: u8) -> Play {
+    match sign {
+        b'0'..=b'~' => open(sign - b'0'),
+        _ => x,
+    }
+}
+
+// A pair of bytes; one that is none of these changes nothing.
+fn pair(x: Play, heard: &mut [u8], text: &mut [u8], second: u8) -> Play {
+    let first = x.first;
+    let y = with_first(x, LF);
+    match first {
+        b'0'..=b'Z' => level(y, heard, first - b'0', count(second)),
+        b'm' => open_sign(y, second),
+        b'u' => with_high(y, high_digit(second)),
+        b'l' => character(y, text, digit(second)),
+        b'n' => again(y, text, count(second)),
+        b'o' => offer(y, text),
+        b'r' => run_sign(y, heard, second),
+        _ => y,
+    }
+}
+
+// One byte more. LF in place of a first byte is dropped, since the next takes its place.
+fn read_byte(x: Play, heard: &mut [u8], text: &mut [u8], b: u8) -> Play {
+    if x.first == LF {
+        return with_first(x, b);
+    }
+    pair(x, heard, text, b)
+}
+
+fn play(input: &[u8], heard: &mut [u8], text: &mut [u8]) {
+    let mut x = fresh();
+    let mut i: usize = 0;
+    while i < input.len() {
+        x = read_byte(x, heard, text, input[i]);
+        i += 1;
+    }
+}
+
+fn main() {
+    let mut input = io::large_buffer();
+    let n = io::read_full(STDIN_FILENO, &mut input);
+    let mut heard = levels();
+    let mut text = levels();
+    play(&input[..n], &mut heard, &mut text)
+}
