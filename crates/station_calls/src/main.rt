@@ -1,13 +1,14 @@
 // Plays a list of calls on stations and prints what each gives, for up to 65,536 bytes of standard input. These stand in
 // pairs, with LF between them anywhere: m and a sign opens a station of the mode that many behind 0; a level, 0 to Z, and a
-// count are ms to be heard; u and a sign, then l and a sign, are the high and the low digit of a character to be offered; n and
-// a count offer the last one so many times more; o and any byte is the offer; r and a sign is the run, with the slices that the
+// count are ms to be heard; u and a sign, then l and a sign, are the high and the low digit of a character to be offered, each
+// that many behind 0; n and a count offer the last one so many times more; o and any byte is the offer; r and a sign is the run, with the slices that the
 // sign says. A count is the byte less 32. The expected output is what the reference prints.
 use libc::STDIN_FILENO;
 use libc::STDOUT_FILENO;
+use station::Answered;
+use station::Ran;
 use station::Station;
 ghost use mathlib.Core.Path.{_≡_};
-ghost use Prim.Native.Nat.{_≤_};
 ghost use lib.ListN.{length};
 
 const LF: u8 = b'\n';
@@ -41,6 +42,15 @@ fn number(n: u64) {
 
 fn end() {
     io::write_all(STDOUT_FILENO, b"\n");
+}
+
+// A call's name and three numbers of it.
+fn print_call(name: &[u8], a: u64, b: u64, c: u64) {
+    io::write_all(STDOUT_FILENO, name);
+    number(a);
+    number(b);
+    number(c);
+    end();
 }
 
 fn print_row(r: Row) {
@@ -123,11 +133,12 @@ fn fresh() -> Play {
 fn open(mode: u8) -> Play {
     let r = station::open(mode);
     let station = r.station;
-    io::write_all(STDOUT_FILENO, b"open");
-    number(mode as u64);
-    number(r.answer as u64);
-    number(station.core.mode as u64);
-    end();
+    print_call(
+        b"open",
+        mode as u64,
+        r.answer as u64,
+        station.core.mode as u64,
+    );
     Play {
         station,
         heard: 0,
@@ -165,39 +176,40 @@ fn count(b: u8) -> u8 {
     }
 }
 
-// The digit of a byte, 0 to 15; 0 for a byte that is none.
-fn digit(b: u8) -> u8
-    ensures { λ r. ⌜ r ≤ 15 ⌝ }
-{
+// The low digit of a character, that many behind 0, and 16 times the high one; 0 for a byte that is none.
+fn low_digit(b: u8) -> u8 {
     match b {
-        b'0'..=b'9' => b - b'0',
-        b'a' => 10,
-        b'b' => 11,
-        b'c' => 12,
-        b'd' => 13,
-        b'e' => 14,
-        b'f' => 15,
+        b'0'..=b'?' => b - b'0',
         _ => 0,
     }
 }
 
 fn high_digit(b: u8) -> u8 {
-    16 * digit(b)
+    match b {
+        b'0'..=b'?' => 16 * (b - b'0'),
+        _ => 0,
+    }
+}
+
+// An offer of the first characters of a slice; of all, if there are fewer.
+fn offer_first(s: Station, text: &[u8], n: usize) -> Answered {
+    if text.len() < n {
+        return station::offer(s, text);
+    }
+    station::offer(s, &text[..n])
 }
 
 fn offer(x: Play, text: &[u8]) -> Play {
     let n = x.text;
-    if text.len() < n {
-        return x;
-    }
     let s = x.station;
-    let r = station::offer(s, &text[..n]);
+    let r = offer_first(s, text, n);
     let station = r.station;
-    io::write_all(STDOUT_FILENO, b"offer");
-    number(n as u64);
-    number(r.answer as u64);
-    number(station.core.waiting as u64);
-    end();
+    print_call(
+        b"offer",
+        n as u64,
+        r.answer as u64,
+        station.core.waiting as u64,
+    );
     Play {
         station,
         heard: x.heard,
@@ -208,20 +220,20 @@ fn offer(x: Play, text: &[u8]) -> Play {
     }
 }
 
-// The station hears what there is to be heard, with slices of these lengths.
+// A run of the first ms of a slice; of all, if there are fewer.
+fn run_first(s: Station, heard: &[u8], n: usize, sent: &mut [u8], words: &mut [u32]) -> Ran {
+    if heard.len() < n {
+        return running::run(s, heard, sent, words);
+    }
+    running::run(s, &heard[..n], sent, words)
+}
+
 fn run(x: Play, heard: &[u8], sent: &mut [u8], words: &mut [u32]) -> Play {
     let n = x.heard;
-    if heard.len() < n {
-        return x;
-    }
     let s = x.station;
-    let r = running::run(s, &heard[..n], sent, words);
+    let r = run_first(s, heard, n, sent, words);
     let station = r.station;
-    io::write_all(STDOUT_FILENO, b"run");
-    number(n as u64);
-    number(r.answer as u64);
-    number(r.words as u64);
-    end();
+    print_call(b"run", n as u64, r.answer as u64, r.words as u64);
     Play {
         station,
         heard: 0,
@@ -232,20 +244,31 @@ fn run(x: Play, heard: &[u8], sent: &mut [u8], words: &mut [u32]) -> Play {
     }
 }
 
-// With the first part of both slices.
-fn run_parts(x: Play, heard: &[u8], sent_length: usize, words_length: usize) -> Play {
+// A run with the first part of both slices; all that they hold is listed.
+fn run_listed(
+    x: Play,
+    heard: &[u8],
+    sent: &mut [u8],
+    n: usize,
+    words: &mut [u32],
+    k: usize,
+) -> Play {
+    if sent.len() < n {
+        return x;
+    }
+    if words.len() < k {
+        return x;
+    }
+    let y = run(x, heard, &mut sent[..n], &mut words[..k]);
+    print_sent(sent);
+    print_words(words);
+    y
+}
+
+fn run_parts(x: Play, heard: &[u8], n: usize, k: usize) -> Play {
     let mut sent = levels();
     let mut words = fresh_words();
-    if 4100 < sent_length {
-        return x;
-    }
-    if 4100 < words_length {
-        return x;
-    }
-    let y = run(x, heard, &mut sent[..sent_length], &mut words[..words_length]);
-    print_sent(&sent);
-    print_words(&words);
-    y
+    run_listed(x, heard, &mut sent, n, &mut words, k)
 }
 
 fn one_less(n: usize) -> usize {
@@ -345,7 +368,7 @@ fn pair(x: Play, heard: &mut [u8], text: &mut [u8], second: u8) -> Play {
         b'0'..=b'Z' => level(y, heard, first - b'0', count(second)),
         b'm' => open_sign(y, second),
         b'u' => with_high(y, high_digit(second)),
-        b'l' => character(y, text, digit(second)),
+        b'l' => character(y, text, low_digit(second)),
         b'n' => again(y, text, count(second)),
         b'o' => offer(y, text),
         b'r' => run_sign(y, heard, second),
@@ -361,7 +384,7 @@ fn read_byte(x: Play, heard: &mut [u8], text: &mut [u8], b: u8) -> Play {
     pair(x, heard, text, b)
 }
 
-fn play(input: &[u8], heard: &mut [u8], text: &mut [u8]) {
+fn play_all(input: &[u8], heard: &mut [u8], text: &mut [u8]) {
     let mut x = fresh();
     let mut i: usize = 0;
     while i < input.len() {
@@ -375,5 +398,5 @@ fn main() {
     let n = io::read_full(STDIN_FILENO, &mut input);
     let mut heard = levels();
     let mut text = levels();
-    play(&input[..n], &mut heard, &mut text)
+    play_all(&input[..n], &mut heard, &mut text)
 }

@@ -2,9 +2,10 @@
 //! `input`, writes the lists; with `answers`, plays those of its standard input.
 //!
 //! Pairs of bytes, with LF between two anywhere: `m` and the sign that many behind `0` opens a
-//! station of that mode; a level and a count are ms to be heard; `u` and a hexadecimal digit, then
-//! `l` and another, are a character to be offered; `n` and a count offer the last one so many times
-//! more; `o.` offers; `r` and a sign runs. Levels and counts are written as in `tape`.
+//! station of that mode; a level and a count are ms to be heard; `u` and a sign, then `l` and
+//! another, are the high and the low hexadecimal digit of a character to be offered, each written
+//! as the sign that many behind `0`; `n` and a count offer the last one so many times more; `o.`
+//! offers; `r` and a sign runs. Levels and counts are written as in `tape`.
 
 use reference::answer::SUCCESS;
 use reference::line::{codes, key_number, preamble, runs, signal, text_codes, Code, KEYS};
@@ -84,7 +85,8 @@ fn answers(text: &[u8]) -> String {
 }
 
 fn digit(sign: u8) -> u8 {
-    char::from(sign).to_digit(16).expect("a digit") as u8
+    assert!((b'0'..=b'?').contains(&sign), "a digit");
+    sign - b'0'
 }
 
 /// A run with slices of the lengths that the sign says; all that slices hold is listed.
@@ -130,7 +132,7 @@ fn input() -> Vec<u8> {
             lists.del(mode);
             lists.repeated_shift(mode);
         }
-        for _ in 0..4 {
+        for _ in 0..12 {
             lists.random(mode);
         }
     }
@@ -170,9 +172,8 @@ impl Lists {
     /// Offers a text.
     fn offer(&mut self, text: &[u8]) {
         for same in text.chunk_by(|a, b| a == b) {
-            let digit = |digit: u8| char::from_digit(digit.into(), 16).unwrap() as u8;
-            self.pair(b'u', digit(same[0] >> 4));
-            self.pair(b'l', digit(same[0] & 15));
+            self.pair(b'u', b'0' + (same[0] >> 4));
+            self.pair(b'l', b'0' + (same[0] & 15));
             self.counts(b'n', same.len() - 1);
         }
         self.pair(b'o', b'.');
