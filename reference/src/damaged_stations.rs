@@ -309,5 +309,6 @@ fn ran(random: &mut Random, station: &Station) -> bool {
         && after.offer(b"") == SUCCESS
         && (after.core.waiting >= 256 || after.offer(b"e") == SUCCESS)
         && in_range(&after)
-        && (mode.alphabet() == Alphabet::Baudot || after.core.reader.shift == station.core.reader.shift)
+        && (mode.alphabet() == Alphabet::Baudot
+            || after.core.reader.shift == station.core.reader.shift)
 }

@@ -212,7 +212,8 @@ impl Session<'_> {
                 _ => MOST_MS,
             };
             let (now, later) = heard.split_at(ms.min(heard.len()));
-            let (sent, words) = (self.random.pick(&[0, 0, 1, 20]), self.random.pick(&[0, 0, 1, 20]));
+            let (sent, words) =
+                (self.random.pick(&[0, 0, 1, 20]), self.random.pick(&[0, 0, 1, 20]));
             self.run(now, now.len() + sent, now.len() + words);
             heard = later;
             if heard.is_empty() {
@@ -397,7 +398,10 @@ impl Session<'_> {
             let was_in_burst = self.model.in_burst();
             let said = self.model.ms(level);
             if said.sent != sent {
-                println!("difference: station of mode {}, ms {ms} of {heard:?}", self.mode.number());
+                println!(
+                    "difference: station of mode {}, ms {ms} of {heard:?}",
+                    self.mode.number()
+                );
                 println!("sent {sent}, the model says {}; {before:?}", said.sent);
                 exit(1);
             }
@@ -407,7 +411,8 @@ impl Session<'_> {
                     self.met.add(Thing::BackToBack);
                 }
                 // The reader of a DTMF station keeps its prefix until a digit comes.
-                if ms == 0 && before.core.reader.prefix != 0 && self.engine.core.reader.prefix != 0 {
+                if ms == 0 && before.core.reader.prefix != 0 && self.engine.core.reader.prefix != 0
+                {
                     self.met.add(Thing::PrefixOverABurst);
                 }
             }

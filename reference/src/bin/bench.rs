@@ -76,16 +76,14 @@ fn sizes() {
                 .filter_map(|mut line| line.nth(1)?.parse::<usize>().ok())
                 .sum()
         };
-        let (undefined, defined): (BTreeSet<_>, BTreeSet<_>) = symbols.lines().fold(
-            Default::default(),
-            |(mut undefined, mut defined), line| {
+        let (undefined, defined): (BTreeSet<_>, BTreeSet<_>) =
+            symbols.lines().fold(Default::default(), |(mut undefined, mut defined), line| {
                 let mut columns = line.split_whitespace();
                 if let (Some(name), Some(kind)) = (columns.next(), columns.next()) {
                     if kind == "U" { &mut undefined } else { &mut defined }.insert(name);
                 }
                 (undefined, defined)
-            },
-        );
+            });
         let called: Vec<_> = undefined.difference(&defined).copied().collect();
         let called = if called.is_empty() { "nothing".into() } else { called.join(" ") };
         let (code, constants) = (of(&[".text"]), of(&[".rodata", ".data", ".bss"]));
