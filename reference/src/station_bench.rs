@@ -1,5 +1,5 @@
-//! Stations of the engine and of the reference, side by side: ns a ms, and the first and the
-//! millionth call. Part of `bench`.
+//! Stations of the engine and of the reference, side by side: ns a ms, where valgrind is there also
+//! instructions a ms, and the first and the millionth call. Part of `bench`.
 
 use crate::engine;
 use reference::answer::SUCCESS;
@@ -9,6 +9,7 @@ use reference::mode::Mode;
 use reference::random::Random;
 use reference::station::{Station, MOST_MS, MOST_WAITING};
 use std::hint::black_box;
+use std::process::Command;
 use std::time::Instant;
 
 /// The ms of a pass; 256 waiting characters take longer in every mode.
@@ -27,7 +28,8 @@ struct Work {
     heard: Vec<u8>,
 }
 
-fn works(random: &mut Random, mode: Mode) -> [Work; 4] {
+fn works(mode: Mode) -> [Work; 4] {
+    let random = &mut Random::new(18);
     let work = |name, text, heard| Work { name, mode, text, heard };
     let mut reading = preamble(mode);
     while reading.len() < LENGTH {
@@ -51,16 +53,56 @@ fn works(random: &mut Random, mode: Mode) -> [Work; 4] {
 }
 
 /// A row for each mode, work and length of a call.
-pub fn rows(random: &mut Random) {
-    println!("\n{:<42} {:>8} {:>10} {:>6}", "station, ns a ms", "engine", "reference", "ratio");
+pub fn rows() {
+    let counting = Command::new("valgrind").arg("--version").output().is_ok();
+    print!("\n{:<42} {:>8} {:>10} {:>6}", "station, ns a ms", "engine", "reference", "ratio");
+    println!("{}", if counting { "  instructions a ms" } else { "" });
     for mode in Mode::ALL {
-        for work in works(random, mode) {
+        for (number, work) in works(mode).iter().enumerate() {
             for call in [MOST_MS, SHORT] {
-                let [engine, reference] = ns(&work, call);
+                let [engine, reference] = ns(work, call);
                 let name = format!("mode {}, {}, calls of {call} ms", mode.number(), work.name);
-                println!("{name:<42} {engine:>8.2} {reference:>10.2} {:>6.2}", reference / engine);
+                print!("{name:<42} {engine:>8.2} {reference:>10.2} {:>6.2}", reference / engine);
+                if counting {
+                    for (side, entry) in SIDES {
+                        let count = instructions(side, entry, mode, number, call);
+                        print!(" {:>9}", count.map_or("-".into(), |count| format!("{count:.1}")));
+                    }
+                }
+                println!();
             }
         }
+    }
+}
+
+/// The two sides, and the function of each that callgrind is to count.
+const SIDES: [(&str, &str); 2] =
+    [("engine", "cq_station_run"), ("reference", "reference::station::Station::run*")];
+
+/// The instructions a ms of one pass, which another process of this program makes.
+fn instructions(side: &str, entry: &str, mode: Mode, work: usize, call: usize) -> Option<f64> {
+    let output = Command::new("valgrind")
+        .args(["--tool=callgrind", "--callgrind-out-file=/dev/null"])
+        .arg(format!("--toggle-collect={entry}"))
+        .arg(std::env::current_exe().ok()?)
+        .args(["pass", side, &mode.number().to_string(), &work.to_string(), &call.to_string()])
+        .output()
+        .ok()?;
+    let said = String::from_utf8_lossy(&output.stderr).into_owned();
+    let (_, count) = said.split_once("Collected :")?;
+    let count: f64 = count.split_whitespace().next()?.parse().ok()?;
+    (count > 0.0).then_some(count / LENGTH as f64)
+}
+
+/// One pass of a side, to be counted: the side, the mode, the work and the ms of a call.
+pub fn pass(words: &[String]) {
+    let number = |place: usize| words[place].parse::<usize>().expect("a number");
+    let mode = Mode::from_number(number(1) as u8).expect("a mode");
+    let work = &works(mode)[number(2)];
+    if words[0] == "engine" {
+        Pass::<engine::Station>::new(work).play(work, number(3));
+    } else {
+        Pass::<Station>::new(work).play(work, number(3));
     }
 }
 
@@ -98,27 +140,31 @@ impl<S: Entries> Pass<S> {
     fn time(&mut self, work: &Work, call: usize) -> f64 {
         let start = Instant::now();
         for _ in 0..PASSES {
-            let mut station = black_box(&self.station).clone();
-            self.count = 0;
-            let calls = black_box(&work.heard).chunks(call).zip(self.sent.chunks_mut(call));
-            for (heard, sent) in calls {
-                let ran = station.run(heard, sent, &mut self.words[self.count..]);
-                assert_eq!(ran.answer, SUCCESS);
-                self.count += ran.words;
-            }
-            black_box(&station);
+            self.play(work, call);
         }
         start.elapsed().as_secs_f64() * 1e9 / (PASSES * LENGTH) as f64
+    }
+
+    fn play(&mut self, work: &Work, call: usize) {
+        let mut station = black_box(&self.station).clone();
+        self.count = 0;
+        let calls = black_box(&work.heard).chunks(call).zip(self.sent.chunks_mut(call));
+        for (heard, sent) in calls {
+            let ran = station.run(heard, sent, &mut self.words[self.count..]);
+            assert_eq!(ran.answer, SUCCESS);
+            self.count += ran.words;
+        }
+        black_box(&station);
     }
 }
 
 /// The first and the millionth call of a station that reads, and the mean of the first and of the
 /// last thousand.
-pub fn calls(random: &mut Random) {
+pub fn calls() {
     const CALLS: usize = 1_000_000;
     let name = format!("station, ns a call of {SHORT} ms");
     println!("\n{name:<42} {:>8} {:>10}", "engine", "reference");
-    let work = &works(random, Mode::Baudot45)[2];
+    let work = &works(Mode::Baudot45)[2];
     let (engine, reference) =
         (call_times::<engine::Station>(work, CALLS), call_times::<Station>(work, CALLS));
     let mean = |ns: &[u32]| ns.iter().sum::<u32>() / ns.len() as u32;

@@ -1,6 +1,7 @@
 //! Speed of the engine and of the reference, side by side: millions of characters (sending), codes
 //! (reading) or ms (calling set) a second and ns a ms (stations), the best of several rounds in
-//! which the two alternate; a ratio above 1 says that the engine is faster. Then sizes.
+//! which the two alternate; a ratio above 1 says that the engine is faster. Then sizes. With `pass`
+//! and what `station_bench::pass` takes, one pass of a station, for callgrind.
 
 #[path = "../engine.rs"]
 mod engine;
@@ -23,6 +24,10 @@ const CALLS: usize = 32;
 const ROUNDS: usize = 15;
 
 fn main() {
+    let words: Vec<String> = std::env::args().skip(1).collect();
+    if words.first().is_some_and(|word| word == "pass") {
+        return station_bench::pass(&words[1..]);
+    }
     let mut random = Random::new(18);
     let english = random.english(LENGTH);
     let uniform = random.uniform(LENGTH, 128);
@@ -43,8 +48,8 @@ fn main() {
     let mut chosen = vec![0; LENGTH];
     chosen[0] = 1;
     calling_row("calling set, choice made", &chosen);
-    station_bench::rows(&mut random);
-    station_bench::calls(&mut random);
+    station_bench::rows();
+    station_bench::calls();
     sizes();
 }
 
