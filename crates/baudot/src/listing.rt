@@ -45,7 +45,7 @@ pub fn list_codes(text: &[u8], codes: &mut [u8], lines: &mut [u8]) -> usize
     ensures { λ r. ⌜ r ≡ length (listing (now (text .entry))) ⌝ }
     ensures { λ r. ⌜ now (lines .exit) ≡ written (listing (now (text .entry))) (now (lines .entry)) ⌝ }
 {
-    let s = crate::sending::cq_baudot_send(text, 0, 0, codes);
+    let s = crate::sending::send(text, 0, 0, codes);
     if s.answer != 0 {
         return 0;
     }

@@ -134,8 +134,7 @@ fn refused(answer: u8, shift: u8) -> BaudotText
 }
 
 // The bare conversion of codes to text.
-#[no_mangle]
-pub extern "C" fn cq_baudot_read(codes: &[u8], shift: u8, text: &mut [u8]) -> BaudotText
+pub fn read(codes: &[u8], shift: u8, text: &mut [u8]) -> BaudotText
     ensures { λ r. ⌜ r ≡ readOf (now (codes .entry)) shift (length (now (text .entry))) ⌝ }
     ensures { λ r. ⌜ now (text .exit) ≡ textAfter (now (codes .entry)) shift (now (text .entry)) ⌝ }
 {

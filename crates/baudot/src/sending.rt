@@ -280,8 +280,7 @@ fn put_opened(table: &[u16; 384], text: &[u8], o: Opening, codes: &mut [u8]) -> 
 }
 
 // The bare conversion of text to codes.
-#[no_mangle]
-pub extern "C" fn cq_baudot_send(text: &[u8], shift: u8, count: u8, codes: &mut [u8]) -> BaudotSent
+pub fn send(text: &[u8], shift: u8, count: u8, codes: &mut [u8]) -> BaudotSent
     ensures { λ r. ⌜ r ≡ sentOf (now (text .entry)) shift count (length (now (codes .entry))) ⌝ }
     ensures { λ r. ⌜ now (codes .exit) ≡ codesAfter (now (text .entry)) shift count (now (codes .entry)) ⌝ }
 {

@@ -10,17 +10,17 @@ use Rattle.baudot.proofs.listing.list_codes.Tie as tie
 
 -- the answer is 0: the slice of codes begins with the codes of the text
 taken-is : (c : tie.Else1)
-    → Taken (c .before .before .before .before .before .before .before .before .before .args .text .now) (c .before .before .before .before .before .before .before .before .before .args .codes .now) (c .before .before .before .before .before .before .before .before .before .pre .0) (c .before .before .before .before .cq-baudot-send .result)
+    → Taken (c .before .before .before .before .before .before .before .before .before .args .text .now) (c .before .before .before .before .before .before .before .before .before .args .codes .now) (c .before .before .before .before .before .before .before .before .before .pre .0) (c .before .before .before .before .send .result)
 taken-is c =
     let s = c .before .before .before .before .before .before .before .before .before in
-    listed-all (s .args .text .now) (s .args .codes .now) (s .pre .0) _ (c .before .before .before .before .cq-baudot-send .ensures .0) (c .if1 .left)
+    listed-all (s .args .text .now) (s .args .codes .now) (s .pre .0) _ (c .before .before .before .before .send .ensures .0) (c .if1 .left)
 
 part-is : (c : tie.Else1)
-    → take (c .before .before .before .before .cq-baudot-send .result .length) (c .before .before .before .before .cq-baudot-send .last .1 .1 .1 .0) ≡ codesOf fresh (c .before .before .before .before .before .before .before .before .before .args .text .now)
-part-is c = ap (take (c .before .before .before .before .cq-baudot-send .result .length)) (c .before .before .before .before .cq-baudot-send .ensures .1) ∙ taken-is c .front
+    → take (c .before .before .before .before .send .result .length) (c .before .before .before .before .send .last .1 .1 .1 .0) ≡ codesOf fresh (c .before .before .before .before .before .before .before .before .before .args .text .now)
+part-is c = ap (take (c .before .before .before .before .send .result .length)) (c .before .before .before .before .send .ensures .1) ∙ taken-is c .front
 
-cq-baudot-send-requires : tie.Need-cq-baudot-send-requires
-cq-baudot-send-requires c κs = search needs
+send-requires : tie.Need-send-requires
+send-requires c κs = search needs
 
 same-length : tie.Need-same-length
 same-length c = search needs
@@ -28,12 +28,12 @@ same-length c = search needs
 returns : tie.Need-returns
 returns c =
     let s = c .before .before .before .before .before .before .before .before .before in
-    let e = listed-none (s .args .text .now) (s .args .codes .now) (s .pre .0) _ (c .before .before .before .before .cq-baudot-send .ensures .0) (c .if1 .taken) in
+    let e = listed-none (s .args .text .now) (s .args .codes .now) (s .pre .0) _ (c .before .before .before .before .send .ensures .0) (c .if1 .taken) in
     let q = printed-none (s .args .text .now) (s .args .lines .now) e in
     (q .length-is, q .lines-are)
 
 slice-reshare-prefix-put-lines : tie.Need-slice-reshare-prefix-put-lines
-slice-reshare-prefix-put-lines c = omega (arith, taken-is c .within, c .before .before .before .before .cq-baudot-send .kept .1 .1 .1 .0)
+slice-reshare-prefix-put-lines c = omega (arith, taken-is c .within, c .before .before .before .before .send .kept .1 .1 .1 .0)
 
 slice-aggregate-put-lines : tie.Need-slice-aggregate-put-lines
 slice-aggregate-put-lines c = taken-is (c .before) .count ∙ sym (ap length (part-is (c .before)))
@@ -65,7 +65,7 @@ pub list-codes-spec : {M : Type 1} → statement M
 list-codes-spec =
     tie.close
     (tie.spec
-    cq-baudot-send-requires
+    send-requires
     same-length
     returns
     slice-reshare-prefix-put-lines

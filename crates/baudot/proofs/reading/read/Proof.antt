@@ -1,12 +1,12 @@
--- `reading::cq_baudot_read` meets its contract: each refusal, and success.
+-- `reading::read` meets its contract: each refusal, and success.
 use mathlib.Core.Path.{_≡_, _∙_, sym}
 use Prim.Native.Nat.{_≤_}
 use native.Mathlib.Omega.{arith}
 use borrow.Author.Tests.{leb-true, leb-false, not-true, not-false}
 use Rattle.baudot.proofs.Answers.{read-refused, fresh-shift, far-shift, no-codes, no-text-room, read-yes, read-accepted}
 use borrow.Author.Needs.{needs}
-use Rattle.baudot.proofs.reading.cq_baudot_read.Statement.{statement}
-use Rattle.baudot.proofs.reading.cq_baudot_read.Tie as tie
+use Rattle.baudot.proofs.reading.read.Statement.{statement}
+use Rattle.baudot.proofs.reading.read.Tie as tie
 
 refused-requires : tie.Need-refused-requires
 refused-requires c κs = search needs
@@ -81,8 +81,8 @@ returns-5 c =
     let r = read-accepted (a .codes .now) (a .shift) (a .text .now) (read-yes (a .codes .now) (a .shift) (a .text .now) (e .before .before .before .if1 .left) (e .before .before .if2 .left) t h) h _ _ (q .ensures .0) (q .ensures .1) in
     (r .result, r .slice)
 
-pub cq-baudot-read-spec : {M : Type 1} → statement M
-cq-baudot-read-spec =
+pub read-spec : {M : Type 1} → statement M
+read-spec =
     tie.close
     (tie.spec
     refused-requires

@@ -1,11 +1,11 @@
--- `sending::cq_baudot_send` meets its contract: each refusal, and success.
+-- `sending::send` meets its contract: each refusal, and success.
 use mathlib.Core.Path.{_≡_, _∙_, sym}
 use native.Mathlib.Omega.{arith}
 use borrow.Author.Tests.{leb-true, leb-false, not-true, not-false}
 use Rattle.baudot.proofs.Answers.{refused, no-shift, no-count, no-chars, no-room, yes, fits-is, room-is, accepted}
 use borrow.Author.Needs.{needs}
-use Rattle.baudot.proofs.sending.cq_baudot_send.Statement.{statement}
-use Rattle.baudot.proofs.sending.cq_baudot_send.Tie as tie
+use Rattle.baudot.proofs.sending.send.Statement.{statement}
+use Rattle.baudot.proofs.sending.send.Tie as tie
 
 refused-requires : tie.Need-refused-requires
 refused-requires c κs = search needs
@@ -88,8 +88,8 @@ returns-5 c =
     let r = accepted (a .text .now) (a .shift) (a .count) (a .codes .now) _ o (yes (a .text .now) (a .shift) (a .count) (a .codes .now) (e .before .before .before .if1 .left) (e .before .before .if2 .left) t h) h _ _ (q .ensures .0) (q .ensures .1) in
     (r .result, r .slice)
 
-pub cq-baudot-send-spec : {M : Type 1} → statement M
-cq-baudot-send-spec =
+pub send-spec : {M : Type 1} → statement M
+send-spec =
     tie.close
     (tie.spec
     refused-requires
