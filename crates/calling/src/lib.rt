@@ -189,31 +189,3 @@ pub fn run(s: Calling, tones: &[u8], sent: &mut [u8]) -> Ran
         answer: 0,
     }
 }
-
-// A fresh state.
-#[no_mangle]
-pub extern "C" fn cq_calling_fresh() -> Calling
-    ensures { λ r. ⌜ r ≡ fresh ⌝ }
-{
-    Calling::fresh()
-}
-
-// The choice, 0 until one is made.
-#[no_mangle]
-pub extern "C" fn cq_calling_choice(state: &Calling) -> u8
-    ensures { λ r. ⌜ r ≡ now (state .entry) .choice ⌝ }
-{
-    state.choice
-}
-
-// A run on the state that the host lends: the sent ms of the tones; 0 or the number of the refusal.
-#[no_mangle]
-pub extern "C" fn cq_calling_run(state: &mut Calling, tones: &[u8], sent: &mut [u8]) -> u8
-    ensures { λ r. ⌜ (r ≡ ranOf (now (state .entry)) (now (tones .entry)) (length (now (sent .entry))) .answer)
-        × ((now (state .exit) ≡ ranOf (now (state .entry)) (now (tones .entry)) (length (now (sent .entry))) .state)
-        × (now (sent .exit) ≡ sentAfter (now (state .entry)) (now (tones .entry)) (now (sent .entry)))) ⌝ }
-{
-    let r = run(*state, tones, sent);
-    *state = r.state;
-    r.answer
-}

@@ -40,21 +40,21 @@ use denote.Triple.Table.{entered, cited}
 use denote.Triple.Walked.{says, Stays, stay-ref, stay-none-slice, gave-slice, walkOf, AllGo, goes-none-slice, goes-gave-slice, goes-ref, Walks, ends-at, walked, walk-meets}
 use denote.Exit.{yes}
 use denote.Triple.Clauses.{ensured, lasts}
 use Rattle.calling.specs.declared.Calling.{Calling}
 use Rattle.calling.specs.Entry.{ranOf, sentAfter}
 use Rattle.calling.specs.declared.Ran.{Ran}
 use Rattle.calling.proofs.Ran as R
 use Rattle.calling.proofs.Ran.Laws as R′
 use Rattle.calling.proofs.Calling as T
 use Rattle.calling.proofs.Calling.Laws as T′
 use Rattle.calling.proofs.run as g
 use Rattle.calling.proofs.run.Symbol as g-def
 use Rattle.calling.proofs.run.Symbol.{name as #calling·run}
 use Rattle.calling.proofs.run.Met as g-thm
-use Rattle.calling.proofs.cq_calling_run.Key.{name as #calling·cq-calling-run}
-use Rattle.calling.proofs.cq_calling_run as f
-use Rattle.calling.proofs.cq_calling_run.Statement as stated
-use Rattle.calling.proofs.cq_calling_run.Code as code
+use Rattle.cuyrapaq.proofs.calling_set.cq_calling_run.Key.{name as #cuyrapaq·calling-set·cq-calling-run}
+use Rattle.cuyrapaq.proofs.calling_set.cq_calling_run as f
+use Rattle.cuyrapaq.proofs.calling_set.cq_calling_run.Statement as stated
+use Rattle.cuyrapaq.proofs.calling_set.cq_calling_run.Code as code
 
 -- what is had of the parameters at exit: the state, which was opened and shut; the tones; the sent slice was given to the callee
 abbrev stayed : Stays (f.ended .signature .params) (f.ended .kept)
@@ -228,6 +228,6 @@ pub cq-calling-run-spec : {M : Type 1} → stated.statement M
 unfolding code.routine tablesOf
 cq-calling-run-spec 𝓤 H 𝓜 𝓖 𝓡 =
     entered 𝓤 H (tripleOf 𝓤 H (𝓖 .A) f.signature (f.spec 𝓤 H (𝓖 .A) (𝓜 .mem) (𝓡 .run)))
-    (tables 𝓤 H 𝓜 𝓡 code.env .C) (tables 𝓤 H 𝓜 𝓡 code.env .Λ) #calling·cq-calling-run code.function (code.unfolded 𝓤 H 𝓜 𝓡)
+    (tables 𝓤 H 𝓜 𝓡 code.env .C) (tables 𝓤 H 𝓜 𝓡 code.env .Λ) #cuyrapaq·calling-set·cq-calling-run code.function (code.unfolded 𝓤 H 𝓜 𝓡)
     (meets 𝓤 H (𝓖 .A) (givenOf 𝓤 H 𝓜 𝓖) (𝓜 .mem) (𝓡 .run) (tablesOf 𝓤 H 𝓜 (tables 𝓤 H 𝓜 𝓡 code.env))
     (cited 𝓤 H (G 𝓤 H (𝓖 .A) (𝓜 .mem) (𝓡 .run)) 𝓜 𝓡 code.env #calling·run g-def.routine code.calls-calling·run (g-thm.met 𝓤 H 𝓜 𝓖 𝓡)))

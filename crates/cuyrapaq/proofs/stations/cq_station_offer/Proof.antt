@@ -51,10 +51,10 @@ use Rattle.station.proofs.offer as g
 use Rattle.station.proofs.offer.Symbol as g-def
 use Rattle.station.proofs.offer.Symbol.{name as #station·offer}
 use Rattle.station.proofs.offer.Met as g-thm
-use Rattle.cuyrapaq.proofs.cq_station_offer.Key.{name as #cuyrapaq·cq-station-offer}
-use Rattle.cuyrapaq.proofs.cq_station_offer as f
-use Rattle.cuyrapaq.proofs.cq_station_offer.Statement as stated
-use Rattle.cuyrapaq.proofs.cq_station_offer.Code as code
+use Rattle.cuyrapaq.proofs.stations.cq_station_offer.Key.{name as #cuyrapaq·stations·cq-station-offer}
+use Rattle.cuyrapaq.proofs.stations.cq_station_offer as f
+use Rattle.cuyrapaq.proofs.stations.cq_station_offer.Statement as stated
+use Rattle.cuyrapaq.proofs.stations.cq_station_offer.Code as code
 
 -- what is had of the parameters at exit: the station, which was opened and shut; the text
 abbrev stayed : Stays (f.ended .signature .params) (f.ended .kept)
@@ -203,6 +203,6 @@ pub cq-station-offer-spec : {M : Type 1} → stated.statement M
 unfolding code.routine tablesOf
 cq-station-offer-spec 𝓤 H 𝓜 𝓖 𝓡 =
     entered 𝓤 H (tripleOf 𝓤 H (𝓖 .A) f.signature (f.spec 𝓤 H (𝓖 .A) (𝓜 .mem) (𝓡 .run)))
-    (tables 𝓤 H 𝓜 𝓡 code.env .C) (tables 𝓤 H 𝓜 𝓡 code.env .Λ) #cuyrapaq·cq-station-offer code.function (code.unfolded 𝓤 H 𝓜 𝓡)
+    (tables 𝓤 H 𝓜 𝓡 code.env .C) (tables 𝓤 H 𝓜 𝓡 code.env .Λ) #cuyrapaq·stations·cq-station-offer code.function (code.unfolded 𝓤 H 𝓜 𝓡)
     (meets 𝓤 H (𝓖 .A) (givenOf 𝓤 H 𝓜 𝓖) (𝓜 .mem) (𝓡 .run) (tablesOf 𝓤 H 𝓜 (tables 𝓤 H 𝓜 𝓡 code.env))
     (cited 𝓤 H (G 𝓤 H (𝓖 .A) (𝓜 .mem) (𝓡 .run)) 𝓜 𝓡 code.env #station·offer g-def.routine code.calls-station·offer (g-thm.met 𝓤 H 𝓜 𝓖 𝓡)))

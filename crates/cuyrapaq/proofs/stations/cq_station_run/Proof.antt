@@ -50,13 +50,13 @@ use Rattle.running.proofs.run as g
 use Rattle.running.proofs.run.Symbol as g-def
 use Rattle.running.proofs.run.Symbol.{name as #running·run}
 use Rattle.running.proofs.run.Met as g-thm
-use Rattle.cuyrapaq.specs.declared.StationRan.{StationRan}
-use Rattle.cuyrapaq.proofs.StationRan as S
-use Rattle.cuyrapaq.proofs.StationRan.Laws as S′
-use Rattle.cuyrapaq.proofs.cq_station_run.Key.{name as #cuyrapaq·cq-station-run}
-use Rattle.cuyrapaq.proofs.cq_station_run as f
-use Rattle.cuyrapaq.proofs.cq_station_run.Statement as stated
-use Rattle.cuyrapaq.proofs.cq_station_run.Code as code
+use Rattle.cuyrapaq.specs.declared.stations.StationRan.{StationRan}
+use Rattle.cuyrapaq.proofs.stations.StationRan as S
+use Rattle.cuyrapaq.proofs.stations.StationRan.Laws as S′
+use Rattle.cuyrapaq.proofs.stations.cq_station_run.Key.{name as #cuyrapaq·stations·cq-station-run}
+use Rattle.cuyrapaq.proofs.stations.cq_station_run as f
+use Rattle.cuyrapaq.proofs.stations.cq_station_run.Statement as stated
+use Rattle.cuyrapaq.proofs.stations.cq_station_run.Code as code
 
 -- what is had of the parameters at exit: the station, which was opened and shut; the heard ms; the other two were given to the
 -- callee
@@ -271,6 +271,6 @@ pub cq-station-run-spec : {M : Type 1} → stated.statement M
 unfolding code.routine tablesOf
 cq-station-run-spec 𝓤 H 𝓜 𝓖 𝓡 =
     entered 𝓤 H (tripleOf 𝓤 H (𝓖 .A) f.signature (f.spec 𝓤 H (𝓖 .A) (𝓜 .mem) (𝓡 .run)))
-    (tables 𝓤 H 𝓜 𝓡 code.env .C) (tables 𝓤 H 𝓜 𝓡 code.env .Λ) #cuyrapaq·cq-station-run code.function (code.unfolded 𝓤 H 𝓜 𝓡)
+    (tables 𝓤 H 𝓜 𝓡 code.env .C) (tables 𝓤 H 𝓜 𝓡 code.env .Λ) #cuyrapaq·stations·cq-station-run code.function (code.unfolded 𝓤 H 𝓜 𝓡)
     (meets 𝓤 H (𝓖 .A) (givenOf 𝓤 H 𝓜 𝓖) (𝓜 .mem) (𝓡 .run) (tablesOf 𝓤 H 𝓜 (tables 𝓤 H 𝓜 𝓡 code.env))
     (cited 𝓤 H (G 𝓤 H (𝓖 .A) (𝓜 .mem) (𝓡 .run)) 𝓜 𝓡 code.env #running·run g-def.routine code.calls-running·run (g-thm.met 𝓤 H 𝓜 𝓖 𝓡)))

@@ -32,13 +32,13 @@ use denote.Triple.Spec.{Meets, tripleOf}
 use denote.Triple.Table.{entered}
 use denote.Triple.Walked.{says, Stays, stay-none-ref, walkOf, AllGo, goes-none-ref, Walks, ends-at, walked, walk-meets}
 use denote.Exit.{yes}
 use Rattle.calling.specs.declared.Calling.{Calling}
 use Rattle.calling.proofs.Calling as T
 use Rattle.calling.proofs.Calling.Laws as T′
-use Rattle.calling.proofs.cq_calling_choice.Key.{name as #calling·cq-calling-choice}
-use Rattle.calling.proofs.cq_calling_choice as f
-use Rattle.calling.proofs.cq_calling_choice.Statement as stated
-use Rattle.calling.proofs.cq_calling_choice.Code as code
+use Rattle.cuyrapaq.proofs.calling_set.cq_calling_choice.Key.{name as #cuyrapaq·calling-set·cq-calling-choice}
+use Rattle.cuyrapaq.proofs.calling_set.cq_calling_choice as f
+use Rattle.cuyrapaq.proofs.calling_set.cq_calling_choice.Statement as stated
+use Rattle.cuyrapaq.proofs.calling_set.cq_calling_choice.Code as code
 
 abbrev stayed : Stays (f.ended .signature .params) (f.ended .kept)
 stayed = (stay-none-ref (0 ∷ []) tt (plain (λ _. T.the-row)) yes, tt)
@@ -109,5 +109,5 @@ pub cq-calling-choice-spec : {M : Type 1} → stated.statement M
 unfolding code.routine tablesOf
 cq-calling-choice-spec 𝓤 H 𝓜 𝓖 𝓡 =
     entered 𝓤 H (tripleOf 𝓤 H (𝓖 .A) f.signature (f.spec 𝓤 H (𝓖 .A) (𝓜 .mem) (𝓡 .run)))
-    (tables 𝓤 H 𝓜 𝓡 code.env .C) (tables 𝓤 H 𝓜 𝓡 code.env .Λ) #calling·cq-calling-choice code.function (code.unfolded 𝓤 H 𝓜 𝓡)
+    (tables 𝓤 H 𝓜 𝓡 code.env .C) (tables 𝓤 H 𝓜 𝓡 code.env .Λ) #cuyrapaq·calling-set·cq-calling-choice code.function (code.unfolded 𝓤 H 𝓜 𝓡)
     (meets 𝓤 H (𝓖 .A) (givenOf 𝓤 H 𝓜 𝓖) (𝓜 .mem) (𝓡 .run) (tablesOf 𝓤 H 𝓜 (tables 𝓤 H 𝓜 𝓡 code.env)))

@@ -1,0 +1,56 @@
+// The entries of a station.
+use station::Answered;
+use station::Station;
+ghost use mathlib.Core.Path.{_≡_};
+ghost use lib.ListN.{length};
+ghost use Rattle.station.specs.Entries.{openOf, offerOf, ranOf, sentAfter, wordsAfter};
+
+// What a run gives: 0 or the number of the refusal, and how many words were written.
+#[repr(C)]
+pub struct StationRan {
+    pub answer: u8,
+    pub words: usize,
+}
+
+// A fresh station of a mode, 1 to 4; refusal 2 gives one of mode 1.
+#[no_mangle]
+pub extern "C" fn cq_station_open(mode: u8) -> Answered
+    ensures { λ r. ⌜ r ≡ openOf mode ⌝ }
+{
+    station::open(mode)
+}
+
+// An offer to the station that the host lends: 0 or the number of the refusal.
+#[no_mangle]
+pub extern "C" fn cq_station_offer(station: &mut Station, text: &[u8]) -> u8
+    ensures { λ r. ⌜ (r ≡ offerOf (now (station .entry)) (now (text .entry)) .answer)
+        × (now (station .exit) ≡ offerOf (now (station .entry)) (now (text .entry)) .station) ⌝ }
+{
+    let r = station::offer(*station, text);
+    *station = r.station;
+    r.answer
+}
+
+// A run on the station that the host lends: the sent ms and the words of the ms that are heard.
+#[no_mangle]
+pub extern "C" fn cq_station_run(
+    station: &mut Station,
+    heard: &[u8],
+    sent: &mut [u8],
+    words: &mut [u32],
+) -> StationRan
+    ensures { λ r. ⌜ (r ≡ record {
+      answer = ranOf (now (station .entry)) (now (heard .entry)) (length (now (sent .entry))) (length (now (words .entry))) .answer;
+      words = ranOf (now (station .entry)) (now (heard .entry)) (length (now (sent .entry))) (length (now (words .entry))) .words;
+    })
+        × ((now (station .exit) ≡ ranOf (now (station .entry)) (now (heard .entry)) (length (now (sent .entry))) (length (now (words .entry))) .station)
+        × ((now (sent .exit) ≡ sentAfter (now (station .entry)) (now (heard .entry)) (length (now (words .entry))) (now (sent .entry)))
+        × (now (words .exit) ≡ wordsAfter (now (station .entry)) (now (heard .entry)) (length (now (sent .entry))) (now (words .entry))))) ⌝ }
+{
+    let r = running::run(*station, heard, sent, words);
+    *station = r.station;
+    StationRan {
+        answer: r.answer,
+        words: r.words,
+    }
+}
