@@ -1,6 +1,6 @@
 # make demo      lists the Baudot codes of a line of text; another line: make demo TEXT='GA TO YOU'
 # make test      the gate: every proof and every test, from nothing
-# make lib       libcuyrapaq.a, libbaudot.a and libcalling.a in target/staticlib, for hosts in C
+# make lib       target/staticlib/libcuyrapaq.a, for hosts in C
 # make bench     speed and sizes of the engine beside the reference
 # make vectors   rewrites the expected output of the test programs from the reference
 #
@@ -25,8 +25,6 @@ test:
 
 lib:
 	rt staticlib cuyrapaq
-	rt staticlib baudot
-	rt staticlib calling
 
 bench: lib
 	$(CARGO_BUILD) --all-features --bin bench

@@ -1,8 +1,8 @@
 /*
  * A first call from C: converts a text to five-bit codes and reads them back.
  *
- *     rt staticlib baudot
- *     gcc -std=c99 -Iinclude examples/baudot.c target/staticlib/libbaudot.a -o target/baudot
+ *     rt staticlib cuyrapaq
+ *     gcc -std=c99 -Iinclude examples/baudot.c target/staticlib/libcuyrapaq.a -o target/baudot
  *     target/baudot 'HELLO 73'
  */
 #include "cuyrapaq.h"

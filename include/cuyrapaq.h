@@ -8,8 +8,8 @@
  * elements. The engine uses no heap, keeps nothing between calls and calls nothing back. Several threads
  * may call it at the same time, each with its own slice to be written and its own state.
  *
- * Link libcuyrapaq.a for the station, libbaudot.a for the conversions and libcalling.a for the calling set
- * (x86-64, System V calling convention).
+ * Link libcuyrapaq.a (x86-64, System V calling convention). Of the C library it calls memcpy, memmove and
+ * memset alone.
  */
 #ifndef CUYRAPAQ_H
 #define CUYRAPAQ_H
@@ -20,6 +20,15 @@
 #ifdef __cplusplus
 extern "C" {
 #endif
+
+/*
+ * The version of the interface. MAJOR: a struct, an entry's contract or a refusal's meaning changed;
+ * MINOR: entries were added; PATCH: the contracts are the same.
+ */
+#define CQ_VERSION_MAJOR 1
+#define CQ_VERSION_MINOR 0
+#define CQ_VERSION_PATCH 0
+#define CQ_VERSION (CQ_VERSION_MAJOR * 10000L + CQ_VERSION_MINOR * 100L + CQ_VERSION_PATCH)
 
 /*
  * The shift: which half of the code table is in force. The line carries codes alone, and the same code

@@ -1,13 +1,10 @@
-//! Tells the linker where the engine's static libraries are. Only `differential` and `bench` link
-//! them.
+//! Tells the linker where the engine's static library is. Only `differential` and `bench` link it.
 
 fn main() {
     println!("cargo:rerun-if-changed=build.rs");
     println!("cargo:rerun-if-env-changed=CQ_LIB_DIR");
     if let Ok(folder) = std::env::var("CQ_LIB_DIR") {
         println!("cargo:rustc-link-search=native={folder}");
-        for name in ["cuyrapaq", "baudot", "calling"] {
-            println!("cargo:rerun-if-changed={folder}/lib{name}.a");
-        }
+        println!("cargo:rerun-if-changed={folder}/libcuyrapaq.a");
     }
 }

@@ -1,5 +1,5 @@
 //! The engine's C entries as safe functions. Not part of the library: `differential` and `bench`
-//! take this file in, and with it the engine's static libraries.
+//! take this file in, and with it the engine's static library.
 
 use reference::baudot::{Sent, Text};
 use reference::calling::State;
@@ -7,7 +7,7 @@ use reference::demand3::Entries;
 use reference::mode::Mode;
 use reference::station::{Ran, MOST_WAITING};
 
-const _: &str = env!("CQ_LIB_DIR", "set CQ_LIB_DIR to the folder of the engine's libraries");
+const _: &str = env!("CQ_LIB_DIR", "set CQ_LIB_DIR to the folder of libcuyrapaq.a");
 
 /// What is on the line.
 #[repr(C)]
@@ -100,10 +100,7 @@ extern "C" {
         words: *mut u32,
         words_length: usize,
     ) -> StationRan;
-}
 
-#[link(name = "baudot", kind = "static")]
-extern "C" {
     fn cq_baudot_send(
         text: *const u8,
         text_length: usize,
@@ -120,10 +117,7 @@ extern "C" {
         text: *mut u8,
         text_length: usize,
     ) -> Text;
-}
 
-#[link(name = "calling", kind = "static")]
-extern "C" {
     fn cq_calling_fresh() -> State;
 
     fn cq_calling_choice(state: *const State) -> u8;

@@ -62,7 +62,7 @@ fn sizes() {
     row("station", size_of::<engine::Station>(), size_of::<Station>());
     row("calling set", size_of::<State>(), size_of::<Set>());
     println!("\n{:<42} {:>8} {:>10}  called", "bytes of a library", "code", "constants");
-    for name in ["cuyrapaq", "baudot", "calling"] {
+    for name in ["cuyrapaq"] {
         let library = format!("{}/lib{name}.a", env!("CQ_LIB_DIR"));
         let [size, symbols] = [["size", "-A"], ["nm", "-P"]].map(|[tool, option]| {
             let output = Command::new(tool).args([option, &library]).output();
