@@ -6,9 +6,9 @@ use mathlib.Core.List.{List, [], _∷_, _++_, map, append-assoc}
 use Prim.Native.Nat.{ℕ, zero, suc, _+_, _-_, _≤_}
 use native.Mathlib.Omega.{arith}
 use lib.Dec.{eqb, leb}
-use lib.ListN.{length, take, drop, length-append, length-take}
+use lib.ListN.{length, take, drop, length-append, length-take, take-append-drop}
 use lib.Seq.{take-nil, take-all, take-at, take-append-seam}
-use borrow.Author.Tests.{eqb-true, leb-true, leb-false, le-leb}
+use borrow.Author.Tests.{eqb-true, eqb-false, leb-true, leb-false, le-leb}
 use Rattle.lists.specs.Lists.{allAtMost}
 use Rattle.lists.specs.Steps.{stateAfter, outputs}
 use Rattle.lists.proofs.Lists.{at-most-head, at-most-tail}
@@ -29,54 +29,22 @@ use Rattle.station.specs.declared.Ran.{Ran}
 use Rattle.station.specs.Station.{modeOfStation, alphabetOfStation, queueOf, freshStation, offeredTo, stationMs, sentMs, eventOf, stationAfter, eventsBy, sentBy as sentRun, wordsBy as wordsRun}
 use Rattle.station.specs.Range.{inRange}
 use Rattle.station.specs.Entries.{answered, ran, highestLevel, offerAnswer, offerOf, runAnswer, ranOf, sentAfter, wordsAfter}
+use Rattle.station.proofs.Range.{accepted, runs}
+use Rattle.station.proofs.Answers.{refused-offer, refused-run}
+use Rattle.station.proofs.Cuts.{first-runs}
 use Rattle.reading.specs.Model.{Model, Step, Offer, Ms, freshModel, offered, msAfter, modelAfter, does, sentIn, heardIn}
 use Rattle.reading.specs.Reading.{OffersChars}
 use Rattle.reading.specs.BothModels.{stationReader, stationEvents}
 use Rattle.reading.specs.Calls.{Call, OfferCall, RunCall, opened, left, succeeds, sentFor, wordsFor, stepsFor, stepsIf, leftBy, sentBy, wordsBy, stepsBy, accepts, modelSteps, msIn, cutFor, upTo}
-use Rattle.reading.specs.Demand3.{Same}
-use Rattle.reading.proofs.Attach.{Attached}
 use Rattle.reading.proofs.Core.{does-append}
-use Rattle.reading.proofs.Cuts.{take-append, most-append, most-left, most-right, most-take, heard-append, heard-run, chars-append, chars-run, sent-append, events-append, events-length}
-
--- A station that goes with its model and reader (Attach), by the definitions that its entries cite.
-pub record StationLike (mode : Mode) : Type 1 where
-  pub A : Attached mode Station
-  pub offer-is : (s : Station) (cs : List ℕ) → A .offer s cs ≡ offeredTo s cs
-  pub ms-is : (s : Station) (x : ℕ) → A .ms s x ≡ stationMs s x
-  pub sent-is : (s : Station) (x : ℕ) → sentMs s x ≡ A .sent s
-  pub event-is : (s : Station) (x : ℕ) → eventOf s x ≡ A .event s x
-  pub takes : (s : Station) (cs : List ℕ) → offerAnswer s cs ≡ 0 → A .Takes s cs
-  pub hears : (x : ℕ) → x ≤ highestLevel mode → A .Hears x
-  pub fresh-like : A .Like (freshStation (modeNumber mode)) freshModel fresh
-  pub mode-is : (s : Station) (m : Model) (r : Reader) → A .Like s m r → s .core .mode ≡ modeNumber mode
-  pub in-range : (s : Station) (m : Model) (r : Reader) → A .Like s m r → inRange s ≡ true
-  pub waits : (s : Station) (m : Model) (r : Reader) → A .Like s m r → s .core .waiting ≡ length (m .waiting)
-
-of-number : (mode : Mode) → modeOf (modeNumber mode) ≡ mode
-of-number Baudot45 = refl
-of-number Baudot50 = refl
-of-number Dtmf = refl
-of-number Edt = refl
+use Rattle.reading.proofs.StationLike.{Like, mode-same, count-same, sent-same, event-same, ms-like, offer-like}
+use Rattle.reading.proofs.Cuts.{take-append, most-append, heard-append, heard-run, chars-append, chars-run, sent-append, events-append, events-length}
 
 -- ---- the questions
-
--- an offer that succeeds is of characters
-offer-chars : (s : Station) (text : List ℕ) → offerAnswer s text ≡ 0 → allChars text ≡ true
-unfolding offerAnswer
-offer-chars s text e = go (inRange s) (allChars text) (room (alphabetOfStation s) (queueOf s) text) e
-  where
-    go : (a b c : Bool) → _≡_ {A = ℕ} (cond a (cond b (cond c 0 4) 3) 1) 0 → b ≡ true
-    go true true c e = refl
-    go true false c e = absurd (omega arith)
-    go false b c e = absurd (omega arith)
 
 offer-yes : (s : Station) (text : List ℕ) → offerAnswer s text ≡ 0 → offerOf s text ≡ answered (offeredTo s text) 0
 unfolding offerOf
 offer-yes s text e = rw e refl
-
-offer-no : (s : Station) (text : List ℕ) → eqb (offerAnswer s text) 0 ≡ false → offerOf s text ≡ answered s (offerAnswer s text)
-unfolding offerOf
-offer-no s text e = rw e refl
 
 offer-succeeds : (s : Station) (text : List ℕ) → succeeds s (OfferCall text) ≡ eqb (offerAnswer s text) 0
 unfolding offerOf
@@ -86,58 +54,20 @@ offer-succeeds s text = go (offerAnswer s text) (eqb (offerAnswer s text) 0) ref
     go a true e = sym e
     go a false e = refl
 
--- a run that succeeds has passed each question
-record RunFine (s : Station) (heard : List ℕ) (sentRoom wordRoom : ℕ) : Type 0 where
-  in-range : inRange s ≡ true
-  ms-in : leb (length heard) 4_096 ≡ true
-  levels-in : allAtMost (highestLevel (modeOfStation s)) heard ≡ true
-  sent-fits : leb (length heard) sentRoom ≡ true
-  words-fit : leb (length heard) wordRoom ≡ true
-
-run-fine : (s : Station) (heard : List ℕ) (sentRoom wordRoom : ℕ) → runAnswer s heard sentRoom wordRoom ≡ 0 → RunFine s heard sentRoom wordRoom
-unfolding runAnswer
-run-fine s heard sentRoom wordRoom e =
-    let f = go (inRange s) (leb (length heard) 4_096) (allAtMost (highestLevel (modeOfStation s)) heard) (leb (length heard) sentRoom) (leb (length heard) wordRoom) e in
-    record { in-range = f .0; ms-in = f .1; levels-in = f .2; sent-fits = f .3; words-fit = f .4 }
-  where
-    go : (a b c d f : Bool) → _≡_ {A = ℕ} (cond a (cond b (cond c (cond d (cond f 0 8) 7) 6) 5) 1) 0 → (a ≡ true) × (b ≡ true) × (c ≡ true) × (d ≡ true) × (f ≡ true)
-    go true true true true true e = (refl, refl, refl, refl, refl)
-    go true true true true false e = absurd (omega arith)
-    go true true true false f e = absurd (omega arith)
-    go true true false d f e = absurd (omega arith)
-    go true false c d f e = absurd (omega arith)
-    go false b c d f e = absurd (omega arith)
-
-run-passes : (s : Station) (heard : List ℕ) (sentRoom wordRoom : ℕ) → RunFine s heard sentRoom wordRoom → runAnswer s heard sentRoom wordRoom ≡ 0
-unfolding runAnswer
-run-passes s heard sentRoom wordRoom f = rw (f .in-range, f .ms-in, f .levels-in, f .sent-fits, f .words-fit) refl
-
--- so has the run on its first n ms
+-- a run that succeeds succeeds on its first n ms, too
 run-cut : (n : ℕ) (s : Station) (heard : List ℕ) (sentRoom wordRoom : ℕ) → runAnswer s heard sentRoom wordRoom ≡ 0 → runAnswer s (take n heard) sentRoom wordRoom ≡ 0
-run-cut n s heard sentRoom wordRoom e =
-    let f = run-fine s heard sentRoom wordRoom e in
+run-cut n s heard sentRoom wordRoom z =
+    let r = runs s heard sentRoom wordRoom z in
     let k = length-take n heard in
-    let a = leb-true (length heard) 4_096 (f .ms-in) in
-    let b = leb-true (length heard) sentRoom (f .sent-fits) in
-    let c = leb-true (length heard) wordRoom (f .words-fit) in
-    run-passes s (take n heard) sentRoom wordRoom
-    (record {
-      in-range = f .in-range;
-      ms-in = le-leb (length (take n heard)) 4_096 (omega arith);
-      levels-in = most-take (highestLevel (modeOfStation s)) n heard (f .levels-in);
-      sent-fits = le-leb (length (take n heard)) sentRoom (omega arith);
-      words-fit = le-leb (length (take n heard)) wordRoom (omega arith);
-    })
+    let a = leb-true (length heard) sentRoom (r .sent-fits) in
+    let b = leb-true (length heard) wordRoom (r .words-fit) in
+    let y = subst (λ (l : List ℕ). runAnswer s l sentRoom wordRoom ≡ 0) (sym (take-append-drop n heard)) z in
+    first-runs s (take n heard) (drop n heard) sentRoom wordRoom y sentRoom wordRoom (omega arith) (omega arith)
 
-run-yes : (s : Station) (heard : List ℕ) (sentRoom wordRoom : ℕ) → runAnswer s heard sentRoom wordRoom ≡ 0
+pub run-yes : (s : Station) (heard : List ℕ) (sentRoom wordRoom : ℕ) → runAnswer s heard sentRoom wordRoom ≡ 0
     → ranOf s heard sentRoom wordRoom ≡ ran (stationAfter s heard) 0 (length (wordsRun s heard))
 unfolding ranOf
 run-yes s heard sentRoom wordRoom e = rw e refl
-
-run-no : (s : Station) (heard : List ℕ) (sentRoom wordRoom : ℕ) → eqb (runAnswer s heard sentRoom wordRoom) 0 ≡ false
-    → ranOf s heard sentRoom wordRoom ≡ ran s (runAnswer s heard sentRoom wordRoom) 0
-unfolding ranOf
-run-no s heard sentRoom wordRoom e = rw e refl
 
 run-succeeds : (heard sent words : List ℕ) (s : Station) → runAnswer s heard (length sent) (length words) ≡ 0 → succeeds s (RunCall heard sent words) ≡ true
 run-succeeds heard sent words s z = ap (λ (a : Ran). eqb (a .answer) 0) (run-yes s heard (length sent) (length words) z)
@@ -150,13 +80,14 @@ run-succeeds-by s heard sent words = go (runAnswer s heard (length sent) (length
     go a true e = sym e
     go a false e = refl
 
-run-answer : (s : Station) (heard sent words : List ℕ) → succeeds s (RunCall heard sent words) ≡ true → runAnswer s heard (length sent) (length words) ≡ 0
+pub run-answer : (s : Station) (heard sent words : List ℕ) → succeeds s (RunCall heard sent words) ≡ true → runAnswer s heard (length sent) (length words) ≡ 0
 run-answer s heard sent words e = eqb-true (runAnswer s heard (length sent) (length words)) 0 (sym (run-succeeds-by s heard sent words) ∙ e)
 
 -- a refused call leaves the station
-pub refused-left : (s : Station) (c : Call) → succeeds s c ≡ false → left s c ≡ s
-refused-left s (OfferCall text) e = ap (λ (a : Answered). a .station) (offer-no s text (sym (offer-succeeds s text) ∙ e))
-refused-left s (RunCall heard sent words) e = ap (λ (a : Ran). a .station) (run-no s heard (length sent) (length words) (sym (run-succeeds-by s heard sent words) ∙ e))
+refused-left : (s : Station) (c : Call) → succeeds s c ≡ false → left s c ≡ s
+refused-left s (OfferCall text) e = ap (λ (a : Answered). a .station) (refused-offer s text (eqb-false (offerAnswer s text) 0 (sym (offer-succeeds s text) ∙ e)))
+refused-left s (RunCall heard sent words) e =
+    ap (λ (a : Ran). a .station) (refused-run s heard (length sent) (length words) (eqb-false (runAnswer s heard (length sent) (length words)) 0 (sym (run-succeeds-by s heard sent words) ∙ e)))
 
 sent-length : (heard : List ℕ) (s : Station) → length (sentRun s heard) ≡ length heard
 unfolding outputs
@@ -196,46 +127,38 @@ up-zero s [] = refl
 up-zero s (c ∷ cs) = refl
 
 -- what a run that succeeds hands out
-words-of : (heard sent words : List ℕ) (s : Station) → runAnswer s heard (length sent) (length words) ≡ 0 → wordsFor s (RunCall heard sent words) ≡ wordsRun s heard
+pub words-of : (heard sent words : List ℕ) (s : Station) → runAnswer s heard (length sent) (length words) ≡ 0 → wordsFor s (RunCall heard sent words) ≡ wordsRun s heard
 words-of heard sent words s z = rw (run-succeeds heard sent words s z) (words-front s heard sent words z)
 
-sent-of : (heard sent words : List ℕ) (s : Station) → runAnswer s heard (length sent) (length words) ≡ 0 → sentFor s (RunCall heard sent words) ≡ sentRun s heard
+pub sent-of : (heard sent words : List ℕ) (s : Station) → runAnswer s heard (length sent) (length words) ≡ 0 → sentFor s (RunCall heard sent words) ≡ sentRun s heard
 sent-of heard sent words s z = rw (run-succeeds heard sent words s z) (sent-front s heard sent words z)
 
-steps-of : (heard sent words : List ℕ) (s : Station) → runAnswer s heard (length sent) (length words) ≡ 0 → stepsFor s (RunCall heard sent words) ≡ map Ms heard
+pub steps-of : (heard sent words : List ℕ) (s : Station) → runAnswer s heard (length sent) (length words) ≡ 0 → stepsFor s (RunCall heard sent words) ≡ map Ms heard
 steps-of heard sent words s z = rw (run-succeeds heard sent words s z) refl
 
-map-append : (xs ys : List ℕ) → map Ms (xs ++ ys) ≡ map Ms xs ++ map Ms ys
-map-append [] ys = refl
-map-append (x ∷ xs) ys = ap (λ (l : List Step). Ms x ∷ l) (map-append xs ys)
-
-module _ (mode : Mode) (L : StationLike mode) where
-  station-mode : (s : Station) (m : Model) (r : Reader) → L .A .Like s m r → modeOfStation s ≡ mode
-  station-mode s m r h = ap modeOf (L .mode-is s m r h) ∙ of-number mode
-
+module _ (mode : Mode) where
   -- ---- a run
   record RunLike (s : Station) (m : Model) (r : Reader) (heard : List ℕ) : Type 0 where
-    like : L .A .Like (stationAfter s heard) (modelAfter mode m (map Ms heard)) (stationReader mode m r (map Ms heard))
+    like : Like mode (stationAfter s heard) (modelAfter mode m (map Ms heard)) (stationReader mode m r (map Ms heard))
     sent-are : sentRun s heard ≡ sentIn (does mode m (map Ms heard))
     events-are : eventsBy s heard ≡ stationEvents mode m r (map Ms heard)
 
-  run-like : (heard : List ℕ) (s : Station) (m : Model) (r : Reader) → allAtMost (highestLevel mode) heard ≡ true → L .A .Like s m r → RunLike s m r heard
+  run-like : (heard : List ℕ) (s : Station) (m : Model) (r : Reader) → allAtMost (highestLevel mode) heard ≡ true → Like mode s m r → RunLike s m r heard
   unfolding stateAfter outputs modelAfter stationReader does stationEvents
   run-like [] s m r a h = record { like = h; sent-are = refl; events-are = refl }
   run-like (x ∷ xs) s m r a h =
       let k = at-most-head (highestLevel mode) x xs a in
       let r′ = stationReader mode m r (Ms x ∷ []) in
-      let h′ = subst (λ (t : Station). L .A .Like t (msAfter mode m x) r′) (L .ms-is s x) (L .A .ms-like s m r x (L .hears x k) h) in
-      let g = run-like xs (stationMs s x) (msAfter mode m x) r′ (at-most-tail (highestLevel mode) x xs a) h′ in
+      let g = run-like xs (stationMs s x) (msAfter mode m x) r′ (at-most-tail (highestLevel mode) x xs a) (ms-like mode s m r h x k) in
       record {
         like = g .like;
-        sent-are = λ i. (L .sent-is s x ∙ L .A .sent-is s m r h) i ∷ g .sent-are i;
-        events-are = λ i. (L .event-is s x ∙ L .A .event-is s m r x (L .hears x k) h) i ∷ g .events-are i;
+        sent-are = λ i. sent-same mode s m r h x i ∷ g .sent-are i;
+        events-are = λ i. event-same mode s m r h x i ∷ g .events-are i;
       }
 
   -- ---- a call
   record CallLike (c : Call) (s : Station) (m : Model) (r : Reader) : Type 0 where
-    like : L .A .Like (left s c) (modelAfter mode m (stepsFor s c)) (stationReader mode m r (stepsFor s c))
+    like : Like mode (left s c) (modelAfter mode m (stepsFor s c)) (stationReader mode m r (stepsFor s c))
     sent-are : sentFor s c ≡ sentIn (does mode m (stepsFor s c))
     chars : OffersChars (stepsFor s c)
     levels : allAtMost 16 (heardIn (stepsFor s c)) ≡ true
@@ -248,7 +171,7 @@ module _ (mode : Mode) (L : StationLike mode) where
   no-words n = rw (take-nil {A = Event} n) refl
 
   -- it is refused
-  refused : (c : Call) (s : Station) (m : Model) (r : Reader) → succeeds s c ≡ false → L .A .Like s m r → CallLike c s m r
+  refused : (c : Call) (s : Station) (m : Model) (r : Reader) → succeeds s c ≡ false → Like mode s m r → CallLike c s m r
   unfolding modelAfter stationReader does stationEvents heardIn OffersChars allAtMost
   refused c s m r e h = record {
     like = rw (e, refused-left s c e) h;
@@ -260,26 +183,26 @@ module _ (mode : Mode) (L : StationLike mode) where
   }
 
   -- an offer that succeeds
-  offers : (text : List ℕ) (s : Station) (m : Model) (r : Reader) → offerAnswer s text ≡ 0 → L .A .Like s m r → CallLike (OfferCall text) s m r
+  offers : (text : List ℕ) (s : Station) (m : Model) (r : Reader) → offerAnswer s text ≡ 0 → Like mode s m r → CallLike (OfferCall text) s m r
   unfolding modelAfter stationReader does stationEvents heardIn OffersChars allAtMost
   offers text s m r z h =
       let y = offer-yes s text z in
       let e : succeeds s (OfferCall text) ≡ true = ap (λ (a : Answered). eqb (a .answer) 0) y in
       let l : left s (OfferCall text) ≡ offeredTo s text = ap (λ (a : Answered). a .station) y in
       record {
-        like = rw (e, l) (subst (λ (t : Station). L .A .Like t (offered mode text m) (stationReader mode m r (Offer text ∷ []))) (L .offer-is s text) (L .A .offer-like s m r text (L .takes s text z) h));
+        like = rw (e, l) (offer-like mode s m r h text z);
         sent-are = rw e refl;
-        chars = rw e (offer-chars s text z, tt);
+        chars = rw e (accepted s text z .chars, tt);
         levels = rw e refl;
         words-cut = λ n. rw (e, e) (no-words n);
         left-cut = λ n. inl (rw e refl);
       }
 
   -- a run that succeeds
-  runs : (heard sent words : List ℕ) (s : Station) (m : Model) (r : Reader) → runAnswer s heard (length sent) (length words) ≡ 0 → L .A .Like s m r → CallLike (RunCall heard sent words) s m r
-  runs heard sent words s m r z h =
+  ran-like : (heard sent words : List ℕ) (s : Station) (m : Model) (r : Reader) → runAnswer s heard (length sent) (length words) ≡ 0 → Like mode s m r → CallLike (RunCall heard sent words) s m r
+  ran-like heard sent words s m r z h =
       let v : allAtMost (highestLevel mode) heard ≡ true =
-      subst (λ (k : Mode). allAtMost (highestLevel k) heard ≡ true) (station-mode s m r h) (run-fine s heard (length sent) (length words) z .levels-in) in
+      subst (λ (k : Mode). allAtMost (highestLevel k) heard ≡ true) (mode-same mode s m r h) (runs s heard (length sent) (length words) z .levels) in
       let g = run-like heard s m r v h in
       let e = run-succeeds heard sent words s z in
       record {
@@ -297,7 +220,7 @@ module _ (mode : Mode) (L : StationLike mode) where
       cut-by n true b = inl (ap (λ (xs : List ℕ). left s (RunCall xs sent words)) (take-all n heard (leb-true (length heard) n b)))
       cut-by n false b = let k = leb-false (length heard) n b in inr (omega arith)
 
-  call-like : (c : Call) (s : Station) (m : Model) (r : Reader) → L .A .Like s m r → CallLike c s m r
+  call-like : (c : Call) (s : Station) (m : Model) (r : Reader) → Like mode s m r → CallLike c s m r
   call-like (OfferCall text) s m r h = go (eqb (offerAnswer s text) 0) refl
     where
       go : (b : Bool) → eqb (offerAnswer s text) 0 ≡ b → CallLike (OfferCall text) s m r
@@ -307,17 +230,17 @@ module _ (mode : Mode) (L : StationLike mode) where
   call-like (RunCall heard sent words) s m r h = go (eqb (runAnswer s heard (length sent) (length words)) 0) refl
     where
       go : (b : Bool) → eqb (runAnswer s heard (length sent) (length words)) 0 ≡ b → CallLike (RunCall heard sent words) s m r
-      go true e = runs heard sent words s m r (eqb-true (runAnswer s heard (length sent) (length words)) 0 e) h
+      go true e = ran-like heard sent words s m r (eqb-true (runAnswer s heard (length sent) (length words)) 0 e) h
       go false e =
           refused (RunCall heard sent words) s m r (run-succeeds-by s heard sent words ∙ e) h
 
   -- which calls succeed is told by the model
-  pub accepts-is : (c : Call) (s : Station) (m : Model) (r : Reader) → L .A .Like s m r → succeeds s c ≡ accepts mode m c
+  pub accepts-is : (c : Call) (s : Station) (m : Model) (r : Reader) → Like mode s m r → succeeds s c ≡ accepts mode m c
   unfolding accepts offerAnswer runAnswer room
   accepts-is (OfferCall text) s m r h =
       let e : room (alphabetOfStation s) (queueOf s) text ≡ leb (length (m .waiting) + length (waiters (alphabetOf mode) text)) 256 =
-      λ i. leb (L .waits s m r h i + length (waiters (alphabetOf (station-mode s m r h i)) text)) 256 in
-      offer-succeeds s text ∙ (λ i. eqb (cond (L .in-range s m r h i) (cond (allChars text) (cond (e i) 0 4) 3) 1) 0) ∙ go (allChars text) (leb (length (m .waiting) + length (waiters (alphabetOf mode) text)) 256)
+      λ i. leb (count-same mode s m r h i + length (waiters (alphabetOf (mode-same mode s m r h i)) text)) 256 in
+      offer-succeeds s text ∙ (λ i. eqb (cond (h .in-range i) (cond (allChars text) (cond (e i) 0 4) 3) 1) 0) ∙ go (allChars text) (leb (length (m .waiting) + length (waiters (alphabetOf mode) text)) 256)
     where
       go : (a b : Bool) → eqb (cond a (cond b 0 4) 3) 0 ≡ (a && b)
       go true true = refl
@@ -325,7 +248,7 @@ module _ (mode : Mode) (L : StationLike mode) where
       go false b = refl
   accepts-is (RunCall heard sent words) s m r h =
       run-succeeds-by s heard sent words
-      ∙ (λ i. eqb (cond (L .in-range s m r h i) (cond (leb (length heard) 4_096) (cond (allAtMost (highestLevel (station-mode s m r h i)) heard) (cond (leb (length heard) (length sent)) (cond (leb (length heard) (length words)) 0 8) 7) 6) 5) 1) 0)
+      ∙ (λ i. eqb (cond (h .in-range i) (cond (leb (length heard) 4_096) (cond (allAtMost (highestLevel (mode-same mode s m r h i)) heard) (cond (leb (length heard) (length sent)) (cond (leb (length heard) (length words)) 0 8) 7) 6) 5) 1) 0)
       ∙ go (leb (length heard) 4_096) (allAtMost (highestLevel mode) heard) (leb (length heard) (length sent)) (leb (length heard) (length words))
     where
       go : (a b c d : Bool) → eqb (cond a (cond b (cond c (cond d 0 8) 7) 6) 5) 0 ≡ (a && b && c && d)
@@ -335,7 +258,7 @@ module _ (mode : Mode) (L : StationLike mode) where
       go true false c d = refl
       go false b c d = refl
 
-  pub model-steps : (cs : List Call) (s : Station) (m : Model) (r : Reader) → L .A .Like s m r → stepsBy s cs ≡ modelSteps mode m cs
+  pub model-steps : (cs : List Call) (s : Station) (m : Model) (r : Reader) → Like mode s m r → stepsBy s cs ≡ modelSteps mode m cs
   unfolding stepsBy modelSteps
   model-steps [] s m r h = refl
   model-steps (c ∷ cs) s m r h =
@@ -349,7 +272,7 @@ module _ (mode : Mode) (L : StationLike mode) where
     pub chars : OffersChars (stepsBy s cs)
     pub levels : allAtMost 16 (heardIn (stepsBy s cs)) ≡ true
 
-  pub calls-like : (cs : List Call) (s : Station) (m : Model) (r : Reader) → L .A .Like s m r → CallsLike cs s m r
+  pub calls-like : (cs : List Call) (s : Station) (m : Model) (r : Reader) → Like mode s m r → CallsLike cs s m r
   unfolding sentBy stepsBy does heardIn OffersChars allAtMost
   calls-like [] s m r h = record { sent-are = refl; chars = tt; levels = refl }
   calls-like (c ∷ cs) s m r h =
@@ -363,7 +286,7 @@ module _ (mode : Mode) (L : StationLike mode) where
       }
 
   -- the words up to a cut after n ms
-  pub words-up-to : (cs : List Call) (n : ℕ) (s : Station) (m : Model) (r : Reader) → L .A .Like s m r → wordsBy s (upTo s cs n) ≡ wordsOf (take n (stationEvents mode m r (stepsBy s cs)))
+  pub words-up-to : (cs : List Call) (n : ℕ) (s : Station) (m : Model) (r : Reader) → Like mode s m r → wordsBy s (upTo s cs n) ≡ wordsOf (take n (stationEvents mode m r (stepsBy s cs)))
   unfolding upTo wordsBy stepsBy stationEvents wordsOf
   words-up-to [] n s m r h = no-words n
   words-up-to (c ∷ cs) zero s m r h = refl
@@ -386,95 +309,3 @@ module _ (mode : Mode) (L : StationLike mode) where
       go k fs t (inl e) i = ap (λ (x : Station). wordsBy x (upTo (left s c) cs k)) e ∙ i
       go k fs t (inr e) i =
           ap (λ (j : ℕ). wordsBy t (upTo (left s c) cs j)) e ∙ ap (wordsBy t) (up-zero (left s c) cs) ∙ ap (λ (j : ℕ). wordsOf (take j fs)) (sym e)
-
-  -- ---- a run that is cut in two
-  record Two (s : Station) (c a b : Call) : Type 0 where
-    left-is : left (left s a) b ≡ left s c
-    words-are : wordsFor s c ≡ wordsFor s a ++ wordsFor (left s a) b
-    sent-are : sentFor s c ≡ sentFor s a ++ sentFor (left s a) b
-    steps-are : stepsFor s c ≡ stepsFor s a ++ stepsFor (left s a) b
-
-  two : (xs ys sent words sent′ words′ : List ℕ) (s : Station) (m : Model) (r : Reader) → L .A .Like s m r → runAnswer s (xs ++ ys) (length sent) (length words) ≡ 0
-      → length ys ≤ length sent′ → length ys ≤ length words′ → Two s (RunCall (xs ++ ys) sent words) (RunCall xs sent words) (RunCall ys sent′ words′)
-  two xs ys sent words sent′ words′ s m r h z u v =
-      let x : runAnswer s xs (length sent) (length words) ≡ 0 =
-      subst (λ (l : List ℕ). runAnswer s l (length sent) (length words) ≡ 0) (take-append-seam xs ys) (run-cut (length xs) s (xs ++ ys) (length sent) (length words) z) in
-      let y = second x in
-      let l = ap (λ (a : Ran). a .station) (run-yes s xs (length sent) (length words) x) in
-      record {
-        left-is =
-            ap (λ (t : Station). left t (RunCall ys sent′ words′)) l ∙ ap (λ (a : Ran). a .station) (run-yes (stationAfter s xs) ys (length sent′) (length words′) y)
-            ∙ sym (after-append stationMs sentMs s xs ys) ∙ sym (ap (λ (a : Ran). a .station) (run-yes s (xs ++ ys) (length sent) (length words) z));
-        words-are =
-            words-of (xs ++ ys) sent words s z ∙ ap wordsOf (outputs-append stationMs eventOf s xs ys) ∙ words-append (eventsBy s xs) (eventsBy (stationAfter s xs) ys)
-            ∙ sym (λ i. words-of xs sent words s x i ++ (ap (λ (t : Station). wordsFor t (RunCall ys sent′ words′)) l ∙ words-of ys sent′ words′ (stationAfter s xs) y) i);
-        sent-are =
-            sent-of (xs ++ ys) sent words s z ∙ outputs-append stationMs sentMs s xs ys
-            ∙ sym (λ i. sent-of xs sent words s x i ++ (ap (λ (t : Station). sentFor t (RunCall ys sent′ words′)) l ∙ sent-of ys sent′ words′ (stationAfter s xs) y) i);
-        steps-are =
-            steps-of (xs ++ ys) sent words s z ∙ map-append xs ys
-            ∙ sym (λ i. steps-of xs sent words s x i ++ (ap (λ (t : Station). stepsFor t (RunCall ys sent′ words′)) l ∙ steps-of ys sent′ words′ (stationAfter s xs) y) i);
-      }
-    where
-      fine : RunFine s (xs ++ ys) (length sent) (length words)
-      fine = run-fine s (xs ++ ys) (length sent) (length words) z
-
-      levels : allAtMost (highestLevel mode) (xs ++ ys) ≡ true
-      levels = subst (λ (k : Mode). allAtMost (highestLevel k) (xs ++ ys) ≡ true) (station-mode s m r h) (fine .levels-in)
-
-      -- the run on the others succeeds
-      second : runAnswer s xs (length sent) (length words) ≡ 0 → runAnswer (stationAfter s xs) ys (length sent′) (length words′) ≡ 0
-      second x =
-          let g = run-like xs s m r (most-left (highestLevel mode) xs ys levels) h in
-          let k = leb-true (length (xs ++ ys)) 4_096 (fine .ms-in) in
-          let n = length-append xs ys in
-          let o = station-mode (stationAfter s xs) (modelAfter mode m (map Ms xs)) (stationReader mode m r (map Ms xs)) (g .like) in
-          run-passes (stationAfter s xs) ys (length sent′) (length words′)
-          (record {
-            in-range = L .in-range (stationAfter s xs) (modelAfter mode m (map Ms xs)) (stationReader mode m r (map Ms xs)) (g .like);
-            ms-in = le-leb (length ys) 4_096 (omega arith);
-            levels-in = subst (λ (k : Mode). allAtMost (highestLevel k) ys ≡ true) (sym o) (most-right (highestLevel mode) xs ys levels);
-            sent-fits = le-leb (length ys) (length sent′) u;
-            words-fit = le-leb (length ys) (length words′) v;
-          })
-
-  -- the calls around it
-  two-words : (past next : List Call) (c a b : Call) (s : Station) → Two (leftBy s past) c a b → wordsBy s (past ++ (c ∷ next)) ≡ wordsBy s (past ++ (a ∷ b ∷ next))
-  unfolding leftBy wordsBy
-  two-words [] next c a b s t =
-      (λ i. t .words-are i ++ wordsBy (sym (t .left-is) i) next) ∙ append-assoc (wordsFor s a) (wordsFor (left s a) b) (wordsBy (left (left s a) b) next)
-  two-words (q ∷ past) next c a b s t = ap (λ (l : List ℕ). wordsFor s q ++ l) (two-words past next c a b (left s q) t)
-
-  two-sent : (past next : List Call) (c a b : Call) (s : Station) → Two (leftBy s past) c a b → sentBy s (past ++ (c ∷ next)) ≡ sentBy s (past ++ (a ∷ b ∷ next))
-  unfolding leftBy sentBy
-  two-sent [] next c a b s t =
-      (λ i. t .sent-are i ++ sentBy (sym (t .left-is) i) next) ∙ append-assoc (sentFor s a) (sentFor (left s a) b) (sentBy (left (left s a) b) next)
-  two-sent (q ∷ past) next c a b s t = ap (λ (l : List ℕ). sentFor s q ++ l) (two-sent past next c a b (left s q) t)
-
-  two-steps : (past next : List Call) (c a b : Call) (s : Station) → Two (leftBy s past) c a b → stepsBy s (past ++ (c ∷ next)) ≡ stepsBy s (past ++ (a ∷ b ∷ next))
-  unfolding leftBy stepsBy
-  two-steps [] next c a b s t =
-      (λ i. t .steps-are i ++ stepsBy (sym (t .left-is) i) next) ∙ append-assoc (stepsFor s a) (stepsFor (left s a) b) (stepsBy (left (left s a) b) next)
-  two-steps (q ∷ past) next c a b s t = ap (λ (l : List Step). stepsFor s q ++ l) (two-steps past next c a b (left s q) t)
-
-  -- the station after some calls
-  pub left-like : (cs : List Call) (s : Station) (m : Model) (r : Reader) → L .A .Like s m r → (m′ : Model) × (r′ : Reader) × L .A .Like (leftBy s cs) m′ r′
-  unfolding leftBy
-  left-like [] s m r h = (m, r, h)
-  left-like (c ∷ cs) s m r h = left-like cs (left s c) (modelAfter mode m (stepsFor s c)) (stationReader mode m r (stepsFor s c)) (call-like c s m r h .like)
-
-  pub cut-same : (n : ℕ) (past next : List Call) (xs ys sent words sent′ words′ : List ℕ) → L .A .Like (opened n) freshModel fresh
-      → succeeds (leftBy (opened n) past) (RunCall (xs ++ ys) sent words) ≡ true → length ys ≤ length sent′ → length ys ≤ length words′
-      → Same (past ++ (RunCall (xs ++ ys) sent words ∷ next)) (past ++ (RunCall xs sent words ∷ RunCall ys sent′ words′ ∷ next)) n
-  cut-same n past next xs ys sent words sent′ words′ h e u v =
-      let l = left-like past (opened n) freshModel fresh h in
-      let s = leftBy (opened n) past in
-      let t = two xs ys sent words sent′ words′ s (l .0) (l .1) (l .2) (run-answer s (xs ++ ys) sent words e) u v in
-      let c = RunCall (xs ++ ys) sent words in
-      let a = RunCall xs sent words in
-      let b = RunCall ys sent′ words′ in
-      record {
-        same-words = two-words past next c a b (opened n) t;
-        same-sent = two-sent past next c a b (opened n) t;
-        same-steps = two-steps past next c a b (opened n) t;
-      }

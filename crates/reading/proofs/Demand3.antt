@@ -33,8 +33,9 @@ use Rattle.reading.specs.Demand3.{Lists, theMode, stepsA, stepsB, didsA,
 use Rattle.reading.proofs.Core.{does-append}
 use Rattle.reading.proofs.BothModels.{after-append, both-read}
 use Rattle.reading.proofs.Cuts.{between-is, most-left, heard-append, chars-left, none-right, idle-left, idle-right, sent-append, events-append, does-length, events-length, Cut, cut-after, ms-append}
-use Rattle.reading.proofs.StationAttached.{Like, fresh-like, attached}
-use Rattle.reading.proofs.Calls.{StationLike, CallsLike, model-steps, calls-like, words-up-to, cut-same}
+use Rattle.reading.proofs.StationLike.{Like, fresh-like}
+use Rattle.reading.proofs.Calls.{CallsLike, model-steps, calls-like, words-up-to}
+use Rattle.reading.proofs.CutInTwo.{cut-in-two}
 
 -- ---- cuts
 
@@ -373,41 +374,15 @@ opened-is n = go (isMode n) refl
 
 -- ---- the whole claim
 
--- the station is such a one
-pub waits-is : (mode : Mode) (s : Station) (m : Model) (r : Reader) → Like mode s m r → s .core .waiting ≡ length (m .waiting)
-waits-is mode s m r l =
-    let f = l .full in
-    let w = station-in s (l .in-range) .core-in .waiting-in in
-    sym (ap length (l .waiting-is) ∙ length-take-le (s .core .waiting) (s .chars) (omega arith))
+pub opened-like : (n : ℕ) → Like (modeOf n) (opened n) freshModel fresh
+opened-like n = subst (λ (s : Station). Like (modeOf n) s freshModel fresh) (sym (opened-is n)) (fresh-like (modeOf n))
 
-pub same-sent : (s : Station) (x : ℕ) → sentMs s x ≡ sentMs s 0
-unfolding sentMs
-same-sent s x = refl
-
-abbrev pub stationLike : (mode : Mode) → StationLike mode
-stationLike mode = record {
-  A = attached mode;
-  offer-is = λ s cs. refl;
-  ms-is = λ s x. refl;
-  sent-is = same-sent;
-  event-is = λ s x. refl;
-  takes = λ s cs e. e;
-  hears = λ x h. h;
-  fresh-like = fresh-like mode;
-  mode-is = λ s m r l. l .mode-is;
-  in-range = λ s m r l. l .in-range;
-  waits = waits-is mode;
-}
-
-pub opened-like : (n : ℕ) → stationLike (modeOf n) .A .Like (opened n) freshModel fresh
-opened-like n = subst (λ (s : Station). stationLike (modeOf n) .A .Like s freshModel fresh) (sym (opened-is n)) (stationLike (modeOf n) .fresh-like)
-
-pub of-calls : (n : ℕ) (calls : List Call) → CallsLike (modeOf n) (stationLike (modeOf n)) calls (opened n) freshModel fresh
-of-calls n calls = calls-like (modeOf n) (stationLike (modeOf n)) calls (opened n) freshModel fresh (opened-like n)
+pub of-calls : (n : ℕ) (calls : List Call) → CallsLike (modeOf n) calls (opened n) freshModel fresh
+of-calls n calls = calls-like (modeOf n) calls (opened n) freshModel fresh (opened-like n)
 
 -- which calls succeed is told by the model
 pub steps-are : (n : ℕ) (calls : List Call) → stepsBy (opened n) calls ≡ modelSteps (modeOf n) freshModel calls
-steps-are n calls = model-steps (modeOf n) (stationLike (modeOf n)) calls (opened n) freshModel fresh (opened-like n)
+steps-are n calls = model-steps (modeOf n) calls (opened n) freshModel fresh (opened-like n)
 
 reads-on : (d : Lists) → Premises d → Conclusion d
 reads-on d p =
@@ -416,12 +391,12 @@ reads-on d p =
     let f = five (stepsA d) (d .start - d .openA) (d .asked + 1 - (d .start + 300)) (fits (d .openA) (d .start) (d .asked) (msIn (stepsA d)) (p .opened-A) (p .later) (p .run-A)) in
     let t = three (p .since) (earlyMs (d .openB) (d .start)) (d .asked + 1 - (d .start + 300))
     (since-is (d .openB) (d .start) (d .asked) (msIn (p .past)) (msIn (p .since)) (msIn (p .past ++ p .since)) (p .opened-B) (p .later) (p .past-ms) (p .since-ms) (ms-append (p .past) (p .since))) in
-    concludes d p f t (a .chars) (b .levels) (a .sent-are) (λ n. words-up-to (theMode d) (stationLike (theMode d)) (d .callsB) n (opened (d .mode)) freshModel fresh (opened-like (d .mode)))
+    concludes d p f t (a .chars) (b .levels) (a .sent-are) (λ n. words-up-to (theMode d) (d .callsB) n (opened (d .mode)) freshModel fresh (opened-like (d .mode)))
 
 pub demand-3 : Demand3
 demand-3 = record {
   sends = λ n calls. of-calls n calls .sent-are;
   reads = reads-on;
-  cut-in-two = λ n past next xs ys sent words sent′ words′. cut-same (modeOf n) (stationLike (modeOf n)) n past next xs ys sent words sent′ words′ (opened-like n);
+  cut-in-two = cut-in-two;
   normal-twice = λ mode. normal-form-twice (alphabetOf mode);
 }

@@ -37,7 +37,7 @@ use Rattle.reading.specs.Calls.{opened, accepts, modelSteps, msIn}
 use Rattle.reading.specs.Demand3.{Lists, theMode, theAlphabet, didsA, between, Premises, followsA, synchronized, wordsBefore}
 use Rattle.reading.specs.Demand3Examples.{Example, Holds, Mistaken, AllHold, callsA45, line45, callsB45, baudot45, callsA50, line50, laterLine50, lastLine50, callsB50, baudot50, callsAKeys, callsBKeys, dtmf, callsAEdt, callsBEdt, edt}
 use Rattle.reading.proofs.Calls.{words-up-to}
-use Rattle.reading.proofs.Demand3.{stationLike, opened-like, of-calls, steps-are, demand-3}
+use Rattle.reading.proofs.Demand3.{opened-like, of-calls, steps-are, demand-3}
 use Rattle.reading.proofs.Cuts.{does-length}
 
 noBurst : List Did → Bool
@@ -197,7 +197,7 @@ premises-of e c =
 
 words-to : (d : Lists) (t : ℕ) → wordsBefore d t ≡ wordsTo d t
 words-to d t =
-    words-up-to (theMode d) (stationLike (theMode d)) (d .callsB) (t - d .openB) (opened (d .mode)) freshModel fresh (opened-like (d .mode))
+    words-up-to (theMode d) (d .callsB) (t - d .openB) (opened (d .mode)) freshModel fresh (opened-like (d .mode))
     ∙ ap (λ (l : List Step). wordsOf (take (t - d .openB) (stationEvents (theMode d) freshModel fresh l))) (steps-are (d .mode) (d .callsB))
 
 holds-of : (e : Example) → Checks e → Holds e

@@ -24,7 +24,6 @@ use Rattle.access.specs.Rules.{mayEnd}
 use Rattle.access.specs.Line as line
 use Rattle.access.specs.Line.{onLine, idle, partMs, shiftWanted}
 use Rattle.reading.specs.Model.{Part, Preamble, ShiftCode, OwnCode, OnLine, Idle, Sending, Loaded, isCodePart, begun, loaded, ownBegins, shiftBegins, codeBegins, nextCode, levelOn, inBurst, oneGone, closed}
-use Rattle.reading.proofs.Attach.{gone-at}
 
 -- the number of a part
 pub data PartNo : Part → ℕ → Type 0 where
@@ -66,6 +65,10 @@ module _ (mode : Mode) where
   level-same (sending {part} {n} p code at) = level-any part (partMs mode (onLine n code at)) at
 
   -- one ms has gone
+  gone-at : (part : Part) (ms : List ℕ) (at : ℕ) → at < length ms → oneGone (Sending part (drop at ms)) ≡ Sending part (drop (suc at) ms)
+  unfolding oneGone
+  gone-at part ms at h = rw (drop-cons ms at 0 h) refl
+
   pub gone-stands : {l : Line} {on : OnLine} → Stands mode l on → Stands mode (line.oneGone mode l) (oneGone on)
   unfolding line.oneGone oneGone partMs
   gone-stands rests = rests

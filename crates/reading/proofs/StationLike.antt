@@ -1,4 +1,4 @@
--- The station in numbers goes with its model and reader.
+-- The station in numbers goes with its model and reader: fresh, after an offer that succeeds, and ms by ms.
 use mathlib.Core.Path.{_≡_, _∙_, refl, sym, ap, subst}
 use mathlib.Core.Bool.{Bool, true, false, cond, _&&_}
 use mathlib.Core.List.{List, [], _∷_, _++_}
@@ -8,6 +8,7 @@ use native.Mathlib.Numerals.{add-one}
 use lib.Dec.{leb, ltb}
 use lib.ListN.{length, getD, take, drop}
 use lib.Seq.{length-take-le}
+use borrow.Author.Tests.{le-leb, ltb-true, ltb-false}
 use Rattle.lists.proofs.Lists.{and-right}
 use Rattle.alphabet.specs.declared.Mode.{Mode}
 use Rattle.alphabet.specs.declared.Mode.the-variants.{Baudot45, Baudot50, Dtmf, Edt}
@@ -30,8 +31,32 @@ use Rattle.station.specs.Entries.{isMode, offerAnswer, highestLevel}
 use Rattle.station.proofs.Range.{core-in, front-waits, fresh-in, fresh-full, ms-in, ms-full, accepted, offered-in, offered-full}
 use Rattle.access.proofs.Range.{takes-waiting}
 use Rattle.reading.specs.Model.{Model, Loaded, freshModel, offered, begun, nextCode, load, inBurst, oneGone, closed, isInhibited, silenceAfter, did, msAfter}
-use Rattle.reading.proofs.Attach.{Attached, Capped, same, capped-may, capped-next}
 use Rattle.reading.proofs.Stands.{Stands, rests, LoadedLike, Heads, none, some, burst-same, level-same, gone-stands, closed-stands, begun-stands, next-like}
+
+-- the station's silence stops at 300: it is the model's, or both are at least 300
+pub data Capped : ℕ → ℕ → Type 0 where
+  same : (n : ℕ) → n ≤ 300 → Capped n n
+  over : (n : ℕ) → 300 ≤ n → Capped n 300
+
+capped-may : {n s : ℕ} → Capped n s → leb 300 n ≡ leb 300 s
+capped-may (same n h) = refl
+capped-may (over n h) = rw (le-leb 300 n h) refl
+
+capped-next : {n s : ℕ} → Capped n s → Capped (suc n) (cond (ltb s 300) (suc s) s)
+capped-next (same n h) = go (ltb n 300) refl
+  where
+    go : (b : Bool) → ltb n 300 ≡ b → Capped (suc n) (cond b (suc n) n)
+    go true e = let l = ltb-true n 300 e in same (suc n) (omega arith)
+    go false e =
+        let l = ltb-false n 300 e in
+        let z : n ≡ 300 = omega arith in
+        subst (λ (k : ℕ). Capped (suc n) k) (sym z) (over (suc n) (omega arith))
+capped-next (over n h) = over (suc n) (omega arith)
+
+capped-after : (silent : Bool) {n s : ℕ} → Capped n s → Capped (silenceAfter silent n) (core.silenceAfter silent s)
+unfolding core.silenceAfter
+capped-after true c = rw add-one (capped-next c)
+capped-after false c = same 0 (omega arith)
 
 -- the station is as the model and the reader say
 pub record Like (mode : Mode) (s : Station) (m : Model) (r : Reader) : Type 0 where
@@ -68,16 +93,11 @@ heads mode (suc n) (c ∷ cs) h w =
     let e = length-take-le n cs (omega arith) in
     subst (λ (k : ℕ). Heads mode (suc k) c (c ∷ take n cs)) e (some c (take n cs) (w (omega arith)))
 
-capped-after : (silent : Bool) {n s : ℕ} → Capped n s → Capped (silenceAfter silent n) (core.silenceAfter silent s)
-unfolding core.silenceAfter
-capped-after true c = rw add-one (capped-next c)
-capped-after false c = same 0 (omega arith)
-
 module _ (mode : Mode) (s : Station) (m : Model) (r : Reader) (h : Like mode s m r) where
-  mode-same : modeOfStation s ≡ mode
+  pub mode-same : modeOfStation s ≡ mode
   mode-same = ap modeOf (h .mode-is) ∙ mode-of mode
 
-  count-same : s .core .waiting ≡ length (m .waiting)
+  pub count-same : s .core .waiting ≡ length (m .waiting)
   count-same = sym (count-is s (h .full) (h .in-range)) ∙ ap length (sym (h .waiting-is))
 
   may-same : mayBegin (s .core .waiting) (s .core .silence) ≡ mayBegin (length (m .waiting)) (m .silence)
@@ -117,11 +137,11 @@ module _ (mode : Mode) (s : Station) (m : Model) (r : Reader) (h : Like mode s m
   unfolding isInhibited
   inhibited-same = λ i. inhibitedBy (burst-is i) (h .inhibited-is i)
 
-  pub sent-same : sentMs s 0 ≡ did mode m .sent
-  unfolding sentMs did
-  sent-same = ap (λ (d : Mode). line.levelOn d (x .line)) mode-same ∙ level-same mode (settled-like .line-is)
-
   module _ (heard : ℕ) where
+    pub sent-same : sentMs s heard ≡ did mode m .sent
+    unfolding sentMs did
+    sent-same = ap (λ (d : Mode). line.levelOn d (x .line)) mode-same ∙ level-same mode (settled-like .line-is)
+
     pub event-same : eventOf s heard ≡ eventMs mode (isInhibited mode m) r heard
     unfolding eventOf
     event-same = λ i. eventMs (mode-same i) (inhibited-same i) (h .reader-is i) heard
@@ -188,19 +208,4 @@ fresh-like mode = record {
   silence-is = same 300 (omega arith);
   inhibited-is = refl;
   reader-is = refl;
-}
-
-abbrev pub attached : (mode : Mode) → Attached mode Station
-attached mode = record {
-  offer = offeredTo;
-  ms = stationMs;
-  sent = λ s. sentMs s 0;
-  event = eventOf;
-  Takes = λ s cs. offerAnswer s cs ≡ 0;
-  Hears = λ x. x ≤ highestLevel mode;
-  Like = Like mode;
-  offer-like = λ s m r cs z h. offer-like mode s m r h cs z;
-  ms-like = λ s m r x l h. ms-like mode s m r h x l;
-  sent-is = λ s m r h. sent-same mode s m r h;
-  event-is = λ s m r x l h. event-same mode s m r h x;
 }
