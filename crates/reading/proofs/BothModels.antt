@@ -26,14 +26,9 @@ use Rattle.station.proofs.Range.{reader-offered-in}
 use Rattle.reading.specs.Model.{Model, Step, Offer, Ms, freshModel, offered, isInhibited, did, msAfter, modelAfter, does, sentIn, heardIn}
 use Rattle.reading.specs.Reading.{NoBurst, eventsInhibited}
 use Rattle.reading.specs.BothModels.{stationReader, stationEvents, OffersNone, BothRead}
+use Rattle.reading.proofs.Cuts.{after-append}
 use Rattle.reading.proofs.Core.{reads-after-idle}
 use Rattle.reading.proofs.Inhibited.{ms-less, inhibited-most, inhibited-less}
-
-pub after-append : (mode : Mode) (xs ys : List Step) (m : Model) → modelAfter mode m (xs ++ ys) ≡ modelAfter mode (modelAfter mode m xs) ys
-unfolding modelAfter
-after-append mode [] ys m = refl
-after-append mode (Offer cs ∷ xs) ys m = after-append mode xs ys (offered mode cs m)
-after-append mode (Ms x ∷ xs) ys m = after-append mode xs ys (msAfter mode m x)
 
 -- B's reader stays in range
 pub station-in : (mode : Mode) (steps : List Step) (m : Model) (r : Reader) → allAtMost 16 (heardIn steps) ≡ true → ReaderIn mode r → ReaderIn mode (stationReader mode m r steps)

@@ -36,9 +36,8 @@ use Rattle.reading.specs.Model.{Model, Step, Offer, Ms, freshModel, offe
 use Rattle.reading.specs.Reading.{OffersChars}
 use Rattle.reading.specs.BothModels.{stationReader, stationEvents}
 use Rattle.reading.specs.Calls.{Call, OfferCall, RunCall, opened, left, succeeds, sentFor, wordsFor, stepsFor, stepsIf, leftBy, sentBy, wordsBy, stepsBy, accepts, modelSteps, msIn, cutFor, upTo}
-use Rattle.reading.proofs.Core.{does-append}
 use Rattle.reading.proofs.StationLike.{Like, mode-same, count-same, sent-same, event-same, ms-like, offer-like}
-use Rattle.reading.proofs.Cuts.{take-append, most-append, heard-append, heard-run, chars-append, chars-run, sent-append, events-append, events-length}
+use Rattle.reading.proofs.Cuts.{take-append, most-append, heard-append, heard-run, chars-append, chars-run, sent-append, does-append, events-append, events-length}
 
 -- ---- the questions
 

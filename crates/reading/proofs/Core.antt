@@ -29,6 +29,7 @@ use Rattle.chain.specs.Resting.{restsAll, Settled}
 use Rattle.chain.proofs.Resting.{settles}
 use Rattle.reading.specs.Model.{OnLine, Idle, Sending, Model, Loaded, Did, Step, Offer, Ms, freshModel, offered, load, levelOn, inBurst, oneGone, closed, did, msAfter, modelAfter, does, sentIn, takenIn}
 use Rattle.reading.specs.Reading.{atOnce, mostBefore, untilSynchronized, synchronizedAfter, NoBurst, EndsIdle, OffersChars, eventsInhibited, Reads, ReadsAfterIdle}
+use Rattle.reading.proofs.Cuts.{most-append, most-right, chars-left, chars-right, sent-append, does-append}
 use Rattle.reading.proofs.Laws.{SenderIn, LawsOf, laws}
 use Rattle.reading.proofs.Views.{left, Begins, stays, shifts, owns, Fine, fine-offered, fine-ms, fine-after, load-view}
 use Rattle.reading.proofs.Following.{follows, follows-after}
@@ -90,27 +91,7 @@ module _ (mode : Mode) where
   quiet-rests (suc k) zero r xs h = let i = quiet-rests k zero (hear mode r 0 .reader) xs (omega arith) in (false ∷ i .0, ap suc (i .1), i .2)
   quiet-rests (suc k) (suc n) r xs h = let i = quiet-rests k n (inhibited r) xs (omega arith) in (true ∷ i .0, ap suc (i .1), i .2)
 
-  -- what some steps do, and then others
-  pub does-append : (xs ys : List Step) (m : Model) → does mode m (xs ++ ys) ≡ does mode m xs ++ does mode (modelAfter mode m xs) ys
-  unfolding does modelAfter
-  does-append [] ys m = refl
-  does-append (Offer cs ∷ xs) ys m = does-append xs ys (offered mode cs m)
-  does-append (Ms x ∷ xs) ys m = ap (λ (ds : List Did). did mode m ∷ ds) (does-append xs ys (msAfter mode m x))
-
-sent-append : (ds es : List Did) → sentIn (ds ++ es) ≡ sentIn ds ++ sentIn es
-sent-append [] es = refl
-sent-append (d ∷ ds) es = ap (λ (l : List ℕ). d .sent ∷ l) (sent-append ds es)
-
 -- ---- what is taken are characters, and so are their normal forms
-
-most-append : (m : ℕ) (xs ys : List ℕ) → allAtMost m xs ≡ true → allAtMost m ys ≡ true → allAtMost m (xs ++ ys) ≡ true
-unfolding allAtMost
-most-append m [] ys p q = q
-most-append m (x ∷ xs) ys p q = rw (le-leb x m (at-most-head m x xs p)) (most-append m xs ys (at-most-tail m x xs p) q)
-
-most-right : (m : ℕ) (xs ys : List ℕ) → allAtMost m (xs ++ ys) ≡ true → allAtMost m ys ≡ true
-most-right m [] ys p = p
-most-right m (x ∷ xs) ys p = most-right m xs ys (at-most-tail m x (xs ++ ys) p)
 
 one-char : (c : ℕ) → c < 128 → allChars (c ∷ []) ≡ true
 unfolding allAtMost
@@ -178,18 +159,6 @@ module _ (mode : Mode) (L : LawsOf mode) where
 
 -- ---- from a fresh model on
 
-offers-left : (xs ys : List Step) → OffersChars (xs ++ ys) → OffersChars xs
-unfolding OffersChars
-offers-left [] ys h = tt
-offers-left (Offer cs ∷ xs) ys h = (h .0, offers-left xs ys (h .1))
-offers-left (Ms x ∷ xs) ys h = offers-left xs ys h
-
-offers-right : (xs ys : List Step) → OffersChars (xs ++ ys) → OffersChars ys
-unfolding OffersChars
-offers-right [] ys h = h
-offers-right (Offer cs ∷ xs) ys h = offers-right xs ys (h .1)
-offers-right (Ms x ∷ xs) ys h = offers-right xs ys h
-
 fresh-sender : (mode : Mode) → SenderIn (alphabetOf mode) (freshModel .sender)
 fresh-sender Baudot45 = inl refl
 fresh-sender Baudot50 = inl refl
@@ -202,9 +171,9 @@ reads-after-idle mode past forty next r n p =
     let m = modelAfter mode freshModel past in
     let m′ = modelAfter mode m forty in
     let ds = does mode m′ next in
-    let after = offers-right past (forty ++ next) (p .chars) in
-    let f = fine-after mode L past freshModel (offers-left past (forty ++ next) (p .chars)) (record { waits = tt; sender-in = fresh-sender mode }) in
-    let f′ = fine-after mode L forty m (offers-left forty next after) f in
+    let after = chars-right past (forty ++ next) (p .chars) in
+    let f = fine-after mode L past freshModel (chars-left past (forty ++ next) (p .chars)) (record { waits = tt; sender-in = fresh-sender mode }) in
+    let f′ = fine-after mode L forty m (chars-left forty next after) f in
     let k = p .forty-ms in
     let idle = idle-after mode forty m (λ e. let z = ap length e in absurd (omega arith)) (no-burst-ends mode (does mode m forty) (p .idle)) in
     let b = quiet-rests mode 40 n r (sentIn ds) (p .inhibited-in) in
@@ -214,4 +183,4 @@ reads-after-idle mode past forty next r n p =
     let did-is : drop 40 (does mode m (forty ++ next)) ≡ ds = ap (drop 40) e ∙ ap (λ (i : ℕ). drop i (does mode m forty ++ ds)) (sym k) ∙ drop-append-seam (does mode m forty) ds in
     let heard-is : drop 40 (eventsInhibited mode n r (sentIn (does mode m (forty ++ next)))) ≡ events mode (restsAll mode r (b .0)) (sentIn ds) =
     ap (λ (l : List ℕ). drop 40 (eventsInhibited mode n r l)) sent ∙ b .2 in
-    rw (did-is, heard-is) (reads mode L next m′ (restsAll mode r (b .0)) (offers-right forty next after) f′ idle (settles mode r (p .reader-in) (b .0) (b .1)))
+    rw (did-is, heard-is) (reads mode L next m′ (restsAll mode r (b .0)) (chars-right forty next after) f′ idle (settles mode r (p .reader-in) (b .0) (b .1)))

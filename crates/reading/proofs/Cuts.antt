@@ -27,7 +27,7 @@ take-append zero xs ys = let e : zero - length xs ≡ zero = omega arith in rw e
 take-append (suc n) [] ys = let e : suc n - 0 ≡ suc n = omega arith in rw e refl
 take-append (suc n) (x ∷ xs) ys =
     let e : suc n - suc (length xs) ≡ n - length xs = omega arith in
-    rw e (ap (λ l. x ∷ l) (take-append n xs ys))
+    rw e (behind (take-append n xs ys))
 
 pub between-is : {A : Type 0} (first from to : ℕ) (ps ws qs : List A) → length ps ≡ from - first → length ws ≡ to - from → between first from to (ps ++ (ws ++ qs)) ≡ ws
 between-is first from to ps ws qs p w = ap (take (to - from)) (drop-at ps (ws ++ qs) (from - first) p) ∙ take-at ws qs (to - from) w
@@ -46,24 +46,18 @@ pub most-right : (m : ℕ) (xs ys : List ℕ) → allAtMost m (xs ++ ys) ≡ tru
 most-right m [] ys p = p
 most-right m (x ∷ xs) ys p = most-right m xs ys (at-most-tail m x (xs ++ ys) p)
 
-pub most-take : (m n : ℕ) (xs : List ℕ) → allAtMost m xs ≡ true → allAtMost m (take n xs) ≡ true
-unfolding allAtMost
-most-take m zero xs p = refl
-most-take m (suc n) [] p = refl
-most-take m (suc n) (x ∷ xs) p = rw (le-leb x m (at-most-head m x xs p)) (most-take m n xs (at-most-tail m x xs p))
-
 -- ---- what holds of each
 
 pub heard-append : (xs ys : List Step) → heardIn (xs ++ ys) ≡ heardIn xs ++ heardIn ys
 unfolding heardIn
 heard-append [] ys = refl
 heard-append (Offer cs ∷ xs) ys = heard-append xs ys
-heard-append (Ms x ∷ xs) ys = ap (λ (l : List ℕ). x ∷ l) (heard-append xs ys)
+heard-append (Ms x ∷ xs) ys = behind (heard-append xs ys)
 
 pub heard-run : (heard : List ℕ) → heardIn (map Ms heard) ≡ heard
 unfolding heardIn
 heard-run [] = refl
-heard-run (x ∷ xs) = ap (λ (l : List ℕ). x ∷ l) (heard-run xs)
+heard-run (x ∷ xs) = behind (heard-run xs)
 
 pub chars-append : (xs ys : List Step) → OffersChars xs → OffersChars ys → OffersChars (xs ++ ys)
 unfolding OffersChars
@@ -76,6 +70,12 @@ unfolding OffersChars
 chars-left [] ys h = tt
 chars-left (Offer cs ∷ xs) ys h = (h .0, chars-left xs ys (h .1))
 chars-left (Ms x ∷ xs) ys h = chars-left xs ys h
+
+pub chars-right : (xs ys : List Step) → OffersChars (xs ++ ys) → OffersChars ys
+unfolding OffersChars
+chars-right [] ys h = h
+chars-right (Offer cs ∷ xs) ys h = chars-right xs ys (h .1)
+chars-right (Ms x ∷ xs) ys h = chars-right xs ys h
 
 pub chars-run : (heard : List ℕ) → OffersChars (map Ms heard)
 unfolding OffersChars
@@ -100,16 +100,22 @@ idle-right (x ∷ xs) ys h = idle-right xs ys (h .1)
 
 pub sent-append : (ds es : List Did) → sentIn (ds ++ es) ≡ sentIn ds ++ sentIn es
 sent-append [] es = refl
-sent-append (d ∷ ds) es = ap (λ (l : List ℕ). d .sent ∷ l) (sent-append ds es)
+sent-append (d ∷ ds) es = behind (sent-append ds es)
 
 -- ---- what the model and the reader make of them
 
 module _ (mode : Mode) where
-  pub reader-append : (xs ys : List Step) (m : Model) (r : Reader) → stationReader mode m r (xs ++ ys) ≡ stationReader mode (modelAfter mode m xs) (stationReader mode m r xs) ys
-  unfolding stationReader modelAfter
-  reader-append [] ys m r = refl
-  reader-append (Offer cs ∷ xs) ys m r = reader-append xs ys (offered mode cs m) _
-  reader-append (Ms x ∷ xs) ys m r = reader-append xs ys (msAfter mode m x) _
+  pub after-append : (xs ys : List Step) (m : Model) → modelAfter mode m (xs ++ ys) ≡ modelAfter mode (modelAfter mode m xs) ys
+  unfolding modelAfter
+  after-append [] ys m = refl
+  after-append (Offer cs ∷ xs) ys m = after-append xs ys (offered mode cs m)
+  after-append (Ms x ∷ xs) ys m = after-append xs ys (msAfter mode m x)
+
+  pub does-append : (xs ys : List Step) (m : Model) → does mode m (xs ++ ys) ≡ does mode m xs ++ does mode (modelAfter mode m xs) ys
+  unfolding does modelAfter
+  does-append [] ys m = refl
+  does-append (Offer cs ∷ xs) ys m = does-append xs ys (offered mode cs m)
+  does-append (Ms x ∷ xs) ys m = behind (does-append xs ys (msAfter mode m x))
 
   pub events-append : (xs ys : List Step) (m : Model) (r : Reader) → stationEvents mode m r (xs ++ ys) ≡ stationEvents mode m r xs ++ stationEvents mode (modelAfter mode m xs) (stationReader mode m r xs) ys
   unfolding stationEvents stationReader modelAfter

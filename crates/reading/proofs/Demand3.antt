@@ -30,9 +30,8 @@ use Rattle.reading.specs.Reading.{endsSynchronizing, untilSynchronized, 
 use Rattle.reading.specs.BothModels.{stationReader, stationEvents, OffersNone, modelOf, doesAfter, BothPremises}
 use Rattle.reading.specs.Calls.{Call, opened, stepsBy, wordsBy, modelSteps, upTo, msIn}
 use Rattle.reading.specs.Demand3.{Lists, theMode, stepsA, stepsB, didsA, sentA, heardB, between, Premises, followsA, synchronized, wordsDue, Conclusion, Demand3}
-use Rattle.reading.proofs.Core.{does-append}
-use Rattle.reading.proofs.BothModels.{after-append, both-read}
-use Rattle.reading.proofs.Cuts.{between-is, most-left, heard-append, chars-left, none-right, idle-left, idle-right, sent-append, events-append, does-length, events-length, Cut, cut-after, ms-append}
+use Rattle.reading.proofs.BothModels.{both-read}
+use Rattle.reading.proofs.Cuts.{between-is, most-left, heard-append, chars-left, none-right, idle-left, idle-right, sent-append, after-append, does-append, events-append, does-length, events-length, Cut, cut-after, ms-append}
 use Rattle.reading.proofs.StationLike.{Like, fresh-like}
 use Rattle.reading.proofs.Calls.{CallsLike, model-steps, calls-like, words-up-to}
 use Rattle.reading.proofs.CutInTwo.{cut-in-two}

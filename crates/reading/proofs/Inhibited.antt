@@ -32,8 +32,3 @@ module _ (mode : Mode) where
   inhibited-less [] m n b h = omega arith
   inhibited-less (Offer cs ∷ steps) m n b h = inhibited-less steps (offered mode cs m) n b h
   inhibited-less (Ms x ∷ steps) m n b h = let e = ms-less m x (b .0) in inhibited-less steps (msAfter mode m x) n (b .1) (omega arith)
-
-  -- at most 40 are left after 260 ms of an idle period
-  pub inhibited-40 : (past early : List Step) → NoBurst (does mode (modelAfter mode freshModel past) early) → 260 ≤ length (does mode (modelAfter mode freshModel past) early)
-      → modelAfter mode (modelAfter mode freshModel past) early .inhibitedMs ≤ 40
-  inhibited-40 past early b h = let i = inhibited-most past freshModel (omega arith) in inhibited-less early (modelAfter mode freshModel past) 40 b (omega arith)

@@ -3,5 +3,4 @@ pub mod Reading
 pub mod BothModels
 pub mod Calls
 pub mod Demand3
-pub mod Demand3Examples
 pub mod Examples
