@@ -2,40 +2,37 @@
 use mathlib.Core.Path.{_≡_, _∙_, refl, sym, ap, subst}
 use mathlib.Core.Bool.{Bool, true, false, cond, _&&_}
 use mathlib.Core.Logic.{_⊎_, inl, inr}
-use mathlib.Core.List.{List, [], _∷_, _++_, map, append-assoc}
+use mathlib.Core.List.{List, [], _∷_, _++_, map}
 use Prim.Native.Nat.{ℕ, zero, suc, _+_, _-_, _≤_}
 use native.Mathlib.Omega.{arith}
 use lib.Dec.{eqb, leb}
-use lib.ListN.{length, take, drop, length-append, length-take, take-append-drop}
+use lib.ListN.{length, take, drop, length-take, take-append-drop}
 use lib.Seq.{take-nil, take-all, take-at, take-append-seam}
 use borrow.Author.Tests.{eqb-true, eqb-false, leb-true, leb-false, le-leb}
 use Rattle.lists.specs.Lists.{allAtMost}
 use Rattle.lists.specs.Steps.{stateAfter, outputs}
 use Rattle.lists.proofs.Lists.{at-most-head, at-most-tail}
-use Rattle.lists.proofs.Steps.{after-append, outputs-append}
 use Rattle.alphabet.specs.declared.Mode.{Mode}
 use Rattle.alphabet.specs.declared.Mode.the-variants.{Baudot45, Baudot50, Dtmf, Edt}
-use Rattle.alphabet.specs.Modes.{modeNumber, modeOf, alphabetOf}
+use Rattle.alphabet.specs.Modes.{alphabetOf}
 use Rattle.alphabet.specs.Normal.{allChars}
 use Rattle.line.specs.declared.Event.{Event}
 use Rattle.line.specs.declared.Reader.{Reader}
-use Rattle.line.specs.Reader.{fresh}
 use Rattle.line.specs.Words.{wordsOf}
 use Rattle.line.proofs.WordLists.{words-append}
 use Rattle.queue.specs.Queue.{waiters, room}
 use Rattle.station.specs.declared.Station.{Station}
 use Rattle.station.specs.declared.Answered.{Answered}
 use Rattle.station.specs.declared.Ran.{Ran}
-use Rattle.station.specs.Station.{modeOfStation, alphabetOfStation, queueOf, freshStation, offeredTo, stationMs, sentMs, eventOf, stationAfter, eventsBy, sentBy as sentRun, wordsBy as wordsRun}
-use Rattle.station.specs.Range.{inRange}
+use Rattle.station.specs.Station.{alphabetOfStation, queueOf, offeredTo, stationMs, eventOf, stationAfter, eventsBy, sentBy as sentRun, wordsBy as wordsRun}
 use Rattle.station.specs.Entries.{answered, ran, highestLevel, offerAnswer, offerOf, runAnswer, ranOf, sentAfter, wordsAfter}
 use Rattle.station.proofs.Range.{accepted, runs}
 use Rattle.station.proofs.Answers.{refused-offer, refused-run}
 use Rattle.station.proofs.Cuts.{first-runs}
-use Rattle.reading.specs.Model.{Model, Step, Offer, Ms, freshModel, offered, msAfter, modelAfter, does, sentIn, heardIn}
+use Rattle.reading.specs.Model.{Model, Step, Ms, msAfter, modelAfter, does, sentIn, heardIn}
 use Rattle.reading.specs.Reading.{OffersChars}
 use Rattle.reading.specs.BothModels.{stationReader, stationEvents}
-use Rattle.reading.specs.Calls.{Call, OfferCall, RunCall, opened, left, succeeds, sentFor, wordsFor, stepsFor, stepsIf, leftBy, sentBy, wordsBy, stepsBy, accepts, modelSteps, msIn, cutFor, upTo}
+use Rattle.reading.specs.Calls.{Call, OfferCall, RunCall, left, succeeds, sentFor, wordsFor, stepsFor, stepsIf, sentBy, wordsBy, stepsBy, accepts, modelSteps, msIn, cutFor, upTo}
 use Rattle.reading.proofs.StationLike.{Like, mode-same, count-same, sent-same, event-same, ms-like, offer-like}
 use Rattle.reading.proofs.Cuts.{take-append, most-append, heard-append, heard-run, chars-append, chars-run, sent-append, does-append, events-append, events-length}
 

@@ -17,14 +17,12 @@ use Rattle.alphabet.specs.Modes.{modeNumber, modeOf, alphabetOf}
 use Rattle.alphabet.specs.Normal.{allChars}
 use Rattle.alphabet.proofs.Normal.{normal-form-twice}
 use Rattle.line.specs.declared.Event.{Event}
-use Rattle.line.specs.declared.Reader.{Reader}
 use Rattle.line.specs.Reader.{fresh}
 use Rattle.line.specs.Words.{wordsOf, characterWord}
 use Rattle.line.proofs.WordLists.{words-append}
 use Rattle.station.specs.declared.Station.{Station}
-use Rattle.station.specs.Station.{freshStation, sentMs}
+use Rattle.station.specs.Station.{freshStation}
 use Rattle.station.specs.Entries.{answered, isMode, openOf}
-use Rattle.station.proofs.Range.{station-in}
 use Rattle.reading.specs.Model.{Model, Step, Did, freshModel, modelAfter, does, sentIn, heardIn}
 use Rattle.reading.specs.Reading.{endsSynchronizing, untilSynchronized, synchronizedAfter, atOnce, NoBurst, EndsIdle, OffersChars, Reads}
 use Rattle.reading.specs.BothModels.{stationReader, stationEvents, OffersNone, modelOf, doesAfter, BothPremises}

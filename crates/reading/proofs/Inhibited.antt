@@ -7,7 +7,7 @@ use native.Mathlib.Omega.{arith}
 use lib.ListN.{length}
 use Rattle.alphabet.specs.declared.Mode.{Mode}
 use Rattle.access.specs.Rules.{inhibitedAfter}
-use Rattle.reading.specs.Model.{Model, Step, Offer, Ms, freshModel, load, inBurst, offered, did, msAfter, modelAfter, does}
+use Rattle.reading.specs.Model.{Model, Step, Offer, Ms, load, inBurst, offered, did, msAfter, modelAfter, does}
 use Rattle.reading.specs.Reading.{NoBurst}
 
 module _ (mode : Mode) where

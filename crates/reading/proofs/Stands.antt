@@ -13,9 +13,8 @@ use Rattle.alphabet.specs.declared.Mode.{Mode}
 use Rattle.alphabet.specs.declared.Sends.{Sends}
 use Rattle.alphabet.specs.declared.Sends.the-variants.{Nothing, Code}
 use Rattle.alphabet.specs.Modes.{alphabetOf}
-use Rattle.alphabet.specs.Normal.{sends}
+use Rattle.alphabet.specs.Normal.{sends, isCode}
 use Rattle.baudot.specs.declared.Sender.{Sender}
-use Rattle.alphabet.specs.Normal.{isCode}
 use Rattle.baudot.specs.Sending.{shiftCode, shifted}
 use Rattle.signal.specs.Signal.{preamble}
 use Rattle.access.specs.declared.OnLine.{OnLine as Line}

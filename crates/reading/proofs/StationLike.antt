@@ -13,8 +13,7 @@ use Rattle.lists.proofs.Lists.{and-right}
 use Rattle.alphabet.specs.declared.Mode.{Mode}
 use Rattle.alphabet.specs.declared.Mode.the-variants.{Baudot45, Baudot50, Dtmf, Edt}
 use Rattle.alphabet.specs.Modes.{modeNumber, modeOf, alphabetOf}
-use Rattle.alphabet.specs.Normal.{sends}
-use Rattle.alphabet.specs.Normal.{isCode}
+use Rattle.alphabet.specs.Normal.{sends, isCode}
 use Rattle.line.specs.declared.Reader.{Reader}
 use Rattle.line.specs.Reader.{fresh}
 use Rattle.access.specs.declared.Loaded.{Loaded as LoadedLine}

@@ -14,9 +14,8 @@ use Rattle.alphabet.specs.declared.Mode.{Mode}
 use Rattle.alphabet.specs.declared.Sends.{Sends}
 use Rattle.alphabet.specs.declared.Sends.the-variants.{Nothing, Code}
 use Rattle.alphabet.specs.Modes.{alphabetOf}
-use Rattle.alphabet.specs.Normal.{sends}
+use Rattle.alphabet.specs.Normal.{sends, isCode}
 use Rattle.baudot.specs.declared.Sender.{Sender}
-use Rattle.alphabet.specs.Normal.{isCode}
 use Rattle.signal.specs.Signal.{preamble}
 use Rattle.access.specs.Rules.{mayBegin, mayEnd}
 use Rattle.access.specs.Line.{shiftWanted}
