@@ -96,15 +96,17 @@ outputs-take zero heard s = refl
 outputs-take (suc n) [] s = refl
 outputs-take (suc n) (x ∷ xs) s = ap (λ (es : List Event). eventOf s x ∷ es) (outputs-take n xs (stationMs s x))
 
--- what a run that succeeds hands out of its slices
-sent-front : (s : Station) (heard sent words : List ℕ) → runAnswer s heard (length sent) (length words) ≡ 0 → take (length heard) (sentAfter s heard (length words) sent) ≡ sentRun s heard
-unfolding sentAfter
-sent-front s heard sent words e = rw e (take-at (sentRun s heard) (drop (length (sentRun s heard)) sent) (length heard) (sent-length heard s))
-
-words-front : (s : Station) (heard sent words : List ℕ) → runAnswer s heard (length sent) (length words) ≡ 0
-    → take (ranOf s heard (length sent) (length words) .words) (wordsAfter s heard (length sent) words) ≡ wordsRun s heard
+-- what a run that succeeds hands out
+pub words-of : (heard sent words : List ℕ) (s : Station) → runAnswer s heard (length sent) (length words) ≡ 0 → wordsFor s (RunCall heard sent words) ≡ wordsRun s heard
 unfolding wordsAfter
-words-front s heard sent words e = rw (run-yes s heard (length sent) (length words) e, e) (take-append-seam (wordsRun s heard) (drop (length (wordsRun s heard)) words))
+words-of heard sent words s z = rw (run-succeeds heard sent words s z, run-yes s heard (length sent) (length words) z, z) (take-append-seam (wordsRun s heard) (drop (length (wordsRun s heard)) words))
+
+pub sent-of : (heard sent words : List ℕ) (s : Station) → runAnswer s heard (length sent) (length words) ≡ 0 → sentFor s (RunCall heard sent words) ≡ sentRun s heard
+unfolding sentAfter
+sent-of heard sent words s z = rw (run-succeeds heard sent words s z, z) (take-at (sentRun s heard) (drop (length (sentRun s heard)) sent) (length heard) (sent-length heard s))
+
+pub steps-of : (heard sent words : List ℕ) (s : Station) → runAnswer s heard (length sent) (length words) ≡ 0 → stepsFor s (RunCall heard sent words) ≡ map Ms heard
+steps-of heard sent words s z = rw (run-succeeds heard sent words s z) refl
 
 levels-16 : (mode : Mode) → highestLevel mode ≤ 16
 levels-16 Baudot45 = omega arith
@@ -121,16 +123,6 @@ up-zero : (s : Station) (cs : List Call) → upTo s cs 0 ≡ []
 unfolding upTo
 up-zero s [] = refl
 up-zero s (c ∷ cs) = refl
-
--- what a run that succeeds hands out
-pub words-of : (heard sent words : List ℕ) (s : Station) → runAnswer s heard (length sent) (length words) ≡ 0 → wordsFor s (RunCall heard sent words) ≡ wordsRun s heard
-words-of heard sent words s z = rw (run-succeeds heard sent words s z) (words-front s heard sent words z)
-
-pub sent-of : (heard sent words : List ℕ) (s : Station) → runAnswer s heard (length sent) (length words) ≡ 0 → sentFor s (RunCall heard sent words) ≡ sentRun s heard
-sent-of heard sent words s z = rw (run-succeeds heard sent words s z) (sent-front s heard sent words z)
-
-pub steps-of : (heard sent words : List ℕ) (s : Station) → runAnswer s heard (length sent) (length words) ≡ 0 → stepsFor s (RunCall heard sent words) ≡ map Ms heard
-steps-of heard sent words s z = rw (run-succeeds heard sent words s z) refl
 
 module _ (mode : Mode) where
   -- ---- a run
@@ -203,12 +195,12 @@ module _ (mode : Mode) where
       let e = run-succeeds heard sent words s z in
       record {
         like = rw (e, ap (λ (a : Ran). a .station) (run-yes s heard (length sent) (length words) z)) (g .like);
-        sent-are = rw e (sent-front s heard sent words z ∙ g .sent-are);
+        sent-are = sent-of heard sent words s z ∙ g .sent-are ∙ ap (λ (l : List Step). sentIn (does mode m l)) (sym (steps-of heard sent words s z));
         chars = rw e (chars-run heard);
         levels = rw (e, heard-run heard) (most-more (highestLevel mode) 16 heard (levels-16 mode) v);
         words-cut = λ n.
             let y = run-cut n s heard (length sent) (length words) z in
-            rw (e, run-succeeds (take n heard) sent words s y) (words-front s (take n heard) sent words y ∙ ap wordsOf (outputs-take n heard s ∙ ap (take n) (g .events-are)));
+            rw e (words-of (take n heard) sent words s y ∙ ap wordsOf (outputs-take n heard s ∙ ap (take n) (g .events-are)));
         left-cut = λ n. rw (e, heard-run heard) (cut-by n (leb (length heard) n) refl);
       }
     where

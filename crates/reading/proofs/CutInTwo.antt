@@ -5,17 +5,16 @@ use Prim.Native.Nat.{ℕ, _≤_}
 use native.Mathlib.Omega.{arith}
 use lib.ListN.{length, length-append}
 use borrow.Author.Tests.{leb-true}
-use Rattle.lists.proofs.Lists.{either}
 use Rattle.station.specs.declared.Station.{Station}
-use Rattle.station.specs.declared.Answered.{Answered}
 use Rattle.station.specs.declared.Ran.{Ran}
-use Rattle.station.specs.Station.{freshStation, stationAfter}
-use Rattle.station.specs.Entries.{answered, isMode, openOf, runAnswer}
-use Rattle.station.proofs.Range.{fresh-full, offer-full, runs, run-full}
+use Rattle.station.specs.Station.{stationAfter}
+use Rattle.station.specs.Entries.{runAnswer}
+use Rattle.station.proofs.Range.{offer-full, runs, run-full}
 use Rattle.station.proofs.Cuts.{cut, first-runs, second-runs}
 use Rattle.reading.specs.Model.{Step, Ms}
 use Rattle.reading.specs.Calls.{Call, OfferCall, RunCall, opened, left, sentFor, wordsFor, stepsFor, leftBy, sentBy, wordsBy, stepsBy}
 use Rattle.reading.specs.Demand3.{CutInTwo}
+use Rattle.reading.proofs.StationLike.{opened-like}
 use Rattle.reading.proofs.Calls.{run-yes, run-answer, words-of, sent-of, steps-of}
 
 -- the calls a and b in place of c leave the same station and hand out the same
@@ -68,10 +67,6 @@ around of by step (q ∷ past) next c a b s l e =
     step s q (past ++ (c ∷ next)) ∙ ap (λ r. of s q ++ r) (around of by step past next c a b (left s q) l e) ∙ sym (step s q (past ++ (a ∷ b ∷ next)))
 
 -- every station of a list has 256 places
-opened-full : (n : ℕ) → length (opened n .chars) ≡ 256
-unfolding openOf
-opened-full n = either (λ (a : Answered). length (a .station .chars) ≡ 256) (isMode n) (answered (freshStation n) 0) (answered (freshStation 1) 2) (fresh-full n) (fresh-full 1)
-
 left-full : (cs : List Call) (s : Station) → length (s .chars) ≡ 256 → length (leftBy s cs .chars) ≡ 256
 unfolding leftBy
 left-full [] s f = f
@@ -86,7 +81,7 @@ cut-in-two n past next xs ys sent words sent′ words′ e u v =
     let c = RunCall (xs ++ ys) sent words in
     let a = RunCall xs sent words in
     let b = RunCall ys sent′ words′ in
-    let t = two xs ys sent words sent′ words′ s (left-full past o (opened-full n)) (run-answer s (xs ++ ys) sent words e) u v in
+    let t = two xs ys sent words sent′ words′ s (left-full past o (opened-like n .full)) (run-answer s (xs ++ ys) sent words e) u v in
     record {
       same-words = around wordsFor wordsBy (λ s c cs. refl) past next c a b o (t .left-is) (t .words-are);
       same-sent = around sentFor sentBy (λ s c cs. refl) past next c a b o (t .left-is) (t .sent-are);

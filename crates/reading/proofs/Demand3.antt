@@ -1,28 +1,24 @@
 -- Demand 3, from the models of both stations: the lists of calls are cut at the ms that the claim names.
 use mathlib.Core.Path.{_≡_, _∙_, refl, sym, ap, subst}
-use mathlib.Core.Bool.{Bool, true, false, cond, true≢false}
+use mathlib.Core.Bool.{Bool, true, false, cond}
 use mathlib.Core.Logic.{_⊎_, inl, inr}
 use mathlib.Core.List.{List, [], _∷_, _++_, map, append-assoc}
 use Prim.Native.Nat.{ℕ, suc, _+_, _-_, _≤_, _<_}
 use native.Mathlib.Omega.{arith}
-use lib.Dec.{eqb, leb, ltb}
+use lib.Dec.{ltb}
 use lib.ListN.{length, take, drop, length-append, length-map, length-drop, take-append-drop}
 use lib.Seq.{length-take-le, take-add, drop-at, drop-drop}
-use borrow.Author.Tests.{eqb-true, eqb-false, ne-eqb, leb-true, ltb-true, ltb-false}
+use borrow.Author.Tests.{ltb-true, ltb-false}
 use Rattle.lists.specs.Lists.{allAtMost}
-use Rattle.lists.proofs.Lists.{either, and-left, and-right}
+use Rattle.lists.proofs.Lists.{either}
 use Rattle.alphabet.specs.declared.Mode.{Mode}
-use Rattle.alphabet.specs.declared.Mode.the-variants.{Baudot45, Baudot50, Dtmf, Edt}
-use Rattle.alphabet.specs.Modes.{modeNumber, modeOf, alphabetOf}
+use Rattle.alphabet.specs.Modes.{modeOf, alphabetOf}
 use Rattle.alphabet.specs.Normal.{allChars}
 use Rattle.alphabet.proofs.Normal.{normal-form-twice}
 use Rattle.line.specs.declared.Event.{Event}
 use Rattle.line.specs.Reader.{fresh}
 use Rattle.line.specs.Words.{wordsOf, characterWord}
 use Rattle.line.proofs.WordLists.{words-append}
-use Rattle.station.specs.declared.Station.{Station}
-use Rattle.station.specs.Station.{freshStation}
-use Rattle.station.specs.Entries.{answered, isMode, openOf}
 use Rattle.reading.specs.Model.{Model, Step, Did, freshModel, modelAfter, does, sentIn, heardIn}
 use Rattle.reading.specs.Reading.{endsSynchronizing, untilSynchronized, synchronizedAfter, atOnce, NoBurst, EndsIdle, OffersChars, Reads}
 use Rattle.reading.specs.BothModels.{stationReader, stationEvents, OffersNone, modelOf, doesAfter, BothPremises}
@@ -30,7 +26,7 @@ use Rattle.reading.specs.Calls.{Call, opened, stepsBy, wordsBy, modelSte
 use Rattle.reading.specs.Demand3.{Lists, theMode, stepsA, stepsB, didsA, sentA, heardB, between, Premises, followsA, synchronized, wordsDue, Conclusion, Demand3}
 use Rattle.reading.proofs.BothModels.{both-read}
 use Rattle.reading.proofs.Cuts.{between-is, most-left, heard-append, chars-left, none-right, idle-left, idle-right, sent-append, after-append, does-append, events-append, does-length, events-length, Cut, cut-after, ms-append}
-use Rattle.reading.proofs.StationLike.{Like, fresh-like}
+use Rattle.reading.proofs.StationLike.{opened-like}
 use Rattle.reading.proofs.Calls.{CallsLike, model-steps, calls-like, words-up-to}
 use Rattle.reading.proofs.CutInTwo.{cut-in-two}
 
@@ -338,41 +334,7 @@ module _ (d : Lists) (p : Premises d) (f : Five (stepsA d) (d .start - d .openA)
           no-fault = λ z. subst (λ (l : List ℕ). allChars l ≡ true) (due z) (r .no-fault z);
         }
 
--- ---- the opening
-
-numbered : (n : ℕ) → 1 ≤ n → n ≤ 4 → modeNumber (modeOf n) ≡ n
-numbered n l h = go (eqb n 2) (eqb n 3) (eqb n 4) refl refl refl
-  where
-    go : (a b c : Bool) → eqb n 2 ≡ a → eqb n 3 ≡ b → eqb n 4 ≡ c → modeNumber (cond a Baudot50 (cond b Dtmf (cond c Edt Baudot45))) ≡ n
-    go true b c p q r = sym (eqb-true n 2 p)
-    go false true c p q r = sym (eqb-true n 3 q)
-    go false false true p q r = sym (eqb-true n 4 r)
-    go false false false p q r =
-        let x = eqb-false n 2 p in
-        let y = eqb-false n 3 q in
-        let z = eqb-false n 4 r in
-        omega arith
-
--- a number that is no mode's
-other : (n : ℕ) → isMode n ≡ false → modeNumber (modeOf n) ≡ 1
-other n e =
-    let a : eqb n 2 ≡ false = ne-eqb n 2 (λ z. absurd (true≢false (sym (ap isMode z) ∙ e))) in
-    let b : eqb n 3 ≡ false = ne-eqb n 3 (λ z. absurd (true≢false (sym (ap isMode z) ∙ e))) in
-    let c : eqb n 4 ≡ false = ne-eqb n 4 (λ z. absurd (true≢false (sym (ap isMode z) ∙ e))) in
-    rw (a, b, c) refl
-
-opened-is : (n : ℕ) → opened n ≡ freshStation (modeNumber (modeOf n))
-unfolding openOf
-opened-is n = go (isMode n) refl
-  where
-    go : (b : Bool) → isMode n ≡ b → cond b (answered (freshStation n) 0) (answered (freshStation 1) 2) .station ≡ freshStation (modeNumber (modeOf n))
-    go true e = ap freshStation (sym (numbered n (leb-true 1 n (and-left (leb 1 n) (leb n 4) e)) (leb-true n 4 (and-right (leb 1 n) (leb n 4) e))))
-    go false e = ap freshStation (sym (other n e))
-
 -- ---- the whole claim
-
-pub opened-like : (n : ℕ) → Like (modeOf n) (opened n) freshModel fresh
-opened-like n = subst (λ (s : Station). Like (modeOf n) s freshModel fresh) (sym (opened-is n)) (fresh-like (modeOf n))
 
 pub of-calls : (n : ℕ) (calls : List Call) → CallsLike (modeOf n) calls (opened n) freshModel fresh
 of-calls n calls = calls-like (modeOf n) calls (opened n) freshModel fresh (opened-like n)

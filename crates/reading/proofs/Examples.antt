@@ -35,8 +35,9 @@ use Rattle.reading.specs.BothModels.{OffersNone, stationEvents}
 use Rattle.reading.specs.Calls.{opened, accepts, modelSteps, msIn}
 use Rattle.reading.specs.Demand3.{Lists, theMode, theAlphabet, didsA, between, Premises, followsA, synchronized, wordsBefore}
 use Rattle.reading.specs.Examples.{Example, Holds, Mistaken, AllHold, callsA45, line45, callsB45, baudot45, callsA50, line50, laterLine50, lastLine50, callsB50, baudot50, callsAKeys, callsBKeys, dtmf, callsAEdt, callsBEdt, edt}
+use Rattle.reading.proofs.StationLike.{opened-like}
 use Rattle.reading.proofs.Calls.{words-up-to}
-use Rattle.reading.proofs.Demand3.{opened-like, of-calls, steps-are, demand-3}
+use Rattle.reading.proofs.Demand3.{of-calls, steps-are, demand-3}
 use Rattle.reading.proofs.Cuts.{does-length}
 
 noBurst : List Did → Bool

@@ -5,11 +5,11 @@ use mathlib.Core.List.{List, [], _∷_, _++_}
 use Prim.Native.Nat.{ℕ, zero, suc, _≤_}
 use native.Mathlib.Omega.{arith}
 use native.Mathlib.Numerals.{add-one}
-use lib.Dec.{leb, ltb}
+use lib.Dec.{eqb, leb, ltb}
 use lib.ListN.{length, getD, take, drop}
 use lib.Seq.{length-take-le}
-use borrow.Author.Tests.{le-leb, ltb-true, ltb-false}
-use Rattle.lists.proofs.Lists.{and-right}
+use borrow.Author.Tests.{eqb-true, eqb-false, leb-true, le-leb, ltb-true, ltb-false}
+use Rattle.lists.proofs.Lists.{and-left, and-right}
 use Rattle.alphabet.specs.declared.Mode.{Mode}
 use Rattle.alphabet.specs.declared.Mode.the-variants.{Baudot45, Baudot50, Dtmf, Edt}
 use Rattle.alphabet.specs.Modes.{modeNumber, modeOf, alphabetOf}
@@ -26,10 +26,11 @@ use Rattle.queue.proofs.Laws.{waiting-offered, waiting-taken}
 use Rattle.station.specs.declared.Station.{Station}
 use Rattle.station.specs.Station.{modeOfStation, alphabetOfStation, queueOf, freshStation, readerOffered, offeredTo, front, charsAfter, stationMs, sentMs, eventOf}
 use Rattle.station.specs.Range.{inRange}
-use Rattle.station.specs.Entries.{isMode, offerAnswer, highestLevel}
+use Rattle.station.specs.Entries.{answered, isMode, openOf, offerAnswer, highestLevel}
 use Rattle.station.proofs.Range.{core-in, front-waits, fresh-in, fresh-full, ms-in, ms-full, accepted, offered-in, offered-full}
 use Rattle.access.proofs.Range.{takes-waiting}
 use Rattle.reading.specs.Model.{Model, Loaded, freshModel, offered, begun, nextCode, load, inBurst, oneGone, closed, isInhibited, silenceAfter, did, msAfter}
+use Rattle.reading.specs.Calls.{opened}
 use Rattle.reading.proofs.Stands.{Stands, rests, LoadedLike, Heads, none, some, burst-same, level-same, gone-stands, closed-stands, begun-stands, next-like}
 
 -- the station's silence stops at 300: it is the model's, or both are at least 300
@@ -195,7 +196,9 @@ module _ (mode : Mode) (s : Station) (m : Model) (r : Reader) (h : Like mode s m
         reader-is = λ i. readerOffered (alphabetOf (mode-same i)) cs (h .reader-is i);
       }
 
-pub fresh-like : (mode : Mode) → Like mode (freshStation (modeNumber mode)) freshModel fresh
+-- ---- the opening
+
+fresh-like : (mode : Mode) → Like mode (freshStation (modeNumber mode)) freshModel fresh
 unfolding freshStation
 fresh-like mode = record {
   in-range = fresh-in (modeNumber mode) (number-in mode);
@@ -208,3 +211,28 @@ fresh-like mode = record {
   inhibited-is = refl;
   reader-is = refl;
 }
+
+opened-is : (n : ℕ) → opened n ≡ freshStation (modeNumber (modeOf n))
+unfolding openOf
+opened-is n = go (eqb n 2) (eqb n 3) (eqb n 4) refl refl refl
+  where
+    -- 1, or no mode's number
+    first : (b : Bool) → isMode n ≡ b → eqb n 2 ≡ false → eqb n 3 ≡ false → eqb n 4 ≡ false → cond b (answered (freshStation n) 0) (answered (freshStation 1) 2) .station ≡ freshStation 1
+    first true e p q r =
+        let l = leb-true 1 n (and-left (leb 1 n) (leb n 4) e) in
+        let h = leb-true n 4 (and-right (leb 1 n) (leb n 4) e) in
+        let x = eqb-false n 2 p in
+        let y = eqb-false n 3 q in
+        let z = eqb-false n 4 r in
+        let o : n ≡ 1 = omega arith in
+        ap freshStation o
+    first false e p q r = refl
+
+    go : (a b c : Bool) → eqb n 2 ≡ a → eqb n 3 ≡ b → eqb n 4 ≡ c → opened n ≡ freshStation (modeNumber (cond a Baudot50 (cond b Dtmf (cond c Edt Baudot45))))
+    go true b c p q r = ap opened (eqb-true n 2 p)
+    go false true c p q r = ap opened (eqb-true n 3 q)
+    go false false true p q r = ap opened (eqb-true n 4 r)
+    go false false false p q r = first (isMode n) refl p q r
+
+pub opened-like : (n : ℕ) → Like (modeOf n) (opened n) freshModel fresh
+opened-like n = subst (λ (s : Station). Like (modeOf n) s freshModel fresh) (sym (opened-is n)) (fresh-like (modeOf n))
