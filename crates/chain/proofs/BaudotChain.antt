@@ -2,14 +2,14 @@
 use mathlib.Core.Path.{_≡_, _∙_, refl, sym, ap, subst}
 use mathlib.Core.Bool.{Bool, true, false, cond, _&&_}
 use mathlib.Core.Logic.{_⊎_, inl, inr, ⊎-elim}
-use mathlib.Core.List.{List, [], _∷_, _++_, append-nil}
+use mathlib.Core.List.{List, [], _∷_, append-nil}
 use Prim.Native.Nat.{ℕ, zero, suc, _+_, _-_, _*_, _/_, _<_, _≤_}
 use native.Mathlib.Omega.{arith}
 use lib.Dec.{eqb, leb}
 use lib.ListN.{replicate}
 use borrow.Author.Tests.{le-leb}
 use Rattle.lists.specs.Lists.{allAtMost}
-use Rattle.lists.proofs.Lists.{either, at-most-head, at-most-tail}
+use Rattle.lists.proofs.Lists.{either, at-most-head, at-most-tail, at-most-append}
 use Rattle.alphabet.specs.declared.Alphabet.{Alphabet}
 use Rattle.alphabet.specs.declared.Alphabet.the-variants.{Baudot, Dtmf as dtmf, Edt as edt}
 use Rattle.alphabet.specs.declared.LineCode.{LineCode}
@@ -45,11 +45,6 @@ baudot-word s k =
     either P (eqb k 0b11111) (Shift 1) _ refl (either P (eqb k 0b11011) (Shift 2) _ refl refl)
 
 -- the codes that are sent have five bits
-append-most : (m : ℕ) (xs ys : List ℕ) → allAtMost m xs ≡ true → allAtMost m ys ≡ true → allAtMost m (xs ++ ys) ≡ true
-unfolding allAtMost
-append-most m [] ys p q = q
-append-most m (x ∷ xs) ys p q = rw (le-leb x m (at-most-head m x xs p)) (append-most m xs ys (at-most-tail m x xs p) q)
-
 shift-codes : (w : ℕ) → allAtMost 31 (shiftCodes w) ≡ true
 unfolding allAtMost
 shift-codes w = either (λ (l : List ℕ). allAtMost 31 l ≡ true) (eqb w 0) [] (shiftCode w ∷ []) refl (either (λ (n : ℕ). allAtMost 31 (n ∷ []) ≡ true) (eqb w 2) 0b11011 0b11111 refl refl)
@@ -59,7 +54,7 @@ unfolding codesFor allAtMost
 codes-for s c h Nothing e = refl
 codes-for s c h (Code own k) e =
     let b = rule-of Baudot c h own k e .code-in in
-    append-most 31 (codesAhead s own) (k .0 ∷ []) (append-most 31 (shiftCodes (wanted s own)) (shiftCodes (wanted (opened s own) own)) (shift-codes (wanted s own)) (shift-codes (wanted (opened s own) own)))
+    at-most-append 31 (codesAhead s own) (k .0 ∷ []) (at-most-append 31 (shiftCodes (wanted s own)) (shiftCodes (wanted (opened s own) own)) (shift-codes (wanted s own)) (shift-codes (wanted (opened s own) own)))
     (rw (le-leb (k .0) 31 (omega arith)) refl)
 
 pub five-bits : (s : Sender) (cs : List ℕ) → allChars cs ≡ true → allAtMost 31 (codesOf s cs) ≡ true
@@ -67,7 +62,7 @@ unfolding codesOf allAtMost
 five-bits s [] t = refl
 five-bits s (c ∷ cs) t =
     let h = at-most-head 0x7f c cs t in
-    append-most 31 (codesFor s (sends Baudot c)) (codesOf (senderFor s (sends Baudot c)) cs) (codes-for s c (omega arith) (sends Baudot c) refl) (five-bits (senderFor s (sends Baudot c)) cs (at-most-tail 0x7f c cs t))
+    at-most-append 31 (codesFor s (sends Baudot c)) (codesOf (senderFor s (sends Baudot c)) cs) (codes-for s c (omega arith) (sends Baudot c) refl) (five-bits (senderFor s (sends Baudot c)) cs (at-most-tail 0x7f c cs t))
 
 -- a mode of Baudot, with what its codes are read as
 module _ (mode : Mode) (code : (k : Keys) (s p c : ℕ) → c < 32 → Gives mode (reader hunting k s p) (signal mode c) (wordOf (eventOf (reads Baudot s c))) (reader hunting k (shiftBy s (reads Baudot s c)) p)) where

@@ -60,6 +60,21 @@ at-most-drop m xs zero e = e
 at-most-drop m [] (suc i) e = e
 at-most-drop m (x ∷ xs) (suc i) e = at-most-drop m xs i (at-most-tail m x xs e)
 
+-- of two lists, one behind the other
+pub at-most-append : (m : ℕ) (xs ys : List ℕ) → allAtMost m xs ≡ true → allAtMost m ys ≡ true → allAtMost m (xs ++ ys) ≡ true
+unfolding allAtMost
+at-most-append m [] ys p q = q
+at-most-append m (x ∷ xs) ys p q = rw (le-leb x m (at-most-head m x xs p)) (at-most-append m xs ys (at-most-tail m x xs p) q)
+
+pub at-most-front : (m : ℕ) (xs ys : List ℕ) → allAtMost m (xs ++ ys) ≡ true → allAtMost m xs ≡ true
+unfolding allAtMost
+at-most-front m [] ys e = refl
+at-most-front m (x ∷ xs) ys e = rw (le-leb x m (at-most-head m x (xs ++ ys) e)) (at-most-front m xs ys (at-most-tail m x (xs ++ ys) e))
+
+pub at-most-behind : (m : ℕ) (xs ys : List ℕ) → allAtMost m (xs ++ ys) ≡ true → allAtMost m ys ≡ true
+at-most-behind m [] ys e = e
+at-most-behind m (x ∷ xs) ys e = at-most-behind m xs ys (at-most-tail m x (xs ++ ys) e)
+
 -- a loop that looks at every number: ok says it of those passed
 module _ (m : ℕ) (xs : List ℕ) (i : ℕ) (ok : Bool) (h : i < length xs) where
   pub at-most-bad : m < getD xs i 0 → (false && allAtMost m (drop (i + 1) xs)) ≡ (ok && allAtMost m (drop i xs))

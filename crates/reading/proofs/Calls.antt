@@ -11,7 +11,7 @@ use lib.Seq.{take-nil, take-all, take-at, take-append-seam}
 use borrow.Author.Tests.{eqb-true, eqb-false, leb-true, leb-false, le-leb}
 use Rattle.lists.specs.Lists.{allAtMost}
 use Rattle.lists.specs.Steps.{stateAfter, outputs}
-use Rattle.lists.proofs.Lists.{at-most-head, at-most-tail}
+use Rattle.lists.proofs.Lists.{at-most-head, at-most-tail, at-most-append}
 use Rattle.alphabet.specs.declared.Mode.{Mode}
 use Rattle.alphabet.specs.declared.Mode.the-variants.{Baudot45, Baudot50, Dtmf, Edt}
 use Rattle.alphabet.specs.Modes.{alphabetOf}
@@ -34,7 +34,7 @@ use Rattle.reading.specs.Reading.{OffersChars}
 use Rattle.reading.specs.BothModels.{stationReader, stationEvents}
 use Rattle.reading.specs.Calls.{Call, OfferCall, RunCall, left, succeeds, sentFor, wordsFor, stepsFor, stepsIf, sentBy, wordsBy, stepsBy, accepts, modelSteps, msIn, cutFor, upTo}
 use Rattle.reading.proofs.StationLike.{Like, mode-same, count-same, sent-same, event-same, ms-like, offer-like}
-use Rattle.reading.proofs.Cuts.{take-append, most-append, heard-append, heard-run, chars-append, chars-run, sent-append, does-append, events-append, events-length}
+use Rattle.reading.proofs.Cuts.{take-append, heard-append, heard-run, chars-append, chars-run, sent-append, does-append, events-append, events-length}
 
 -- ---- the questions
 
@@ -270,7 +270,7 @@ module _ (mode : Mode) where
       record {
         sent-are = (λ j. g .sent-are j ++ i .sent-are j) ∙ sym (sent-append (does mode m (stepsFor s c)) (does mode (modelAfter mode m (stepsFor s c)) next)) ∙ ap sentIn (sym (does-append mode (stepsFor s c) next m));
         chars = chars-append (stepsFor s c) next (g .chars) (i .chars);
-        levels = rw (heard-append (stepsFor s c) next) (most-append 16 (heardIn (stepsFor s c)) (heardIn next) (g .levels) (i .levels));
+        levels = rw (heard-append (stepsFor s c) next) (at-most-append 16 (heardIn (stepsFor s c)) (heardIn next) (g .levels) (i .levels));
       }
 
   -- the words up to a cut after n ms

@@ -10,7 +10,7 @@ use lib.Seq.{drop-append-seam}
 use borrow.Author.Tests.{le-leb}
 use Rattle.lists.specs.Lists.{allAtMost}
 use Rattle.lists.specs.Steps.{stateAfter, outputs}
-use Rattle.lists.proofs.Lists.{at-most-head, at-most-tail}
+use Rattle.lists.proofs.Lists.{at-most-head, at-most-tail, at-most-append, at-most-behind}
 use Rattle.alphabet.specs.declared.Alphabet.{Alphabet}
 use Rattle.alphabet.specs.declared.Mode.{Mode}
 use Rattle.alphabet.specs.declared.Mode.the-variants.{Baudot45, Baudot50, Dtmf, Edt}
@@ -29,7 +29,7 @@ use Rattle.chain.specs.Resting.{restsAll, Settled}
 use Rattle.chain.proofs.Resting.{settles}
 use Rattle.reading.specs.Model.{OnLine, Idle, Sending, Model, Loaded, Did, Step, Offer, Ms, freshModel, offered, load, levelOn, inBurst, oneGone, closed, did, msAfter, modelAfter, does, sentIn, takenIn}
 use Rattle.reading.specs.Reading.{atOnce, mostBefore, untilSynchronized, synchronizedAfter, NoBurst, EndsIdle, OffersChars, eventsInhibited, Reads, ReadsAfterIdle}
-use Rattle.reading.proofs.Cuts.{most-append, most-right, chars-left, chars-right, sent-append, does-append}
+use Rattle.reading.proofs.Cuts.{chars-left, chars-right, sent-append, does-append}
 use Rattle.reading.proofs.Laws.{SenderIn, LawsOf, laws}
 use Rattle.reading.proofs.Views.{left, Begins, stays, shifts, owns, Fine, fine-offered, fine-ms, fine-after, load-view}
 use Rattle.reading.proofs.Following.{follows, follows-after}
@@ -110,13 +110,13 @@ unfolding normalForm allAtMost
 normal-form-chars a [] t = refl
 normal-form-chars a (c ∷ cs) t =
     let h = at-most-head 0x7f c cs t in
-    most-append 0x7f (normal a c) (normalForm a cs) (normal-chars a c (omega arith)) (normal-form-chars a cs (at-most-tail 0x7f c cs t))
+    at-most-append 0x7f (normal a c) (normalForm a cs) (normal-chars a c (omega arith)) (normal-form-chars a cs (at-most-tail 0x7f c cs t))
 
 taken-drop : (k : ℕ) (ds : List Did) → allChars (takenIn ds) ≡ true → allChars (takenIn (drop k ds)) ≡ true
 unfolding takenIn
 taken-drop zero ds t = t
 taken-drop (suc k) [] t = t
-taken-drop (suc k) (d ∷ ds) t = taken-drop k ds (most-right 0x7f (d .taken) (takenIn ds) t)
+taken-drop (suc k) (d ∷ ds) t = taken-drop k ds (at-most-behind 0x7f (d .taken) (takenIn ds) t)
 
 module _ (mode : Mode) (L : LawsOf mode) where
   begins-chars : {waiting : List ℕ} {on : OnLine} {s : Sender} {l : Loaded} → Begins mode waiting on s l → allChars (l .taken) ≡ true
@@ -130,7 +130,7 @@ module _ (mode : Mode) (L : LawsOf mode) where
   taken-chars [] m t f = refl
   taken-chars (Offer cs ∷ steps) m t f = taken-chars steps (offered mode cs m) (t .1) (fine-offered mode cs m f)
   taken-chars (Ms x ∷ steps) m t f =
-      most-append 0x7f (load mode m .taken) _ (begins-chars (load-view mode L m f .2)) (taken-chars steps (msAfter mode m x) t (fine-ms mode L m x f))
+      at-most-append 0x7f (load mode m .taken) _ (begins-chars (load-view mode L m f .2)) (taken-chars steps (msAfter mode m x) t (fine-ms mode L m x f))
 
   -- ---- from a model in no burst and a reader between codes on
   module _ (next : List Step) (m : Model) (r : Reader) (t : OffersChars next) (f : Fine mode m) (idle : m .onLine ≡ Idle) (between : Settled mode r) where

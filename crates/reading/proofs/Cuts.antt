@@ -1,14 +1,10 @@
 -- Steps that stand one behind the other, and a cut after any of their ms.
 use mathlib.Core.Path.{_≡_, _∙_, refl, ap}
-use mathlib.Core.Bool.{true}
 use mathlib.Core.List.{List, [], _∷_, _++_, map}
 use Prim.Native.Nat.{ℕ, zero, suc, _+_, _-_, _≤_}
 use native.Mathlib.Omega.{arith}
 use lib.ListN.{length, take, length-append}
 use lib.Seq.{take-at, drop-at}
-use borrow.Author.Tests.{le-leb}
-use Rattle.lists.specs.Lists.{allAtMost}
-use Rattle.lists.proofs.Lists.{at-most-head, at-most-tail}
 use Rattle.alphabet.specs.declared.Mode.{Mode}
 use Rattle.line.specs.declared.Reader.{Reader}
 use Rattle.reading.specs.Model.{Model, Step, Offer, Ms, Did, offered, msAfter, modelAfter, does, sentIn, heardIn}
@@ -31,20 +27,6 @@ take-append (suc n) (x ∷ xs) ys =
 
 pub between-is : {A : Type 0} (first from to : ℕ) (ps ws qs : List A) → length ps ≡ from - first → length ws ≡ to - from → between first from to (ps ++ (ws ++ qs)) ≡ ws
 between-is first from to ps ws qs p w = ap (take (to - from)) (drop-at ps (ws ++ qs) (from - first) p) ∙ take-at ws qs (to - from) w
-
-pub most-append : (m : ℕ) (xs ys : List ℕ) → allAtMost m xs ≡ true → allAtMost m ys ≡ true → allAtMost m (xs ++ ys) ≡ true
-unfolding allAtMost
-most-append m [] ys p q = q
-most-append m (x ∷ xs) ys p q = rw (le-leb x m (at-most-head m x xs p)) (most-append m xs ys (at-most-tail m x xs p) q)
-
-pub most-left : (m : ℕ) (xs ys : List ℕ) → allAtMost m (xs ++ ys) ≡ true → allAtMost m xs ≡ true
-unfolding allAtMost
-most-left m [] ys p = refl
-most-left m (x ∷ xs) ys p = rw (le-leb x m (at-most-head m x (xs ++ ys) p)) (most-left m xs ys (at-most-tail m x (xs ++ ys) p))
-
-pub most-right : (m : ℕ) (xs ys : List ℕ) → allAtMost m (xs ++ ys) ≡ true → allAtMost m ys ≡ true
-most-right m [] ys p = p
-most-right m (x ∷ xs) ys p = most-right m xs ys (at-most-tail m x (xs ++ ys) p)
 
 -- ---- what holds of each
 

@@ -10,7 +10,7 @@ use lib.ListN.{length, take, drop, length-append, length-map, length-drop, take-
 use lib.Seq.{length-take-le, take-add, drop-at, drop-drop}
 use borrow.Author.Tests.{ltb-true, ltb-false}
 use Rattle.lists.specs.Lists.{allAtMost}
-use Rattle.lists.proofs.Lists.{either}
+use Rattle.lists.proofs.Lists.{either, at-most-front}
 use Rattle.alphabet.specs.declared.Mode.{Mode}
 use Rattle.alphabet.specs.Modes.{modeOf, alphabetOf}
 use Rattle.alphabet.specs.Normal.{allChars}
@@ -25,7 +25,7 @@ use Rattle.reading.specs.BothModels.{stationReader, stationEvents, Offer
 use Rattle.reading.specs.Calls.{Call, opened, stepsBy, wordsBy, modelSteps, upTo, msIn}
 use Rattle.reading.specs.Demand3.{Lists, theMode, stepsA, stepsB, didsA, sentA, heardB, between, Premises, followsA, synchronized, wordsDue, Conclusion, Demand3}
 use Rattle.reading.proofs.BothModels.{both-read}
-use Rattle.reading.proofs.Cuts.{between-is, most-left, heard-append, chars-left, none-right, idle-left, idle-right, sent-append, after-append, does-append, events-append, does-length, events-length, Cut, cut-after, ms-append}
+use Rattle.reading.proofs.Cuts.{between-is, heard-append, chars-left, none-right, idle-left, idle-right, sent-append, after-append, does-append, events-append, does-length, events-length, Cut, cut-after, ms-append}
 use Rattle.reading.proofs.StationLike.{opened-like}
 use Rattle.reading.proofs.Calls.{CallsLike, model-steps, calls-like, words-up-to}
 use Rattle.reading.proofs.CutInTwo.{cut-in-two}
@@ -308,7 +308,7 @@ module _ (d : Lists) (p : Premises d) (f : Five (stepsA d) (d .start - d .openA)
       forty-ms = forty-length;
       idle-early = idle-left earlyDids fortyDids idle-both;
       idle-forty = idle-right earlyDids fortyDids idle-both;
-      levels = most-left 16 (heardIn frontB) (heardIn onB ++ heardIn (p .beyond)) (sym (ap (allAtMost 16) heard-parts) ∙ levels);
+      levels = at-most-front 16 (heardIn frontB) (heardIn onB ++ heardIn (p .beyond)) (sym (ap (allAtMost 16) heard-parts) ∙ levels);
       early-ms′ = by-opening (ltb (d .start) (d .openB)) refl;
       idle-early′ = idle-left (doesAfter mode (p .past) (t .early)) (doesAfter mode frontB onB) idle-since;
       idle-on′ = idle-right (doesAfter mode (p .past) (t .early)) (doesAfter mode frontB onB) idle-since;

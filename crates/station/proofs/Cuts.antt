@@ -5,11 +5,10 @@ use mathlib.Core.List.{List, [], _∷_, _++_}
 use Prim.Native.Nat.{ℕ, _+_, _≤_}
 use native.Mathlib.Omega.{arith}
 use lib.ListN.{length, length-append}
-use lib.Seq.{drop-append-seam}
-use borrow.Author.Tests.{le-leb, leb-true}
+use borrow.Author.Tests.{leb-true}
 use Rattle.lists.specs.Lists.{allAtMost}
 use Rattle.lists.specs.Steps.{stateAfter}
-use Rattle.lists.proofs.Lists.{at-most-head, at-most-tail, at-most-drop}
+use Rattle.lists.proofs.Lists.{at-most-front, at-most-behind}
 use Rattle.lists.proofs.Steps.{after-append, outputs-append}
 use Rattle.alphabet.specs.declared.Mode.{Mode}
 use Rattle.line.specs.Words.{wordsOf}
@@ -40,14 +39,6 @@ unfolding stateAfter stationMs coreFrom
 mode-after s [] = refl
 mode-after s (x ∷ xs) = mode-after (stationMs s x) xs
 
-most-front : (m : ℕ) (xs ys : List ℕ) → allAtMost m (xs ++ ys) ≡ true → allAtMost m xs ≡ true
-unfolding allAtMost
-most-front m [] ys e = refl
-most-front m (x ∷ xs) ys e = rw (le-leb x m (at-most-head m x (xs ++ ys) e)) (most-front m xs ys (at-most-tail m x (xs ++ ys) e))
-
-most-behind : (m : ℕ) (xs ys : List ℕ) → allAtMost m (xs ++ ys) ≡ true → allAtMost m ys ≡ true
-most-behind m xs ys e = subst (λ (l : List ℕ). allAtMost m l ≡ true) (drop-append-seam xs ys) (at-most-drop m (xs ++ ys) (length xs) e)
-
 module _ (s : Station) (xs ys : List ℕ) (sentRoom wordRoom : ℕ) (z : runAnswer s (xs ++ ys) sentRoom wordRoom ≡ 0) where
   few : length xs + length ys ≤ 4_096
   few = rw length-append at (leb-true (length (xs ++ ys)) 4_096 (runs s (xs ++ ys) sentRoom wordRoom z .few))
@@ -56,12 +47,12 @@ module _ (s : Station) (xs ys : List ℕ) (sentRoom wordRoom : ℕ) (z : runAnsw
   first-runs m n p q =
       let r = runs s (xs ++ ys) sentRoom wordRoom z in
       let l = few in
-      run-0 s xs m n (r .in-range) (omega arith) (most-front (highestLevel (modeOfStation s)) xs ys (r .levels)) p q
+      run-0 s xs m n (r .in-range) (omega arith) (at-most-front (highestLevel (modeOfStation s)) xs ys (r .levels)) p q
 
   pub second-runs : length (s .chars) ≡ 256 → (m n : ℕ) → length ys ≤ m → length ys ≤ n → runAnswer (stationAfter s xs) ys m n ≡ 0
   second-runs full m n p q =
       let r = runs s (xs ++ ys) sentRoom wordRoom z in
       let most = highestLevel (modeOfStation s) in
       let l = few in
-      let levels = subst (λ (d : Mode). allAtMost (highestLevel d) ys ≡ true) (sym (mode-after s xs)) (most-behind most xs ys (r .levels)) in
-      run-0 (stationAfter s xs) ys m n (after-in s xs full (r .in-range) (most-front most xs ys (r .levels))) (omega arith) levels p q
+      let levels = subst (λ (d : Mode). allAtMost (highestLevel d) ys ≡ true) (sym (mode-after s xs)) (at-most-behind most xs ys (r .levels)) in
+      run-0 (stationAfter s xs) ys m n (after-in s xs full (r .in-range) (at-most-front most xs ys (r .levels))) (omega arith) levels p q
