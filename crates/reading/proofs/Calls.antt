@@ -36,7 +36,7 @@ use Rattle.reading.specs.Calls.{Call, OfferCall, RunCall, left, succeeds
 use Rattle.reading.proofs.StationLike.{Like, mode-same, count-same, sent-same, event-same, ms-like, offer-like}
 use Rattle.reading.proofs.Cuts.{take-append, heard-append, heard-run, chars-append, chars-run, sent-append, does-append, events-append, events-length}
 
--- ---- the questions
+-- ---- which calls succeed, and what they leave
 
 offer-yes : (s : Station) (text : List ℕ) → offerAnswer s text ≡ 0 → offerOf s text ≡ answered (offeredTo s text) 0
 unfolding offerOf
@@ -85,6 +85,7 @@ refused-left s (OfferCall text) e = ap (λ (a : Answered). a .station) (refused-
 refused-left s (RunCall heard sent words) e =
     ap (λ (a : Ran). a .station) (refused-run s heard (length sent) (length words) (eqb-false (runAnswer s heard (length sent) (length words)) 0 (sym (run-succeeds-by s heard sent words) ∙ e)))
 
+-- one sent ms for each heard; of the first n ms, the first n events
 sent-length : (heard : List ℕ) (s : Station) → length (sentRun s heard) ≡ length heard
 unfolding outputs
 sent-length [] s = refl
@@ -108,6 +109,7 @@ sent-of heard sent words s z = rw (run-succeeds heard sent words s z, z) (take-a
 pub steps-of : (heard sent words : List ℕ) (s : Station) → runAnswer s heard (length sent) (length words) ≡ 0 → stepsFor s (RunCall heard sent words) ≡ map Ms heard
 steps-of heard sent words s z = rw (run-succeeds heard sent words s z) refl
 
+-- a level of any mode is at most 16
 levels-16 : (mode : Mode) → highestLevel mode ≤ 16
 levels-16 Baudot45 = omega arith
 levels-16 Baudot50 = omega arith
@@ -119,6 +121,7 @@ unfolding allAtMost
 most-more m n [] h p = refl
 most-more m n (x ∷ xs) h p = let k = at-most-head m x xs p in rw (le-leb x n (omega arith)) (most-more m n xs h (at-most-tail m x xs p))
 
+-- before the first ms there is no call
 up-zero : (s : Station) (cs : List Call) → upTo s cs 0 ≡ []
 unfolding upTo
 up-zero s [] = refl

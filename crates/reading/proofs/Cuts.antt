@@ -1,4 +1,4 @@
--- Steps that stand one behind the other, and a cut after any of their ms.
+-- Steps that stand one behind the other: what they offer, hear, do and end in; and a cut after any of their ms.
 use mathlib.Core.Path.{_≡_, _∙_, refl, ap}
 use mathlib.Core.List.{List, [], _∷_, _++_, map}
 use Prim.Native.Nat.{ℕ, zero, suc, _+_, _-_, _≤_}
@@ -28,7 +28,7 @@ take-append (suc n) (x ∷ xs) ys =
 pub between-is : {A : Type 0} (first from to : ℕ) (ps ws qs : List A) → length ps ≡ from - first → length ws ≡ to - from → between first from to (ps ++ (ws ++ qs)) ≡ ws
 between-is first from to ps ws qs p w = ap (take (to - from)) (drop-at ps (ws ++ qs) (from - first) p) ∙ take-at ws qs (to - from) w
 
--- ---- what holds of each
+-- ---- what they offer, hear and send
 
 pub heard-append : (xs ys : List Step) → heardIn (xs ++ ys) ≡ heardIn xs ++ heardIn ys
 unfolding heardIn

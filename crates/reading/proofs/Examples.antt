@@ -1,4 +1,4 @@
--- The instances of demand 3, computed over the models.
+-- The instances of demand 3. The models of both are computed; which calls succeed is told by them.
 use mathlib.Core.Path.{_≡_, _∙_, refl, sym, ap, subst}
 use mathlib.Core.Bool.{Bool, true, false, not, _&&_, false≢true}
 use mathlib.Core.List.{List, [], _∷_, _++_, map}

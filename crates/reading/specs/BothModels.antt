@@ -1,4 +1,4 @@
--- Demand 3 over the send models of both stations and B's reader, which is all that a station has besides.
+-- Demand 3 over the send models of both stations and B's reader. (A station is a send model and a reader, in numbers.)
 use mathlib.Core.Path.{_≡_}
 use mathlib.Core.Logic.{_⊎_}
 use mathlib.Core.Bool.{true}

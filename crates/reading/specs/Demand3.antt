@@ -15,7 +15,8 @@ use Rattle.reading.specs.Reading.{synchronizedAfter, mostBefore, NoBurst
 use Rattle.reading.specs.BothModels.{OffersNone}
 use Rattle.reading.specs.Calls.{Call, RunCall, opened, succeeds, leftBy, sentBy, wordsBy, stepsBy, msIn, upTo}
 
--- D3: "every list of offers and runs on station A and every such list on station B". 01: "One clock numbers the ms of both."
+-- D3: "every list of offers and runs on station A and every such list on station B, refused calls among them", "whatever A
+-- hears": any calls. 01: "One clock numbers the ms of both."
 pub record Lists : Type 0 where
   -- D3: "both stations fresh and of one mode". The number that both openings are given; one that is no mode's opens mode 1.
   pub mode : ℕ
@@ -24,10 +25,11 @@ pub record Lists : Type 0 where
   -- 01: "Either may be opened at any ms". The numbers of the first ms of each.
   pub openA : ℕ
   pub openB : ℕ
-  -- The first ms of the idle period, and the ms asked about.
+  -- D3: "the start of the rest", "every later millisecond". The first ms of the idle period, and the ms asked about.
   pub start : ℕ
   pub asked : ℕ
 
+-- D3: "of one mode".
 abbrev pub theMode : Lists → Mode
 theMode d = modeOf (d .mode)
 
@@ -41,18 +43,18 @@ stepsA d = stepsBy (opened (d .mode)) (d .callsA)
 abbrev pub stepsB : Lists → List Step
 stepsB d = stepsBy (opened (d .mode)) (d .callsB)
 
--- What A's model does in each of its ms.
+-- 01: "A run that succeeds goes in ms by ms." What A's model does in each of its ms.
 abbrev pub didsA : Lists → List Did
 didsA d = does (theMode d) freshModel (stepsA d)
 
--- The sent ms that A's calls hand out; the ms that B's successful runs hear.
+-- 01: "A's sent ms", "each heard ms". The sent ms that A's successful runs hand out; the ms that B's hear.
 abbrev pub sentA : Lists → List ℕ
 sentA d = sentBy (opened (d .mode)) (d .callsA)
 
 abbrev pub heardB : Lists → List ℕ
 heardB d = heardIn (stepsB d)
 
--- 01: "the words up to a ms inside a run are those up to a cut after it". The words of B's ms before the ms t of the clock.
+-- 01: "the words up to a ms inside a run are those up to a cut after it". The words of B before the ms t of the clock.
 abbrev pub wordsBefore : Lists → ℕ → List ℕ
 wordsBefore d t = wordsBy (opened (d .mode)) (upTo (opened (d .mode)) (d .callsB) (t - d .openB))
 
@@ -60,9 +62,10 @@ wordsBefore d t = wordsBy (opened (d .mode)) (upTo (opened (d .mode)) (d .callsB
 abbrev pub between : {X : Type 0} → ℕ → ℕ → ℕ → List X → List X
 between first from to xs = take (to - from) (drop (from - first) xs)
 
--- D3: "The premises".
+-- D3: "The premises". 01: "Waiting, bursts and codes in demand 3 are the book's". No line says what B heard before the 40 ms, D3:
+-- "however the line spoiled all that B heard".
 pub record Premises (d : Lists) : Type 0 where
-  -- 01: "A rest is 300 ms in a row in which a station is in no burst."
+  -- D3: "a rest of 300 ms on A's sending". 01: "300 ms in a row in which a station is in no burst".
   pub opened-A : d .openA ≤ d .start
   pub idle-A : NoBurst (between (d .openA) (d .start) (d .start + 300) (didsA d))
   -- D3: "every later millisecond that both have run"
@@ -89,11 +92,12 @@ pub record Premises (d : Lists) : Type 0 where
   -- D3: "from those 40 ms on B hears exactly what A sends". 01: "up to the one asked about".
   pub hears : between (d .openB) (d .start + 260) (d .asked + 1) (heardB d) ≡ between (d .openA) (d .start + 260) (d .asked + 1) (sentA d)
 
--- What A's model does after the idle period, up to the ms asked about.
+-- 01: "what A takes after the rest". What A's model does from there up to the ms asked about.
 abbrev pub followsA : Lists → List Did
 followsA d = between (d .openA) (d .start + 300) (d .asked + 1) (didsA d)
 
--- How many of these ms there are up to the synchronizing code's last. 01: "or so far while no settling code has ended".
+-- 01: "What comes after it comes after its last ms." How many of these ms there are up to the synchronizing code's last, "or so
+-- far while no settling code has ended".
 abbrev pub synchronized : Lists → ℕ
 synchronized d = synchronizedAfter (theMode d) (followsA d)
 
@@ -101,8 +105,9 @@ synchronized d = synchronizedAfter (theMode d) (followsA d)
 abbrev pub wordsDue : Lists → List ℕ
 wordsDue d = map characterWord (normalForm (theAlphabet d) (takenIn (drop (synchronized d) (followsA d))))
 
+-- D3: "Then".
 pub record Conclusion (d : Lists) : Type 0 where
-  -- D3: "At most 72 characters in Baudot, one in DTMF and none in EDT"; in a burst, too.
+  -- D3: "At most 72 characters in Baudot, one in DTMF and none in EDT precede that point"; in a burst, too.
   pub before : length (takenIn (take (synchronized d) (followsA d))) ≤ mostBefore (theAlphabet d)
   -- D3: "at which A is in no burst, the words B has handed out after the settling code are exactly" these.
   pub text : EndsIdle (followsA d) → wordsBefore d (d .asked + 1) ≡ wordsBefore d (d .start + 300 + synchronized d) ++ wordsDue d
