@@ -31,7 +31,7 @@ use Rattle.reading.proofs.Core.{reads-after-idle}
 use Rattle.reading.proofs.Inhibited.{ms-less, inhibited-most, inhibited-less}
 
 -- B's reader stays in range
-pub station-in : (mode : Mode) (steps : List Step) (m : Model) (r : Reader) → allAtMost 16 (heardIn steps) ≡ true → ReaderIn mode r → ReaderIn mode (stationReader mode m r steps)
+station-in : (mode : Mode) (steps : List Step) (m : Model) (r : Reader) → allAtMost 16 (heardIn steps) ≡ true → ReaderIn mode r → ReaderIn mode (stationReader mode m r steps)
 unfolding stationReader heardIn
 station-in mode [] m r l h = h
 station-in mode (Offer cs ∷ steps) m r l h = station-in mode steps (offered mode cs m) (readerOffered (alphabetOf mode) cs r) l (reader-offered-in mode (alphabetOf mode) cs r h)

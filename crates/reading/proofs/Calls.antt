@@ -226,7 +226,7 @@ module _ (mode : Mode) where
           refused (RunCall heard sent words) s m r (run-succeeds-by s heard sent words ∙ e) h
 
   -- which calls succeed is told by the model
-  pub accepts-is : (c : Call) (s : Station) (m : Model) (r : Reader) → Like mode s m r → succeeds s c ≡ accepts mode m c
+  accepts-is : (c : Call) (s : Station) (m : Model) (r : Reader) → Like mode s m r → succeeds s c ≡ accepts mode m c
   unfolding accepts offerAnswer runAnswer room
   accepts-is (OfferCall text) s m r h =
       let e : room (alphabetOfStation s) (queueOf s) text ≡ leb (length (m .waiting) + length (waiters (alphabetOf mode) text)) 256 =

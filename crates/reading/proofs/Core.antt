@@ -56,7 +56,7 @@ module _ (mode : Mode) where
   ends-tail d [] h = tt
   ends-tail d (e ∷ ds) h = h
 
-  pub idle-after : (steps : List Step) (m : Model) → (does mode m steps ≡ [] → m .onLine ≡ Idle) → EndsIdle (does mode m steps) → modelAfter mode m steps .onLine ≡ Idle
+  idle-after : (steps : List Step) (m : Model) → (does mode m steps ≡ [] → m .onLine ≡ Idle) → EndsIdle (does mode m steps) → modelAfter mode m steps .onLine ≡ Idle
   unfolding modelAfter does offered EndsIdle
   idle-after [] m i h = i refl
   idle-after (Offer cs ∷ steps) m i h = idle-after steps (offered mode cs m) i h
@@ -148,7 +148,7 @@ module _ (mode : Mode) (L : LawsOf mode) where
     before-by true e = omega arith
     before-by false e = bound mode L e next m (mostBefore (alphabetOf mode)) t f (rw idle (L .room-most (m .sender)))
 
-    pub reads : Reads mode ds (events mode r (sentIn ds))
+    reads : Reads mode ds (events mode r (sentIn ds))
     reads =
         let w = text-by (atOnce (alphabetOf mode)) refl in
         record {

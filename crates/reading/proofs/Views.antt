@@ -52,13 +52,13 @@ pub data Closes : OnLine → OnLine → Type 0 where
   ends : {part : Part} → Closes (Sending part []) Idle
   keeps : {on : OnLine} → Closes on on
 
-pub begun-view : (mode : Mode) (may : Bool) (on : OnLine) → Opens mode on (begun mode may on)
+begun-view : (mode : Mode) (may : Bool) (on : OnLine) → Opens mode on (begun mode may on)
 unfolding begun
 begun-view mode true Idle = opens
 begun-view mode false Idle = goes-on
 begun-view mode may (Sending part ms) = goes-on
 
-pub code-view : (mode : Mode) (part : Part) (c : ℕ) (cs : List ℕ) (s : Sender) (w : Waits (alphabetOf mode) c) → Begins mode (c ∷ cs) (Sending part []) s (codeBegins mode c cs s (sends (alphabetOf mode) c))
+code-view : (mode : Mode) (part : Part) (c : ℕ) (cs : List ℕ) (s : Sender) (w : Waits (alphabetOf mode) c) → Begins mode (c ∷ cs) (Sending part []) s (codeBegins mode c cs s (sends (alphabetOf mode) c))
 unfolding codeBegins
 code-view mode part c cs s w = subst (λ (x : Sends). Begins mode (c ∷ cs) (Sending part []) s (codeBegins mode c cs s x)) (sym (w .sent)) (go (eqb (shiftWanted (alphabetOf mode) s (w .own)) 0) refl)
   where
@@ -67,7 +67,7 @@ code-view mode part c cs s w = subst (λ (x : Sends). Begins mode (c ∷ cs) (Se
     go true e = owns part c cs s w e
     go false e = shifts part c cs s w e
 
-pub next-view : (mode : Mode) (waiting : List ℕ) (on : OnLine) (s : Sender) → AllWait mode waiting → Begins mode waiting on s (nextCode mode waiting on s)
+next-view : (mode : Mode) (waiting : List ℕ) (on : OnLine) (s : Sender) → AllWait mode waiting → Begins mode waiting on s (nextCode mode waiting on s)
 unfolding nextCode
 next-view mode waiting Idle s h = stays
 next-view mode waiting (Sending part (x ∷ ms)) s h = stays
