@@ -107,7 +107,7 @@ unfolding sentAfter
 sent-of heard sent words s z = rw (run-succeeds heard sent words s z, z) (take-at (sentRun s heard) (drop (length (sentRun s heard)) sent) (length heard) (sent-length heard s))
 
 pub steps-of : (heard sent words : List ℕ) (s : Station) → runAnswer s heard (length sent) (length words) ≡ 0 → stepsFor s (RunCall heard sent words) ≡ map Ms heard
-steps-of heard sent words s z = rw (run-succeeds heard sent words s z) refl
+steps-of heard sent words s z = ap (λ (b : Bool). cond b (map Ms heard) []) (run-succeeds heard sent words s z)
 
 -- a level of any mode is at most 16
 levels-16 : (mode : Mode) → highestLevel mode ≤ 16
