@@ -1,0 +1,608 @@
+/*
+ * A bench tool: what a station sends for a text, what it reads from a line, and a picture of either.
+ *
+ *     make lib
+ *     gcc -std=c99 -Iinclude examples/line.c target/staticlib/libcuyrapaq.a -o target/line
+ *     printf 'HELLO 73' | target/line send baudot45            the sent ms as run lengths, LEVEL MS in each line
+ *     printf '11 70\n0 50\n2 70\n' | target/line read dtmf     the words, each with its ms; then the text
+ *     printf 'E' | target/line svg baudot45 >e.svg             the burst as a picture
+ *     target/line svg edt 41 >code.svg                         one code as a picture
+ */
+#include "cuyrapaq.h"
+
+#include <ctype.h>
+#include <errno.h>
+#include <stdarg.h>
+#include <stdio.h>
+#include <stdlib.h>
+#include <string.h>
+
+#define LONGEST 1000         /* characters of a text */
+#define MOST_SENT 500000     /* ms of a burst: above 1,000 characters of 480 ms in DTMF, of 330 in Baudot */
+#define MOST_PIECES 2002     /* preamble, and two codes for each character */
+#define MOST_RUN 1000000     /* ms of one line of input */
+#define MOST_HEARD 10000000  /* ms of the whole input */
+#define MOST_DRAWN 20000     /* ms of a picture */
+
+struct mode {
+    const char *word; /* the argument */
+    uint8_t number;
+    const char *name;
+    const char *levels;
+    int scale; /* units of a picture for each ms of a burst */
+};
+
+static const struct mode modes[] = {
+    {"baudot45", CQ_MODE_BAUDOT_45, "Baudot at 45.45 bit/s", "0 quiet, 1 mark, 2 space", 2},
+    {"baudot50", CQ_MODE_BAUDOT_50, "Baudot at 50 bit/s", "0 quiet, 1 mark, 2 space", 2},
+    {"dtmf", CQ_MODE_DTMF, "DTMF", "0 quiet, 1 to 9 these keys, 10 key 0, 11 *, 12 #, 13 to 16 A to D", 1},
+    {"edt", CQ_MODE_EDT, "EDT", "0 quiet, 1 mark, 2 space", 3},
+};
+#define MODES (sizeof modes / sizeof modes[0])
+
+static const char usage[] = "usage: line send MODE <text         the ms that a station sends, LEVEL MS in each line\n"
+                            "       line read MODE <runs         the words read from such lines, and the text\n"
+                            "       line svg MODE <text          a picture of the burst\n"
+                            "       line svg MODE CODE           a picture of one code: 00001, **4 or 41 (EDT: hex)\n"
+                            "MODE is baudot45, baudot50, dtmf or edt\n";
+
+/* Says what is wrong and ends. */
+static void stop(const char *format, ...)
+{
+    va_list arguments;
+    fputs("line: ", stderr);
+    va_start(arguments, format);
+    vfprintf(stderr, format, arguments);
+    va_end(arguments);
+    fputc('\n', stderr);
+    exit(2);
+}
+
+static void ran_well(uint8_t answer)
+{
+    if (answer != CQ_OK) {
+        stop("the station refused with %u: see the refusals in cuyrapaq.h", (unsigned)answer);
+    }
+}
+
+/* Runs a station for one ms; gives back the level sent, and the number of words (0 or 1). */
+static uint8_t run_ms(cq_station *station, uint8_t heard, uint32_t *word, size_t *words)
+{
+    uint8_t sent;
+    cq_station_ran ran = cq_station_run(station, &heard, 1, &sent, 1, word, 1);
+    ran_well(ran.answer);
+    *words = ran.words;
+    return sent;
+}
+
+/* The preamble or a code: its ms in the burst, and the character that was taken with it, -1 if none. */
+struct piece {
+    size_t from, to;
+    uint8_t part; /* as in cq_on_line */
+    uint8_t code;
+    int character;
+};
+
+struct burst {
+    size_t ms, pieces;
+    uint8_t levels[MOST_SENT];
+    struct piece piece[MOST_PIECES];
+};
+
+/* Sends one ms and notes it. The station's `line` says which part of the burst it belongs to. */
+static void send_ms(cq_station *station, struct burst *burst)
+{
+    size_t words;
+    uint32_t word;
+    uint16_t waiting = station->core.waiting;
+    uint8_t front = station->chars[0];
+    uint8_t level = run_ms(station, CQ_LEVEL_QUIET, &word, &words);
+    if (station->core.line.at == 1 && station->core.line.part != 0) {
+        struct piece *piece = &burst->piece[burst->pieces++];
+        piece->from = burst->ms;
+        piece->part = station->core.line.part;
+        piece->code = station->core.line.code;
+        piece->character = station->core.waiting < waiting ? front : -1;
+    }
+    burst->levels[burst->ms++] = level;
+    burst->piece[burst->pieces - 1].to = burst->ms;
+}
+
+/* The burst of a text. Characters are offered as soon as there is space for them, so there is one burst. */
+static void send_text(const struct mode *mode, const uint8_t *text, size_t length, struct burst *burst)
+{
+    cq_opened opened = cq_station_open(mode->number);
+    cq_station *station = &opened.station;
+    size_t offered = 0;
+    ran_well(opened.answer);
+    burst->ms = burst->pieces = 0;
+    do {
+        while (offered < length && cq_station_offer(station, text + offered, 1) == CQ_OK) {
+            offered++;
+        }
+        if (station->core.waiting > 0 || station->core.line.part != 0) {
+            send_ms(station, burst);
+        }
+    } while (station->core.waiting > 0 || station->core.line.part != 0);
+}
+
+/* Standard input as text; gives back its length. */
+static size_t read_text(uint8_t text[LONGEST + 1])
+{
+    size_t i, length = fread(text, 1, LONGEST + 1, stdin);
+    if (length > LONGEST) {
+        stop("the text is longer than %d characters", LONGEST);
+    }
+    for (i = 0; i < length; i++) {
+        if (text[i] > 127) {
+            stop("byte %lu of the text is %02X; only characters of seven bits (00 to 7F) can be sent",
+                 (unsigned long)i + 1, (unsigned)text[i]);
+        }
+    }
+    return length;
+}
+
+/* The end of the run of equal levels that begins at a ms. */
+static size_t run_end(const uint8_t *levels, size_t from, size_t end)
+{
+    size_t to = from;
+    while (to < end && levels[to] == levels[from]) {
+        to++;
+    }
+    return to;
+}
+
+static void do_send(const struct burst *burst)
+{
+    size_t from, to;
+    for (from = 0; from < burst->ms; from = to) {
+        to = run_end(burst->levels, from, burst->ms);
+        printf("%u %lu\n", (unsigned)burst->levels[from], (unsigned long)(to - from));
+    }
+}
+
+/* A number of digits alone at `*at`; moves behind it. */
+static int number(const char **at, unsigned long *value)
+{
+    char *end;
+    while (**at == ' ' || **at == '\t') {
+        (*at)++;
+    }
+    if (!isdigit((unsigned char)**at)) {
+        return 0;
+    }
+    errno = 0;
+    *value = strtoul(*at, &end, 10);
+    *at = end;
+    return errno == 0;
+}
+
+/* Takes LEVEL and MS from a line; 0 if it is empty or a comment. */
+static int run_length(const struct mode *mode, char *line, unsigned long at, unsigned long *level, unsigned long *ms)
+{
+    const char *rest = line;
+    line[strcspn(line, "\r\n")] = '\0';
+    rest += strspn(rest, " \t");
+    if (*rest == '\0' || *rest == '#') {
+        return 0;
+    }
+    if (!number(&rest, level) || !number(&rest, ms) || rest[strspn(rest, " \t")] != '\0') {
+        stop("line %lu: \"%s\" is not LEVEL MS, two numbers such as 1 150", at, line);
+    }
+    if (*level > (unsigned long)CQ_LEVEL_MAX(mode->number)) {
+        stop("line %lu: level %lu is none of %s: %s", at, *level, mode->word, mode->levels);
+    }
+    if (*ms == 0 || *ms > MOST_RUN) {
+        stop("line %lu: %lu ms: a run has 1 to %d ms", at, *ms, MOST_RUN);
+    }
+    return 1;
+}
+
+/* The sign of a character, or its number if it has none. */
+static const char *sign(uint8_t character)
+{
+    static char signs[8];
+    sprintf(signs, character >= 0x20 && character < 0x7F ? "%c" : "<%02X>", (unsigned)character);
+    return signs;
+}
+
+/* What was read, for the last lines of output. */
+struct read {
+    unsigned long ms, faults;
+    size_t length;
+    char *text;
+};
+
+static void keep_word(struct read *read, uint32_t word)
+{
+    if (CQ_WORD_KIND(word) != CQ_WORD_CHARACTER) {
+        printf("%lu fault\n", read->ms);
+        read->faults++;
+        return;
+    }
+    printf("%lu %02X %s\n", read->ms, (unsigned)CQ_WORD_CHAR(word), sign(CQ_WORD_CHAR(word)));
+    read->text = realloc(read->text, read->length + 1);
+    if (read->text == NULL) {
+        stop("there is no memory for the text");
+    }
+    read->text[read->length++] = (char)CQ_WORD_CHAR(word);
+}
+
+static void hear_run(cq_station *station, uint8_t level, unsigned long ms, struct read *read)
+{
+    size_t words;
+    uint32_t word;
+    if (ms > MOST_HEARD - read->ms) {
+        stop("the input is longer than %d ms", MOST_HEARD);
+    }
+    for (; ms > 0; ms--) {
+        run_ms(station, level, &word, &words);
+        if (words > 0) {
+            keep_word(read, word);
+        }
+        read->ms++;
+    }
+}
+
+static void do_read(const struct mode *mode)
+{
+    char line[200];
+    unsigned long at, level, ms;
+    size_t i;
+    struct read read = {0, 0, 0, NULL};
+    cq_opened opened = cq_station_open(mode->number);
+    ran_well(opened.answer);
+    for (at = 1; fgets(line, sizeof line, stdin) != NULL; at++) {
+        if (strlen(line) == sizeof line - 1) {
+            stop("line %lu is longer than %d characters", at, (int)sizeof line - 2);
+        }
+        if (run_length(mode, line, at, &level, &ms)) {
+            hear_run(&opened.station, (uint8_t)level, ms, &read);
+        }
+    }
+    printf("faults: %lu\ntext: ", read.faults);
+    for (i = 0; i < read.length; i++) {
+        fputs(sign((uint8_t)read.text[i]), stdout);
+    }
+    putchar('\n');
+    free(read.text);
+}
+
+/*
+ * The picture. Left of it the names of the levels; above it each code, and the character it stands for; below it
+ * the elements; then the axis.
+ */
+#define LEFT 70
+#define RIGHT 30
+#define CODE_Y 52
+#define CHARACTER_Y 68
+#define HIGH_Y 90    /* mark, or a key */
+#define MIDDLE_Y 120 /* quiet, between mark and space */
+#define LOW_Y 150    /* space; in DTMF quiet */
+#define ELEMENT_Y 168
+#define AXIS_Y 180
+#define HEIGHT 230
+
+struct picture {
+    const struct mode *mode;
+    const struct burst *burst;
+    int scale;
+};
+
+static long x_of(const struct picture *p, size_t ms)
+{
+    return LEFT + (long)ms * p->scale;
+}
+
+static int y_of(const struct picture *p, uint8_t level)
+{
+    if (p->mode->number == CQ_MODE_DTMF) {
+        return level == CQ_LEVEL_QUIET ? LOW_Y : HIGH_Y;
+    }
+    return level == CQ_LEVEL_MARK ? HIGH_Y : level == CQ_LEVEL_SPACE ? LOW_Y : MIDDLE_Y;
+}
+
+/* Text with its middle at x; `class` chooses size and colour. */
+static void draw_text(long x, int y, const char *class, const char *text)
+{
+    printf("<text x=\"%ld\" y=\"%d\" class=\"%s\">", x, y, class);
+    for (; *text != '\0'; text++) {
+        if (*text == '&' || *text == '<' || *text == '>') {
+            printf("&#%d;", *text);
+        } else {
+            putchar(*text);
+        }
+    }
+    puts("</text>");
+}
+
+static void draw_upright(long x, int from, int to, const char *class)
+{
+    printf("<path d=\"M%ld %dV%d\" class=\"%s\"/>\n", x, from, to, class);
+}
+
+static void draw_level(const struct picture *p, int y, const char *name)
+{
+    printf("<path d=\"M%d %dH%ld\" class=\"guide\"/>\n", LEFT, y, x_of(p, p->burst->ms));
+    printf("<text x=\"%d\" y=\"%d\" class=\"level\">%s</text>\n", LEFT - 8, y + 4, name);
+}
+
+static void draw_levels(const struct picture *p)
+{
+    if (p->mode->number == CQ_MODE_DTMF) {
+        draw_level(p, HIGH_Y, "key");
+        draw_level(p, LOW_Y, "quiet");
+    } else {
+        draw_level(p, HIGH_Y, "1 mark");
+        draw_level(p, MIDDLE_Y, "0 quiet");
+        draw_level(p, LOW_Y, "2 space");
+    }
+}
+
+/* Ticks every 10 ms, the longer ones with their ms, and the length of the burst at its end. */
+static void draw_axis(const struct picture *p)
+{
+    size_t ms, end = p->burst->ms, step = p->scale > 3 ? 10 : p->scale > 1 ? 50 : 100;
+    char text[32];
+    printf("<path d=\"M%d %dH%ld\" class=\"axis\"/>\n", LEFT, AXIS_Y, x_of(p, end));
+    for (ms = 0; ms <= end; ms += 10) {
+        draw_upright(x_of(p, ms), AXIS_Y, AXIS_Y + (ms % step == 0 ? 8 : 4), "axis");
+        if (ms % step == 0) {
+            sprintf(text, "%lu", (unsigned long)ms);
+            draw_text(x_of(p, ms), AXIS_Y + 20, "small", text);
+        }
+    }
+    draw_upright(x_of(p, end), AXIS_Y, AXIS_Y + 8, "axis");
+    sprintf(text, "%lu ms", (unsigned long)end);
+    draw_text(x_of(p, end), AXIS_Y + 38, "small", text);
+}
+
+/* The signal itself, as steps. */
+static void draw_signal(const struct picture *p)
+{
+    const struct burst *burst = p->burst;
+    size_t from, to;
+    printf("<path d=\"M%d %d", LEFT, y_of(p, burst->levels[0]));
+    for (from = 0; from < burst->ms; from = to) {
+        to = run_end(burst->levels, from, burst->ms);
+        printf("V%dH%ld", y_of(p, burst->levels[from]), x_of(p, to));
+    }
+    puts("\" class=\"signal\"/>");
+}
+
+static char key_sign(uint8_t level)
+{
+    return "1234567890*#ABCD"[level - 1];
+}
+
+/* A code as it is written: five digits, keys, or two hexadecimal digits. */
+static void write_code(const struct picture *p, const struct piece *piece, char text[8])
+{
+    size_t from, to;
+    int bit, n = 0;
+    if (p->mode->number == CQ_MODE_EDT) {
+        sprintf(text, "%02X", (unsigned)piece->code);
+        return;
+    }
+    if (p->mode->number == CQ_MODE_DTMF) {
+        for (from = piece->from; from < piece->to; from = to) {
+            to = run_end(p->burst->levels, from, piece->to);
+            if (p->burst->levels[from] != CQ_LEVEL_QUIET) {
+                text[n++] = key_sign(p->burst->levels[from]);
+            }
+        }
+    } else {
+        for (bit = 4; bit >= 0; bit--) {
+            text[n++] = piece->code >> bit & 1 ? '1' : '0';
+        }
+    }
+    text[n] = '\0';
+}
+
+/* What stands under a code: its character, with a name for SPACE, or the shift that it selects. */
+static const char *meaning(const struct piece *piece)
+{
+    if (piece->character >= 0) {
+        return piece->character == ' ' ? "SPACE" : sign((uint8_t)piece->character);
+    }
+    return piece->code == 31 ? "letters" : "figures";
+}
+
+/* The first ms of an element of a frame, and how many elements it has. */
+static size_t element_start(uint8_t mode, size_t element)
+{
+    return mode == CQ_MODE_BAUDOT_45 ? 22 * element : mode == CQ_MODE_BAUDOT_50 ? 20 * element : (100 * element + 10) / 11;
+}
+
+static size_t elements(uint8_t mode)
+{
+    return mode == CQ_MODE_EDT ? 11 : 7;
+}
+
+static const char *element_name(uint8_t mode, size_t element, uint8_t level)
+{
+    if (element == 0) {
+        return "start";
+    }
+    if (element >= (mode == CQ_MODE_EDT ? 9u : 6u)) {
+        return "stop";
+    }
+    if (mode == CQ_MODE_EDT && element == 8) {
+        return level == CQ_LEVEL_MARK ? "p 1" : "p 0";
+    }
+    return level == CQ_LEVEL_MARK ? "1" : "0";
+}
+
+static void draw_elements(const struct picture *p, const struct piece *piece)
+{
+    uint8_t mode = p->mode->number;
+    size_t j, count = elements(mode);
+    for (j = 0; j < count; j++) {
+        size_t from = piece->from + element_start(mode, j);
+        size_t to = j + 1 < count ? piece->from + element_start(mode, j + 1) : piece->to;
+        if (j > 0) {
+            draw_upright(x_of(p, from), HIGH_Y - 6, AXIS_Y, "element");
+        }
+        draw_text((x_of(p, from) + x_of(p, to)) / 2, ELEMENT_Y, "small", element_name(mode, j, p->burst->levels[from]));
+    }
+}
+
+static void draw_keys(const struct picture *p, const struct piece *piece)
+{
+    size_t from, to;
+    char text[2] = "";
+    for (from = piece->from; from < piece->to; from = to) {
+        to = run_end(p->burst->levels, from, piece->to);
+        if (p->burst->levels[from] != CQ_LEVEL_QUIET) {
+            text[0] = key_sign(p->burst->levels[from]);
+            draw_upright(x_of(p, from), HIGH_Y, AXIS_Y, "element");
+            draw_upright(x_of(p, to), HIGH_Y, AXIS_Y, "element");
+            draw_text((x_of(p, from) + x_of(p, to)) / 2, MIDDLE_Y + 5, "code", text);
+        }
+    }
+}
+
+static void draw_piece(const struct picture *p, const struct piece *piece)
+{
+    long middle = (x_of(p, piece->from) + x_of(p, piece->to)) / 2;
+    char code[8];
+    draw_upright(x_of(p, piece->from), CODE_Y - 10, AXIS_Y, "piece");
+    if (piece->part == 1) {
+        draw_text(middle, CODE_Y, "code", "preamble");
+        return;
+    }
+    write_code(p, piece, code);
+    draw_text(middle, CODE_Y, "code", code);
+    draw_text(middle, CHARACTER_Y, "character", meaning(piece));
+    if (p->mode->number == CQ_MODE_DTMF) {
+        draw_keys(p, piece);
+    } else {
+        draw_elements(p, piece);
+    }
+}
+
+static void draw_head(const struct picture *p)
+{
+    long width = x_of(p, p->burst->ms) + RIGHT;
+    printf("<svg xmlns=\"http://www.w3.org/2000/svg\" width=\"%ld\" height=\"%d\" viewBox=\"0 0 %ld %d\">\n", width,
+           HEIGHT, width, HEIGHT);
+    puts("<style>\n"
+         "text{font-family:sans-serif;font-size:12px;text-anchor:middle;fill:#222}\n"
+         "text.title,text.level{text-anchor:start}text.level{text-anchor:end}text.title{font-size:14px}\n"
+         "text.code{font-family:monospace;font-weight:bold}text.character{fill:#06c}text.small{font-size:9px}\n"
+         "path{fill:none;stroke:#222;stroke-width:1}path.guide{stroke:#ddd}path.signal{stroke-width:2}\n"
+         "path.piece{stroke:#06c}path.element{stroke:#aaa;stroke-dasharray:2 2}\n"
+         "</style>");
+    printf("<rect width=\"%ld\" height=\"%d\" fill=\"#fff\"/>\n", width, HEIGHT);
+    printf("<text x=\"%d\" y=\"24\" class=\"title\">%s</text>\n", LEFT, p->mode->name);
+}
+
+static void draw(const struct mode *mode, const struct burst *burst, int scale)
+{
+    struct picture p;
+    size_t i;
+    p.mode = mode;
+    p.burst = burst;
+    p.scale = scale;
+    if (burst->ms == 0) {
+        stop("nothing is sent for this text, so there is nothing to draw");
+    }
+    if (burst->ms > MOST_DRAWN) {
+        stop("the burst has %lu ms; at most %d are drawn", (unsigned long)burst->ms, MOST_DRAWN);
+    }
+    draw_head(&p);
+    draw_levels(&p);
+    for (i = 0; i < burst->pieces; i++) {
+        draw_piece(&p, &burst->piece[i]);
+    }
+    draw_signal(&p);
+    draw_axis(&p);
+    puts("</svg>");
+}
+
+static int same_code(const char *one, const char *other)
+{
+    while (*one != '\0' && toupper((unsigned char)*one) == *other) {
+        one++;
+        other++;
+    }
+    return *one == '\0' && *other == '\0';
+}
+
+/* Leaves of a burst the piece alone. */
+static void cut_out(struct burst *burst, size_t which)
+{
+    struct piece piece = burst->piece[which];
+    burst->ms = piece.to - piece.from;
+    memmove(burst->levels, burst->levels + piece.from, burst->ms);
+    piece.from = 0;
+    piece.to = burst->ms;
+    burst->piece[0] = piece;
+    burst->pieces = 1;
+}
+
+/* Looks for a code among those that a station sends for each character by itself. */
+static void send_code(const struct mode *mode, const char *code, struct burst *burst)
+{
+    struct picture p;
+    unsigned c;
+    size_t i;
+    p.mode = mode;
+    p.burst = burst;
+    for (c = 0; c < 128; c++) {
+        uint8_t character = (uint8_t)c;
+        char written[8];
+        send_text(mode, &character, 1, burst);
+        for (i = 0; i < burst->pieces; i++) {
+            write_code(&p, &burst->piece[i], written);
+            if (burst->piece[i].part == 2 && same_code(code, written)) {
+                cut_out(burst, i);
+                return;
+            }
+        }
+    }
+    stop("no character is sent as the code \"%s\" in %s; write 00001 in Baudot, **4 in DTMF, 41 in EDT", code,
+         mode->word);
+}
+
+static const struct mode *mode_of(const char *word)
+{
+    size_t i;
+    for (i = 0; i < MODES; i++) {
+        if (strcmp(word, modes[i].word) == 0) {
+            return &modes[i];
+        }
+    }
+    stop("unknown mode \"%s\": it is baudot45, baudot50, dtmf or edt", word);
+    return NULL;
+}
+
+int main(int argc, char **argv)
+{
+    static struct burst burst;
+    static uint8_t text[LONGEST + 1];
+    const char *verb = argc > 1 ? argv[1] : "";
+    int svg = strcmp(verb, "svg") == 0, send = strcmp(verb, "send") == 0, read = strcmp(verb, "read") == 0;
+    const struct mode *mode;
+    if (!(svg || send || read) || argc < 3 || argc > (svg ? 4 : 3)) {
+        fputs(usage, stderr);
+        return 2;
+    }
+    mode = mode_of(argv[2]);
+    if (read) {
+        do_read(mode);
+        return 0;
+    }
+    if (argc == 4) {
+        send_code(mode, argv[3], &burst);
+        draw(mode, &burst, 3 * mode->scale);
+        return 0;
+    }
+    send_text(mode, text, read_text(text), &burst);
+    if (send) {
+        do_send(&burst);
+    } else {
+        draw(mode, &burst, mode->scale);
+    }
+    return 0;
+}
