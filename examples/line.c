@@ -253,7 +253,7 @@ static void do_read(const struct mode *mode)
     cq_opened opened = cq_station_open(mode->number);
     ran_well(opened.answer);
     for (at = 1; fgets(line, sizeof line, stdin) != NULL; at++) {
-        if (strlen(line) == sizeof line - 1) {
+        if (strlen(line) == sizeof line - 1 && line[sizeof line - 2] != '\n') {
             stop("line %lu is longer than %d characters", at, (int)sizeof line - 2);
         }
         if (run_length(mode, line, at, &level, &ms)) {
@@ -488,7 +488,7 @@ static void draw_head(const struct picture *p)
            HEIGHT, width, HEIGHT);
     puts("<style>\n"
          "text{font-family:sans-serif;font-size:12px;text-anchor:middle;fill:#222}\n"
-         "text.title,text.level{text-anchor:start}text.level{text-anchor:end}text.title{font-size:14px}\n"
+         "text.title{text-anchor:start;font-size:14px}text.level{text-anchor:end}\n"
          "text.code{font-family:monospace;font-weight:bold}text.character{fill:#06c}text.small{font-size:9px}\n"
          "path{fill:none;stroke:#222;stroke-width:1}path.guide{stroke:#ddd}path.signal{stroke-width:2}\n"
          "path.piece{stroke:#06c}path.element{stroke:#aaa;stroke-dasharray:2 2}\n"

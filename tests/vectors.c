@@ -1,0 +1,373 @@
+/*
+ * Goes through test vectors (vectors/README.md) by the entries: what a station sends for each text, what a
+ * station reads from each line and in which ms, in runs of several lengths; in Baudot the bare conversions too.
+ *
+ *     vectors FILE...
+ */
+#include "cuyrapaq.h"
+
+#include <stdio.h>
+#include <stdlib.h>
+#include <string.h>
+
+#define MOST_MS 40000
+#define MOST_ITEMS 1000 /* codes, words, characters or offers of a case */
+#define FAULT 0x10000000u
+
+struct offer {
+    unsigned long ms;
+    uint8_t character;
+};
+
+struct word {
+    unsigned long ms;
+    uint32_t word;
+};
+
+/* One case as it stands in the file. */
+struct vector {
+    int sends; /* `send`, and not `hear` */
+    char name[120];
+    size_t offers, codes, ms, words;
+    struct offer offer[MOST_ITEMS];
+    char code[MOST_ITEMS][8];
+    uint8_t level[MOST_MS];
+    struct word word[MOST_ITEMS];
+};
+
+static const char *file;
+static unsigned long line_number, cases, failures;
+static uint8_t mode;
+static struct vector vector;
+
+static void bad_line(const char *why)
+{
+    fprintf(stderr, "vectors: %s, line %lu: %s\n", file, line_number, why);
+    exit(2);
+}
+
+static void check(int holds, const char *what, unsigned long number)
+{
+    if (!holds) {
+        failures++;
+        printf("vectors: %s, %s: %s (%lu)\n", file, vector.name, what, number);
+    }
+}
+
+/* Sending. */
+
+/* The ms of the next offer behind `ms`, or the end of the line. */
+static size_t next_offer(size_t ms)
+{
+    size_t i;
+    for (i = 0; i < vector.offers; i++) {
+        if (vector.offer[i].ms > ms) {
+            return vector.offer[i].ms;
+        }
+    }
+    return vector.ms;
+}
+
+static void offer_all(cq_station *station, size_t ms)
+{
+    size_t i;
+    for (i = 0; i < vector.offers; i++) {
+        if (vector.offer[i].ms == ms) {
+            check(cq_station_offer(station, &vector.offer[i].character, 1) == CQ_OK, "an offer", i);
+        }
+    }
+}
+
+static size_t least(size_t one, size_t other)
+{
+    return one < other ? one : other;
+}
+
+/* A fresh station sends the line, in runs of at most `cut` ms. */
+static void sends(size_t cut)
+{
+    static const uint8_t quiet[CQ_STATION_MS_MAX];
+    static uint8_t sent[CQ_STATION_MS_MAX];
+    static uint32_t words[CQ_STATION_MS_MAX];
+    cq_station station = cq_station_open(mode).station;
+    size_t ms, length;
+    for (ms = 0; ms < vector.ms; ms += length) {
+        cq_station_ran ran;
+        offer_all(&station, ms);
+        length = least(least(cut, next_offer(ms) - ms), vector.ms - ms);
+        ran = cq_station_run(&station, quiet, length, sent, length, words, length);
+        check(ran.answer == CQ_OK && ran.words == 0, "a run that sends", ms);
+        check(memcmp(sent, vector.level + ms, length) == 0, "sent ms", ms);
+    }
+    check(station.core.waiting == 0, "all is sent", cut);
+}
+
+/* Reading. */
+
+/* A fresh station reads the words from the line, in runs of at most `cut` ms, each word in the run of its ms. */
+static void reads(size_t cut)
+{
+    static uint8_t sent[CQ_STATION_MS_MAX];
+    static uint32_t words[CQ_STATION_MS_MAX];
+    cq_station station = cq_station_open(mode).station;
+    size_t i, ms, length, at = 0;
+    for (ms = 0; ms < vector.ms; ms += length) {
+        cq_station_ran ran;
+        length = least(cut, vector.ms - ms);
+        ran = cq_station_run(&station, vector.level + ms, length, sent, length, words, length);
+        check(ran.answer == CQ_OK, "a run that reads", ms);
+        for (i = 0; i < ran.words; i++, at++) {
+            const struct word *word = &vector.word[at];
+            check(at < vector.words && word->word == words[i], "word", at);
+            check(at < vector.words && word->ms >= ms && word->ms < ms + length, "ms of a word", at);
+        }
+    }
+    check(at == vector.words, "number of words", at);
+}
+
+/* Codes. */
+
+static uint8_t five_bits(const char *code)
+{
+    return (uint8_t)strtoul(code, NULL, 2);
+}
+
+/* The bare conversion sends these codes, character by character, and reads the words from them. */
+static void converts(void)
+{
+    uint8_t shift = CQ_SHIFT_FRESH, count = 0, codes[CQ_BAUDOT_CODES_MAX(1)], text;
+    size_t i, j, at = 0;
+    for (i = 0; i < vector.offers; i++) {
+        cq_baudot_sent sent = cq_baudot_send(&vector.offer[i].character, 1, shift, count, codes, sizeof codes);
+        check(sent.answer == CQ_OK, "cq_baudot_send", i);
+        for (j = 0; j < sent.length; j++, at++) {
+            check(at < vector.codes && five_bits(vector.code[at]) == codes[j], "code", at);
+        }
+        shift = sent.shift;
+        count = sent.count;
+    }
+    check(!vector.sends || at == vector.codes, "number of codes", at);
+    shift = CQ_SHIFT_LETTERS;
+    for (i = at = 0; i < vector.codes; i++) {
+        uint8_t code = five_bits(vector.code[i]);
+        cq_baudot_text read = cq_baudot_read(&code, 1, shift, &text, 1);
+        check(read.answer == CQ_OK, "cq_baudot_read", i);
+        check(read.length == 0 || (at < vector.words && vector.word[at].word == text), "character of a code", i);
+        at += read.length;
+        shift = read.shift;
+    }
+    check(vector.codes == 0 || at == vector.words, "number of characters", at);
+}
+
+/* In DTMF the codes, end to end, are the keys of the line. */
+static void has_keys(void)
+{
+    size_t ms = 0, i;
+    const char *key;
+    for (i = 0; i < vector.codes; i++) {
+        for (key = vector.code[i]; *key != '\0'; key++) {
+            while (ms < vector.ms && vector.level[ms] == CQ_LEVEL_QUIET) {
+                ms++;
+            }
+            check(ms < vector.ms && *key == "1234567890*#ABCD"[vector.level[ms] - 1], "key", ms);
+            while (ms < vector.ms && vector.level[ms] != CQ_LEVEL_QUIET) {
+                ms++;
+            }
+        }
+    }
+}
+
+/* In EDT the codes are the characters. */
+static void has_characters(void)
+{
+    size_t i;
+    check(!vector.sends || vector.codes == vector.offers, "number of codes", vector.codes);
+    for (i = 0; i < vector.codes && i < vector.offers; i++) {
+        check(strtoul(vector.code[i], NULL, 16) == vector.offer[i].character, "code", i);
+    }
+}
+
+static void try_case(void)
+{
+    static const size_t cuts[] = {1, 20, 333, CQ_STATION_MS_MAX};
+    size_t i;
+    for (i = 0; i < sizeof cuts / sizeof cuts[0]; i++) {
+        if (vector.sends) {
+            sends(cuts[i]);
+        }
+        reads(cuts[i]);
+    }
+    if (mode == CQ_MODE_DTMF) {
+        has_keys();
+    } else if (mode == CQ_MODE_EDT) {
+        has_characters();
+    } else {
+        converts();
+    }
+    cases++;
+}
+
+/* The file. */
+
+/* A number; `*at` moves behind it and behind the sign that must follow it, if it is not the end. */
+static unsigned long number(char **at, int base, char follows)
+{
+    char *end;
+    unsigned long value = strtoul(*at, &end, base);
+    if (end == *at || **at == '-' || (*end != '\0' && *end != follows)) {
+        bad_line("a number, or the sign behind it, is missing");
+    }
+    *at = *end == '\0' ? end : end + 1;
+    return value;
+}
+
+static void full(size_t count)
+{
+    if (count == MOST_ITEMS) {
+        bad_line("more items than the test takes");
+    }
+}
+
+static void text_field(char *at)
+{
+    unsigned long ms = number(&at, 10, ' ');
+    while (*at != '\0') {
+        full(vector.offers);
+        vector.offer[vector.offers].ms = ms;
+        vector.offer[vector.offers++].character = (uint8_t)number(&at, 16, ' ');
+    }
+}
+
+static void codes_field(char *at)
+{
+    char *code;
+    for (code = strtok(at, " "); code != NULL; code = strtok(NULL, " ")) {
+        full(vector.codes);
+        if (strlen(code) >= sizeof vector.code[0]) {
+            bad_line("a code is too long");
+        }
+        strcpy(vector.code[vector.codes++], code);
+    }
+}
+
+static void line_field(char *at)
+{
+    while (*at != '\0') {
+        unsigned long level = number(&at, 10, ':'), ms = number(&at, 10, ' ');
+        if (level > (unsigned long)CQ_LEVEL_MAX(mode) || ms > MOST_MS - vector.ms) {
+            bad_line("no level of the mode, or more ms than the test takes");
+        }
+        memset(vector.level + vector.ms, (int)level, ms);
+        vector.ms += ms;
+    }
+}
+
+static void words_field(char *at)
+{
+    while (*at != '\0') {
+        struct word *word = &vector.word[vector.words];
+        full(vector.words++);
+        word->ms = number(&at, 10, ':');
+        if (strncmp(at, "fault", 5) == 0) {
+            word->word = FAULT;
+            at += at[5] == ' ' ? 6 : 5;
+        } else {
+            word->word = (uint32_t)number(&at, 16, ' ');
+        }
+    }
+}
+
+static void end_case(void)
+{
+    if (vector.name[0] != '\0') {
+        if (vector.ms == 0) {
+            bad_line("the case above has no line");
+        }
+        try_case();
+    }
+}
+
+static void begin_case(int sends_text, const char *name)
+{
+    end_case();
+    memset(&vector, 0, sizeof vector);
+    vector.sends = sends_text;
+    strncpy(vector.name, name, sizeof vector.name - 1);
+}
+
+static void mode_field(char *at)
+{
+    mode = (uint8_t)number(&at, 10, ' ');
+    if (cq_station_open(mode).answer != CQ_OK) {
+        bad_line("unknown mode");
+    }
+}
+
+static void take_line(char *line)
+{
+    char *rest = strchr(line, ' ');
+    if (line[0] == '\0') {
+        return;
+    }
+    if (rest == NULL) {
+        bad_line("a name and a space are missing");
+    }
+    *rest++ = '\0';
+    if (strcmp(line, "mode") == 0) {
+        mode_field(rest);
+    } else if (strcmp(line, "send") == 0 || strcmp(line, "hear") == 0) {
+        begin_case(line[0] == 's', rest);
+    } else if (strcmp(line, "text") == 0) {
+        text_field(rest);
+    } else if (strcmp(line, "codes") == 0) {
+        codes_field(rest);
+    } else if (strcmp(line, "line") == 0) {
+        line_field(rest);
+    } else if (strcmp(line, "words") == 0) {
+        words_field(rest);
+    } else {
+        bad_line("unknown name");
+    }
+}
+
+static void take_file(const char *path)
+{
+    char line[200];
+    FILE *stream = fopen(path, "r");
+    file = path;
+    line_number = cases = 0;
+    mode = 0;
+    memset(&vector, 0, sizeof vector);
+    if (stream == NULL) {
+        bad_line("cannot be opened");
+    }
+    while (fgets(line, sizeof line, stream) != NULL) {
+        line_number++;
+        line[strcspn(line, "\n")] = '\0';
+        take_line(line);
+    }
+    fclose(stream);
+    end_case();
+    if (cases == 0) {
+        bad_line("there is no case");
+    }
+    printf("%s: %lu cases\n", path, cases);
+}
+
+int main(int argc, char **argv)
+{
+    int i;
+    if (argc < 2) {
+        fputs("usage: vectors FILE...\n", stderr);
+        return 2;
+    }
+    for (i = 1; i < argc; i++) {
+        take_file(argv[i]);
+    }
+    if (failures != 0) {
+        printf("vectors: %lu checks failed\n", failures);
+        return 1;
+    }
+    puts("vectors: all passed");
+    return 0;
+}
