@@ -1,0 +1,340 @@
+/*
+ * Random calls of all entries, to be run under valgrind: every slice and every state is allocated by itself and
+ * exactly as long as it is lent, so that an access outside shows; slices to be written are often left as malloc
+ * gives them, so that a decision on their old content shows, too. Levels, characters, codes, tones, lengths and
+ * states are now and then out of range. Also checks that a refusal leaves what was lent as it was, that a result
+ * keeps within its range, and that every answer comes.
+ *
+ *     memory [ROUNDS]
+ */
+#include "cuyrapaq.h"
+
+#include <stdio.h>
+#include <stdlib.h>
+#include <string.h>
+
+#define STATIONS 6
+#define ROUNDS 15000
+#define ANSWERS 13 /* 0 to 12 */
+#define PATTERN 0xA5
+#define FAULT 0x10000000u
+
+static unsigned long failures, answers[ANSWERS];
+
+static void check(int holds, const char *what)
+{
+    if (!holds) {
+        failures++;
+        printf("memory: %s\n", what);
+    }
+}
+
+/* Counts an answer; gives back whether it is a success. */
+static int succeeds(uint8_t answer)
+{
+    check(answer < ANSWERS, "answer");
+    answers[answer % ANSWERS]++;
+    return answer == CQ_OK;
+}
+
+/* A small random source (xorshift). */
+static uint32_t random_state = 45;
+
+static unsigned below(unsigned limit)
+{
+    random_state ^= random_state << 13;
+    random_state ^= random_state >> 17;
+    random_state ^= random_state << 5;
+    return (random_state >> 8) % limit;
+}
+
+static int one_in(unsigned times)
+{
+    return below(times) == 0;
+}
+
+static size_t any_length(void)
+{
+    return one_in(4) ? below(5) : one_in(3) ? below(900) : below(80);
+}
+
+/* The ms of a run: few, many, the most, or too many. */
+static size_t any_ms(void)
+{
+    return one_in(8) ? below(4000) : one_in(40) ? 4096u + below(3) : below(200);
+}
+
+/* The length of a slice to be written, `wanted` or more, or too short. */
+static size_t room_for(size_t wanted)
+{
+    if (wanted > 0 && one_in(10)) {
+        return below((unsigned)wanted);
+    }
+    return one_in(3) ? wanted + below(4) : wanted;
+}
+
+/* Memory of so many bytes and not one more. */
+static void *lend(size_t bytes)
+{
+    void *memory = malloc(bytes);
+    if (memory == NULL) {
+        fputs("memory: malloc gave none\n", stderr);
+        exit(2);
+    }
+    return memory;
+}
+
+/* A slice of values below `limit`; now and then one of them is any byte. */
+static uint8_t *lend_values(size_t length, unsigned limit)
+{
+    uint8_t *values = lend(length);
+    size_t i;
+    for (i = 0; i < length; i++) {
+        values[i] = (uint8_t)below(limit);
+    }
+    if (length > 0 && one_in(10)) {
+        values[below((unsigned)length)] = (uint8_t)below(256);
+    }
+    return values;
+}
+
+/* A slice to be written: left as it came, or filled so that a refusal can be checked. */
+struct slice {
+    void *memory;
+    size_t bytes;
+    int filled;
+};
+
+static struct slice lend_slice(size_t bytes)
+{
+    struct slice slice;
+    slice.memory = lend(bytes);
+    slice.bytes = bytes;
+    slice.filled = one_in(2);
+    if (slice.filled) {
+        memset(slice.memory, PATTERN, bytes);
+    }
+    return slice;
+}
+
+/* Whether the bytes from `from` on are as they were lent; yes if they were not filled. */
+static int stays(const struct slice *slice, size_t from)
+{
+    const uint8_t *bytes = slice->memory;
+    size_t i;
+    for (i = from; slice->filled && i < slice->bytes; i++) {
+        if (bytes[i] != PATTERN) {
+            return 0;
+        }
+    }
+    return 1;
+}
+
+static int all_below(const uint8_t *values, size_t length, unsigned limit)
+{
+    size_t i;
+    for (i = 0; i < length; i++) {
+        if (values[i] >= limit) {
+            return 0;
+        }
+    }
+    return 1;
+}
+
+/* Changes some bytes of a state. */
+static void damage(void *state, size_t bytes)
+{
+    uint8_t *at = state;
+    unsigned times = 1 + below(3);
+    for (; times > 0; times--) {
+        at[below((unsigned)bytes)] = (uint8_t)(one_in(2) ? below(256) : below(4));
+    }
+}
+
+static void baudot_send(void)
+{
+    size_t length = any_length();
+    uint8_t *text = lend_values(length, 128);
+    uint8_t shift = (uint8_t)(one_in(20) ? below(256) : below(3)), count = (uint8_t)(one_in(20) ? below(256) : below(73));
+    struct slice codes = lend_slice(room_for(CQ_BAUDOT_CODES_MAX(length)));
+    cq_baudot_sent r = cq_baudot_send(text, length, shift, count, codes.memory, codes.bytes);
+    check(stays(&codes, r.length), "codes behind the result");
+    if (succeeds(r.answer)) {
+        check(r.length <= codes.bytes && all_below(codes.memory, r.length, 32), "codes");
+        check(r.shift <= 2 && r.count <= 72, "shift and count");
+    } else {
+        check(r.length == 0 && r.shift == shift && r.count == count, "refusal of cq_baudot_send");
+    }
+    free(text);
+    free(codes.memory);
+}
+
+static void baudot_read(void)
+{
+    size_t length = any_length();
+    uint8_t *codes = lend_values(length, 32);
+    uint8_t shift = (uint8_t)(one_in(20) ? below(256) : 1 + below(2));
+    struct slice text = lend_slice(room_for(CQ_BAUDOT_TEXT_MAX(length)));
+    cq_baudot_text r = cq_baudot_read(codes, length, shift, text.memory, text.bytes);
+    check(stays(&text, r.length), "text behind the result");
+    if (succeeds(r.answer)) {
+        check(r.length <= text.bytes && all_below(text.memory, r.length, 128), "text");
+        check(r.shift == 1 || r.shift == 2, "shift");
+    } else {
+        check(r.length == 0 && r.shift == shift, "refusal of cq_baudot_read");
+    }
+    free(codes);
+    free(text.memory);
+}
+
+/* A set runs several times; a tone lasts for some calls. */
+static void calling(void)
+{
+    cq_calling *state = lend(sizeof *state), before;
+    unsigned times = 1 + below(6);
+    *state = cq_calling_fresh();
+    for (; times > 0; times--) {
+        size_t ms = any_ms();
+        uint8_t *tones = lend_values(ms, one_in(2) ? 12 : 1), answer;
+        struct slice sent = lend_slice(room_for(ms));
+        if (one_in(10)) {
+            damage(state, sizeof *state);
+        }
+        before = *state;
+        answer = cq_calling_run(state, tones, ms, sent.memory, sent.bytes);
+        check(stays(&sent, answer == CQ_OK ? ms : 0), "sent ms behind the result");
+        if (succeeds(answer)) {
+            check(ms <= sent.bytes && all_below(sent.memory, ms, 3), "sent ms of the calling set");
+            check(cq_calling_choice(state) <= 11, "choice");
+        } else {
+                check(memcmp(state, &before, sizeof before) == 0, "refusal of cq_calling_run");
+            (void)cq_calling_choice(state);
+        }
+        free(tones);
+        free(sent.memory);
+    }
+    free(state);
+}
+
+static cq_station *stations[STATIONS];
+
+static void open_station(cq_station *station)
+{
+    uint8_t mode = (uint8_t)(one_in(10) ? below(256) : 1 + below(4));
+    cq_opened opened = cq_station_open(mode);
+    check(succeeds(opened.answer) == (mode >= 1 && mode <= 4), "answer of an opening");
+    *station = opened.station;
+}
+
+static void offer(cq_station *station)
+{
+    size_t length = any_length();
+    uint8_t *text = lend_values(length, 128);
+    cq_station before = *station;
+    if (succeeds(cq_station_offer(station, text, length))) {
+        check(station->core.waiting <= CQ_STATION_WAITING_MAX, "how many wait");
+    } else {
+        check(memcmp(station, &before, sizeof before) == 0, "refusal of cq_station_offer");
+    }
+    free(text);
+}
+
+/* Whether each of the words is a character or a fault. */
+static int are_words(const uint32_t *words, size_t count)
+{
+    size_t i;
+    for (i = 0; i < count; i++) {
+        if (words[i] > 0x7F && words[i] != FAULT) {
+            return 0;
+        }
+    }
+    return 1;
+}
+
+/* Heard ms: all quiet, runs of one level, or any level in each ms. */
+static uint8_t *lend_heard(size_t ms, uint8_t mode)
+{
+    unsigned levels = one_in(3) ? 1u : CQ_LEVEL_MAX(mode) + 1u;
+    uint8_t *heard = lend_values(ms, levels);
+    size_t i;
+    if (one_in(2)) {
+        for (i = 1; i < ms; i++) {
+            heard[i] = one_in(25) ? heard[i] : heard[i - 1];
+        }
+    }
+    return heard;
+}
+
+static void run(cq_station *station)
+{
+    size_t ms = any_ms();
+    uint8_t *heard = lend_heard(ms, station->core.mode);
+    struct slice sent = lend_slice(room_for(ms)), words = lend_slice(room_for(ms) * sizeof(uint32_t));
+    cq_station before = *station;
+    cq_station_ran r = cq_station_run(station, heard, ms, sent.memory, sent.bytes, words.memory,
+                                      words.bytes / sizeof(uint32_t));
+    check(stays(&sent, r.answer == CQ_OK ? ms : 0), "sent ms behind the result");
+    check(stays(&words, r.words * sizeof(uint32_t)), "words behind the result");
+    if (succeeds(r.answer)) {
+        check(ms <= sent.bytes && all_below(sent.memory, ms, CQ_LEVEL_MAX(station->core.mode) + 1u), "sent ms");
+        check(r.words <= ms && are_words(words.memory, r.words), "words");
+    } else {
+        check(r.words == 0 && memcmp(station, &before, sizeof before) == 0, "refusal of cq_station_run");
+    }
+    free(heard);
+    free(sent.memory);
+    free(words.memory);
+}
+
+/* One call of a station. A damaged one that is refused is opened anew after a while. */
+static void station_call(void)
+{
+    cq_station *station = stations[below(STATIONS)];
+    unsigned which = below(30);
+    if (which == 0) {
+        open_station(station);
+    } else if (which == 1) {
+        damage(station, one_in(2) ? sizeof(cq_core) : sizeof *station);
+    } else if (which < 10) {
+        offer(station);
+    } else {
+        run(station);
+    }
+}
+
+int main(int argc, char **argv)
+{
+    long rounds = argc > 1 ? strtol(argv[1], NULL, 10) : ROUNDS, i;
+    if (argc > 2 || rounds <= 0) {
+        fputs("usage: memory [ROUNDS]\n", stderr);
+        return 2;
+    }
+    for (i = 0; i < STATIONS; i++) {
+        stations[i] = lend(sizeof *stations[i]);
+        open_station(stations[i]);
+    }
+    for (i = 0; i < rounds; i++) {
+        switch (below(8)) {
+        case 0: baudot_send(); break;
+        case 1: baudot_read(); break;
+        case 2: calling(); break;
+        default: station_call(); break;
+        }
+    }
+    for (i = 0; i < STATIONS; i++) {
+        free(stations[i]);
+    }
+    for (i = 0; i < ANSWERS && rounds >= ROUNDS; i++) {
+        check(answers[i] > 0, "an answer that never comes");
+    }
+    if (failures != 0) {
+        printf("memory: %lu checks failed\n", failures);
+        return 1;
+    }
+    printf("memory: %ld rounds passed; times that each answer came, from 0 on:", rounds);
+    for (i = 0; i < ANSWERS; i++) {
+        printf(" %lu", answers[i]);
+    }
+    putchar('\n');
+    return 0;
+}
