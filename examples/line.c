@@ -345,6 +345,7 @@ static void draw_axis(const struct picture *p)
     size_t ms, end = p->burst->ms, step = p->scale > 3 ? 10 : p->scale > 1 ? 50 : 100;
     char text[32];
     printf("<path d=\"M%d %dH%ld\" class=\"axis\"/>\n", LEFT, AXIS_Y, x_of(p, end));
+    printf("<text x=\"%d\" y=\"%d\" class=\"level\">ms</text>\n", LEFT - 8, AXIS_Y + 20);
     for (ms = 0; ms <= end; ms += 10) {
         draw_upright(x_of(p, ms), AXIS_Y, AXIS_Y + (ms % step == 0 ? 8 : 4), "axis");
         if (ms % step == 0) {
@@ -467,6 +468,7 @@ static void draw_piece(const struct picture *p, const struct piece *piece)
     long middle = (x_of(p, piece->from) + x_of(p, piece->to)) / 2;
     char code[8];
     draw_upright(x_of(p, piece->from), CODE_Y - 10, AXIS_Y, "piece");
+    draw_upright(x_of(p, piece->to), CODE_Y - 10, AXIS_Y, "piece");
     if (piece->part == 1) {
         draw_text(middle, CODE_Y, "code", "preamble");
         return;
