@@ -331,6 +331,8 @@ static int call(const struct mode *mode, const char *const *texts, size_t count)
     }
     for (i = 0; i < 2; i++) {
         show_text(&sides[i], &sides[i].read);
+    }
+    for (i = 0; i < 2; i++) {
         printf("%-6s read %u faults before the first burst, %u from it on\n", sides[i].name,
                sides[i].faults_before, sides[i].faults - sides[i].faults_before);
     }
