@@ -1,8 +1,8 @@
 -- The ms of a list, one after the other: what is left at a place of it, for the loop that reads them.
 use mathlib.Core.Path.{_≡_, _∙_, refl, sym, ap}
-use mathlib.Core.List.{List, [], _∷_, _++_}
-use Prim.Native.Nat.{ℕ, suc, _+_, _≤_, _<_}
-use native.Mathlib.Nat.{add-assoc, add-zero}
+use mathlib.Core.List.{List, [], _++_}
+use Prim.Native.Nat.{ℕ, _+_, _≤_, _<_}
+use native.Mathlib.Nat.{add-assoc}
 use native.Mathlib.Numerals.{add-one}
 use native.Mathlib.Omega.{arith}
 use lib.ListN.{length, getD, drop, drop-of-length-le, length-append}
@@ -20,7 +20,8 @@ use Rattle.line.specs.Words.{wordOf, wordsOf, readerAfter, words}
 use Rattle.hearing.specs.declared.Skipped.{Skipped}
 use Rattle.hearing.specs.Skipping.{Skips}
 
-one-word : (e : Event) → length (wordOf e) ≤ 1
+-- at most one word a ms
+pub one-word : (e : Event) → length (wordOf e) ≤ 1
 one-word (Character c) = omega arith
 one-word Fault = omega arith
 one-word Nothing = omega arith

@@ -1,25 +1,24 @@
 -- DTMF: ms that end in nothing.
 use mathlib.Core.Path.{_≡_, _∙_, refl, sym, ap}
-use mathlib.Core.Bool.{true, false, cond}
+use mathlib.Core.Bool.{Bool, true, false, cond}
 use mathlib.Core.List.{List}
-use Prim.Native.Nat.{ℕ, zero, suc, _+_, _-_, _≤_, _<_}
+use Prim.Native.Nat.{ℕ, suc, _+_, _-_, _≤_, _<_}
 use native.Mathlib.Omega.{arith}
 use lib.Dec.{eqb}
 use lib.ListN.{length, getD, drop}
-use borrow.Author.Tests.{eq-eqb, ne-eqb}
+use borrow.Author.Tests.{eqb-true, ne-eqb}
 use Rattle.lists.specs.Lists.{allAtMost}
 use Rattle.alphabet.specs.declared.Mode.the-variants.{Dtmf}
 use Rattle.keys.specs.declared.Keys.{Keys}
-use Rattle.keys.specs.declared.KeyRead.{KeyRead}
-use Rattle.keys.specs.Keys.{keysAt, needs, counts, keyStep}
+use Rattle.keys.specs.Keys.{keysAt, needs, counts, nthMs, keyStep}
 use Rattle.line.specs.declared.Event.the-variants.{Nothing}
 use Rattle.line.specs.declared.Reader.{Reader}
 use Rattle.line.specs.Reader.{reader, ends, withKey, prefixAfter, keyEvent, hear}
 use Rattle.line.specs.Range.{ReaderIn}
 use Rattle.line.specs.Words.{readerAfter, words}
 use Rattle.hearing.specs.Runs.{Until, Through, UpTo}
-use Rattle.hearing.specs.Skipping.{Skips}
-use Rattle.hearing.proofs.Passing.{skip-to}
+use Rattle.hearing.specs.Skipping.{Skips, msNext}
+use Rattle.hearing.proofs.Passing.{skip-one, skip-chain, skip-none, skip-to}
 
 abbrev readerWith : Reader → Keys → Reader
 readerWith r k = reader (r .frame) k (r .shift) (r .prefix)
@@ -42,9 +41,28 @@ needed-step : (n x : ℕ) → 1 ≤ n → x ≡ 0 → keyStep (needs n) x ≡ co
 unfolding keyStep
 needed-step n x h e = rw (ne-eqb n 0 (λ (z : n ≡ 0). omega arith), e) refl
 
-key-step : (key ms x : ℕ) → 1 ≤ key → ms + 1 < 40 → x ≡ key → keyStep (keysAt key ms 0) x ≡ counts (keysAt key (ms + 1) 0) 0
-unfolding keyStep
-key-step key ms x h l e = rw (e, ne-eqb key 0 (λ (z : key ≡ 0). omega arith), eq-eqb key key refl, ne-eqb (ms + 1) 40 (λ (z : ms + 1 ≡ 40). omega arith)) refl
+next-step : (key ms x : ℕ) → (msNext key ms x ≡ 40 → ⊥) → keyStep (keysAt key ms 0) x ≡ counts (keysAt x (msNext key ms x) 0) 0
+unfolding keyStep msNext
+next-step key ms x = go (eqb x 0) refl (eqb x key)
+  where
+    go : (b : Bool) → eqb x 0 ≡ b → (c : Bool) → (cond b 0 (cond c (ms + 1) 1) ≡ 40 → ⊥)
+        → cond b (counts (keysAt 0 0 0) 0) (nthMs x (cond c (ms + 1) 1)) ≡ counts (keysAt x (cond b 0 (cond c (ms + 1) 1)) 0) 0
+    go true e c n = sym (ap (λ (m : ℕ). counts (keysAt m 0 0) 0) (eqb-true x 0 e))
+    go false e c n = rw (ne-eqb (cond c (ms + 1) 1) 40 n) refl
+
+next-in : (key ms x : ℕ) → ms < 40 → (msNext key ms x ≡ 40 → ⊥) → msNext key ms x < 40
+unfolding msNext
+next-in key ms x h = go (eqb x 0) (eqb x key)
+  where
+    go : (b c : Bool) → (cond b 0 (cond c (ms + 1) 1) ≡ 40 → ⊥) → cond b 0 (cond c (ms + 1) 1) < 40
+    go true c n = omega arith
+    go false true n = omega arith
+    go false false n = omega arith
+
+-- Up to a place, no key counts; there, a key is heard, so many ms in a row.
+pub record Counting (heard : List ℕ) (r : Reader) (i key ms to : ℕ) : Type 0 where
+  pub few : ms < 40
+  pub skips : Skips Dtmf heard r i (record { reader = readerWith r (keysAt key ms 0); to = to })
 
 module _ (heard : List ℕ) (levels : allAtMost 16 heard ≡ true) (r : Reader) (h : ReaderIn Dtmf r) (i : ℕ) where
   -- the keys are f k after k ms
@@ -54,7 +72,7 @@ module _ (heard : List ℕ) (levels : allAtMost 16 heard ≡ true) (r : Reader) 
   keys-skip f e to l m s q p =
       let same : readerWith r (f 0) ≡ r = ap (readerWith r) e in
       let a = skip-to Dtmf heard levels (λ (k : ℕ). readerWith r (f k)) i to (rw same h) l m
-        (λ (k : ℕ) (g : k < to - i). none-counts (readerWith r (f k)) (getD heard (i + k) 0) (f (suc k)) (s k g)) in
+      (λ (k : ℕ) (g : k < to - i). none-counts (readerWith r (f k)) (getD heard (i + k) 0) (f (suc k)) (s k g)) in
       rw p (record { low = a .low; high = a .high; in-range = a .in-range; reader = a .reader ∙ ap (λ (x : Reader). readerAfter Dtmf x (drop i heard)) same; words = a .words ∙ ap (λ (x : Reader). words Dtmf x (drop i heard)) same })
 
   pub ready-skips : r .keys .key ≡ 0 → r .keys .ms ≡ 0 → r .keys .needed ≡ 0 → (to : ℕ) → Through heard i (length heard) 0 to
@@ -82,17 +100,20 @@ module _ (heard : List ℕ) (levels : allAtMost 16 heard ≡ true) (r : Reader) 
         let z : n - 0 ≡ n = omega arith in
         keys-skip (λ (k : ℕ). needs (n - k)) (λ j. keysAt (sym a j) (sym b j) (z j)) to (t .low) (omega arith)
         (λ (k : ℕ) (g : k < to - i). let y : n - k - 1 ≡ n - suc k = omega arith in
-          needed-step (n - k) (getD heard (i + k) 0) (omega arith) (t .same (i + k) (omega arith) (omega arith)) ∙ ap (λ (m : ℕ). counts (needs m) 0) y) q p
+        needed-step (n - k) (getD heard (i + k) 0) (omega arith) (t .same (i + k) (omega arith) (omega arith)) ∙ ap (λ (m : ℕ). counts (needs m) 0) y) q p
 
-    pub key-skips : r .keys .needed ≡ 0 → 1 ≤ r .keys .key → UpTo i (39 - r .keys .ms) (length heard) end → Through heard i end (r .keys .key) to
-        → (q : Reader) → q ≡ readerWith r (keysAt (r .keys .key) (r .keys .ms + (to - i)) 0) → Skips Dtmf heard r i (record { reader = q; to = to })
-    key-skips c o u t q p =
-        let key = r .keys .key in
-        let ms = r .keys .ms in
-        let few = u .few in
-        let high = u .high in
-        let le = t .high in
-        let z : ms + 0 ≡ ms = omega arith in
-        keys-skip (λ (k : ℕ). keysAt key (ms + k) 0) (λ j. keysAt key (z j) (sym c j)) to (t .low) (omega arith)
-        (λ (k : ℕ) (g : k < to - i). let y : ms + k + 1 ≡ ms + suc k = omega arith in
-          key-step key (ms + k) (getD heard (i + k) 0) o (omega arith) (t .same (i + k) (omega arith) (omega arith)) ∙ ap (λ (m : ℕ). counts (keysAt key m 0) 0) y) q p
+  -- a key and its ms in a row, at each place
+  pub counting-start : r .keys .needed ≡ 0 → i ≤ length heard → Counting heard r i (r .keys .key) (r .keys .ms) i
+  counting-start n l =
+      let same : readerWith r (keysAt (r .keys .key) (r .keys .ms) 0) ≡ r = λ j. readerWith r (keysAt (r .keys .key) (r .keys .ms) (sym n j)) in
+      record { few = h .keys-in .ms-in; skips = rw same (skip-none Dtmf heard levels r i h l) }
+
+  pub counting-turn : (key ms to : ℕ) → Counting heard r i key ms to → to < length heard → (n : ℕ) → n ≡ msNext key ms (getD heard to 0) → (n ≡ 40 → ⊥)
+      → Counting heard r i (getD heard to 0) n (to + 1)
+  counting-turn key ms to c l n e f =
+      let x = getD heard to 0 in
+      let q = readerWith r (keysAt key ms 0) in
+      let p = readerWith r (keysAt x (msNext key ms x) 0) in
+      let g : msNext key ms x ≡ 40 → ⊥ = rw e at f in
+      let o = skip-one Dtmf heard levels q p to (c .skips .in-range) l (none-counts q x (keysAt x (msNext key ms x) 0) (next-step key ms x g)) in
+      rw e (record { few = next-in key ms x (c .few) g; skips = skip-chain Dtmf heard levels r q i to (c .skips) _ o })

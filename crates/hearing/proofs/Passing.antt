@@ -1,13 +1,13 @@
 -- Ms that end in nothing: a reader passes over them.
 use mathlib.Core.Path.{_≡_, _∙_, refl, sym, ap}
-use mathlib.Core.Bool.{Bool, true, false, cond, _&&_}
-use mathlib.Core.List.{List, [], _∷_, _++_}
+use mathlib.Core.Bool.{Bool, true, false, _&&_}
+use mathlib.Core.List.{List, _++_}
 use Prim.Native.Nat.{ℕ, zero, suc, _+_, _-_, _≤_, _<_}
 use native.Mathlib.Nat.{add-zero}
 use native.Mathlib.Omega.{arith}
-use lib.Dec.{T, eqb, leb}
+use lib.Dec.{T, leb}
 use lib.ListN.{length, getD, drop}
-use borrow.Author.Tests.{eq-eqb, ne-eqb, leb-true}
+use borrow.Author.Tests.{ne-eqb, leb-true}
 use Rattle.lists.specs.Lists.{allAtMost}
 use Rattle.lists.specs.Tables.{passes}
 use Rattle.lists.proofs.Lists.{at-most-at}
@@ -19,13 +19,13 @@ use Rattle.frames.specs.declared.Sample.the-variants.{None, Start, Digit, Parit
 use Rattle.frames.specs.declared.Frame.{Frame}
 use Rattle.frames.specs.declared.FrameRead.{FrameRead}
 use Rattle.frames.specs.declared.Found.the-variants.{Nothing as nothing}
-use Rattle.frames.specs.Samples.{Placed, placed, sampleAt, samplesOf, baudotKinds, edtKinds}
-use Rattle.frames.specs.Frames.{gives, hunting, sampled, frameStep}
+use Rattle.frames.specs.Samples.{placed, sampleAt, samplesOf, baudotKinds, edtKinds}
+use Rattle.frames.specs.Frames.{gives, hunting, waiting, sampled, frameStep}
 use Rattle.frames.specs.Range.{lastMs}
 use Rattle.line.specs.declared.Event.the-variants.{Nothing}
 use Rattle.line.specs.declared.Reader.{Reader}
 use Rattle.line.specs.declared.Reading.{Reading}
-use Rattle.line.specs.Reader.{reader, ends, withFrame, hear, hearFrame}
+use Rattle.line.specs.Reader.{reader, ends, withFrame, hear}
 use Rattle.line.specs.Range.{ReaderIn}
 use Rattle.line.specs.Words.{wordOf, readerAfter, words}
 use Rattle.line.proofs.Range.{hear-in}
@@ -38,7 +38,7 @@ use Rattle.hearing.proofs.Fold.{reader-next, words-next}
 -- ---- some ms, each of which ends in nothing
 
 module _ (mode : Mode) (heard : List ℕ) (levels : allAtMost 16 heard ≡ true) where
-  skip-one : (r q : Reader) (i : ℕ) → ReaderIn mode r → i < length heard → hear mode r (getD heard i 0) ≡ ends q Nothing
+  pub skip-one : (r q : Reader) (i : ℕ) → ReaderIn mode r → i < length heard → hear mode r (getD heard i 0) ≡ ends q Nothing
       → Skips mode heard r i (record { reader = q; to = i + 1 })
   skip-one r q i h l e =
       let v = at-most-at 16 heard levels i l in
@@ -50,7 +50,7 @@ module _ (mode : Mode) (heard : List ℕ) (levels : allAtMost 16 heard ≡ true)
         words = sym (words-next mode r heard i l ∙ ap (λ (x : Reading). wordOf (x .event) ++ words mode (x .reader) (drop (i + 1) heard)) e);
       }
 
-  skip-chain : (r q : Reader) (i j : ℕ) → Skips mode heard r i (record { reader = q; to = j }) → (s : Skipped) → Skips mode heard q j s → Skips mode heard r i s
+  pub skip-chain : (r q : Reader) (i j : ℕ) → Skips mode heard r i (record { reader = q; to = j }) → (s : Skipped) → Skips mode heard q j s → Skips mode heard r i s
   skip-chain r q i j a s b =
       let l = a .low in
       let m = b .low in
@@ -69,7 +69,7 @@ module _ (mode : Mode) (heard : List ℕ) (levels : allAtMost 16 heard ≡ true)
       let first = rw e at (s 0 (omega arith)) in
       let o = skip-one (f 0) (f 1) i h (omega arith) first in
       let rest = skip-many (λ (k : ℕ). f (suc k)) n (i + 1) (o .in-range) (omega arith)
-        (λ (k : ℕ) (g : k < n). let z : i + 1 + k ≡ i + suc k = omega arith in rw z (s (suc k) (omega arith))) in
+      (λ (k : ℕ) (g : k < n). let z : i + 1 + k ≡ i + suc k = omega arith in rw z (s (suc k) (omega arith))) in
       let z : i + 1 + n ≡ i + suc n = omega arith in
       skip-chain (f 0) (f 1) i (i + 1) o _ (rw z at rest)
 
@@ -98,7 +98,7 @@ module _ (mode : Mode) (framed : Framed mode) (heard : List ℕ) (levels : allAt
   wait-step : (x : ℕ) → r .frame .place ≡ 1 → r .frame .digits ≡ 0 → x ≡ 2 → frameStep (samplesOf mode) (r .frame) x ≡ gives (r .frame) nothing
   unfolding frameStep
   wait-step x e d n =
-      let f : Rattle.frames.specs.Frames.waiting ≡ r .frame = λ j. record { place = sym e j; digits = sym d j } in
+      let f : waiting ≡ r .frame = λ j. record { place = sym e j; digits = sym d j } in
       (rw (e, n) refl) ∙ ap (λ (g : Frame). gives g nothing) f
 
   pub hunt-skips : (to : ℕ) → r .frame .place ≡ 0 → r .frame .digits ≡ 0 → Until heard i (length heard) 2 to → Skips mode heard r i (record { reader = r; to = to })
@@ -215,5 +215,5 @@ module _ (mode : Mode) (r : Reader) (h : ReaderIn mode r) (low : 2 ≤ r .frame 
       let z : r .frame .place + 0 ≡ r .frame .place = omega arith in
       let same : readerFurther r 0 ≡ r = λ j. reader (record { place = z j; digits = r .frame .digits }) (r .keys) (r .shift) (r .prefix) in
       let a = skip-to mode heard levels (readerFurther r) i to (rw same h) (u .low) (u .high)
-        (λ (k : ℕ) (g : k < to - i). found-none mode framed heard levels r h i (readerFurther r k) (getD heard (i + k) 0) (readerFurther r (suc k) .frame) (frame-on k (getD heard (i + k) 0) (omega arith))) in
+      (λ (k : ℕ) (g : k < to - i). found-none mode framed heard levels r h i (readerFurther r k) (getD heard (i + k) 0) (readerFurther r (suc k) .frame) (frame-on k (getD heard (i + k) 0) (omega arith))) in
       rw e (record { low = a .low; high = a .high; in-range = a .in-range; reader = a .reader ∙ ap (λ (x : Reader). readerAfter mode x (drop i heard)) same; words = a .words ∙ ap (λ (x : Reader). words mode x (drop i heard)) same })

@@ -1,6 +1,6 @@
 // Ms that end in nothing.
-use crate::runs;
 use crate::Skipped;
+use crate::runs;
 use alphabet::Mode;
 use frames::Frame;
 use keys::Keys;
@@ -12,7 +12,7 @@ ghost use lib.ListN.{length};
 ghost use Rattle.lists.specs.Lists.{allAtMost};
 ghost use Rattle.alphabet.specs.declared.Mode.the-variants as mode;
 ghost use Rattle.line.specs.Range.{ReaderIn};
-ghost use Rattle.hearing.specs.Skipping.{nextSample, Framed, Skips};
+ghost use Rattle.hearing.specs.Skipping.{nextSample, msNext, Framed, Skips};
 
 // The ms of a frame's first sample from a ms on.
 fn next_sample(mode: Mode, m: usize) -> usize
@@ -103,27 +103,59 @@ fn with_keys(r: Reader, keys: Keys) -> Reader
     }
 }
 
-// DTMF, while a key is heard: its ms up to the one in which it counts.
-fn skip_key(r: Reader, heard: &[u8], i: usize) -> Skipped
-    requires { ⌜ ReaderIn mode.Dtmf r ⌝ }
-    requires { ⌜ r .keys .needed ≡ 0 ⌝ }
-    requires { ⌜ 1 ≤ r .keys .key ⌝ }
-    requires { ⌜ allAtMost 16 (now heard) ≡ true ⌝ }
-    requires { ⌜ i ≤ length (now heard) ⌝ }
-    ensures { λ s. ⌜ Skips mode.Dtmf (now (heard .entry)) r i s ⌝ }
+// The ms in a row of what is heard, if no quiet is needed: 0 for quiet.
+fn ms_next(key: u8, ms: usize, heard: u8) -> usize
+    requires { ⌜ ms < 40 ⌝ }
+    ensures { λ r. ⌜ r ≡ msNext key ms heard ⌝ }
 {
-    let k = r.keys;
-    let end = runs::up_to(i, (39 - k.ms) as usize, heard.len());
-    let to = runs::through(heard, i, end, k.key);
+    if heard == 0 {
+        return 0;
+    }
+    if heard == key {
+        return ms + 1;
+    }
+    1
+}
+
+// A reader with a key and its ms in a row, before a ms.
+fn counted(r: Reader, key: u8, ms: usize, to: usize) -> Skipped
+    requires { ⌜ ms < 40 ⌝ }
+    ensures { λ s. ⌜ s ≡ record { reader = record { frame = r .frame; keys = record { key = key; ms = ms; needed = 0 }; shift = r .shift; prefix = r .prefix }; to = to } ⌝ }
+{
     let keys = Keys {
-        key: k.key,
-        ms: k.ms + (to - i) as u8,
+        key,
+        ms: ms as u8,
         needed: 0,
     };
     Skipped {
         reader: with_keys(r, keys),
         to,
     }
+}
+
+// DTMF, while no quiet is needed: up to the ms in which a key counts.
+fn skip_key(r: Reader, heard: &[u8], i: usize) -> Skipped
+    requires { ⌜ ReaderIn mode.Dtmf r ⌝ }
+    requires { ⌜ r .keys .needed ≡ 0 ⌝ }
+    requires { ⌜ allAtMost 16 (now heard) ≡ true ⌝ }
+    requires { ⌜ i ≤ length (now heard) ⌝ }
+    ensures { λ s. ⌜ Skips mode.Dtmf (now (heard .entry)) r i s ⌝ }
+{
+    let k = r.keys;
+    let mut key = k.key;
+    let mut ms = k.ms as usize;
+    let mut to = i;
+    while to < heard.len() {
+        let x = heard[to];
+        let n = ms_next(key, ms, x);
+        if n == 40 {
+            return counted(r, key, ms, to);
+        }
+        key = x;
+        ms = n;
+        to += 1;
+    }
+    counted(r, key, ms, to)
 }
 
 // DTMF, while quiet is needed: quiet ms; or those that are not, if none has been quiet.

@@ -11,7 +11,7 @@ ghost use Rattle.alphabet.specs.Packing.{codes};
 ghost use Rattle.signal.specs.Packing.{longest, edtFrame};
 
 // The level of an element of a frame, whose digits stand in a number, the first element lowest: 1 is mark, 0 space.
-fn frame_level(frame: u16, element: u16) -> u8
+pub fn frame_level(frame: u16, element: u16) -> u8
     requires { ⌜ element < 16 ⌝ }
     ensures { λ r. ⌜ r ≡ levelOf (frame / 2 ^ element % 2) ⌝ }
 {
@@ -23,7 +23,7 @@ fn frame_level(frame: u16, element: u16) -> u8
 }
 
 // The digits of a Baudot frame: start 0, the five of the code, stop 1.
-fn baudot_frame(code: LineCode) -> u16
+pub fn baudot_frame(code: LineCode) -> u16
     requires { ⌜ code .0 < 32 ⌝ }
     ensures { λ r. ⌜ r ≡ 192 + 2 * code .0 ⌝ }
 {
@@ -39,7 +39,7 @@ pub fn parity(c: u8) -> u8
 }
 
 // The digits of an EDT frame: start 0, the seven of the code, even parity, two stops 1.
-fn edt_frame(code: LineCode) -> u16
+pub fn edt_frame(code: LineCode) -> u16
     requires { ⌜ code .0 < 128 ⌝ }
     ensures { λ r. ⌜ r ≡ edtFrame (code .0) ⌝ }
 {

@@ -1,13 +1,13 @@
 -- What the functions on cores need of the definitions.
 use mathlib.Core.Path.{_≡_, _∙_, refl, sym, ap}
 use mathlib.Core.Bool.{Bool, true, false, cond}
-use mathlib.Core.List.{List, [], _∷_, _++_}
+use mathlib.Core.List.{List, [], _∷_}
 use Prim.Native.Nat.{ℕ, zero, suc, _+_, _-_, _≤_, _<_}
 use native.Mathlib.Omega.{arith}
-use lib.Dec.{eqb, leb, ltb}
+use lib.Dec.{ltb}
 use lib.ListN.{length, getD, take, length-replicate}
 use lib.Seq.{take-suc, take-all}
-use borrow.Author.Tests.{eq-eqb, ne-eqb, eqb-true, lt-ltb, le-ltb, le-leb, ltb-true, ltb-false}
+use borrow.Author.Tests.{ne-eqb, lt-ltb, le-ltb, le-leb, ltb-true, ltb-false}
 use Rattle.lists.specs.Steps.{stateAfter}
 use Rattle.lists.proofs.Steps.{after-append}
 use Rattle.alphabet.specs.declared.Mode.{Mode}
@@ -24,7 +24,7 @@ use Rattle.line.specs.declared.Reader.{Reader}
 use Rattle.line.specs.Reader.{reader}
 use Rattle.access.specs.declared.OnLine.{OnLine}
 use Rattle.access.specs.Rules.{mayBegin, isSilent}
-use Rattle.access.specs.Line.{onLine, isCode, inBurst, partMs, isOver, levelOn}
+use Rattle.access.specs.Line.{isCode, inBurst, partMs, isOver}
 use Rattle.access.specs.Core.{silenceAfter}
 use Rattle.access.specs.Range.{LineIn}
 use Rattle.access.proofs.Laws.{within}
@@ -147,12 +147,12 @@ burst-some i (suc n) h = refl
 
 -- ---- parts
 
-few-codes : (a : Alphabet) → codes a ≤ 256
+pub few-codes : (a : Alphabet) → codes a ≤ 256
 few-codes alphabet.Baudot = omega arith
 few-codes alphabet.Dtmf = omega arith
 few-codes alphabet.Edt = omega arith
 
-longest-480 : (mode : Mode) → longest mode ≤ 480
+pub longest-480 : (mode : Mode) → longest mode ≤ 480
 longest-480 Baudot45 = omega arith
 longest-480 Baudot50 = omega arith
 longest-480 Dtmf = omega arith

@@ -1,8 +1,8 @@
 -- The levels of a code, element by element or key by key.
 use mathlib.Core.Path.{_≡_, _∙_, refl, sym, ap}
 use mathlib.Core.Bool.{Bool, true, false, cond}
-use mathlib.Core.List.{List, [], _∷_, _++_}
-use Prim.Native.Nat.{ℕ, zero, suc, _+_, _-_, _*_, _/_, _%_, _≤_, _<_}
+use mathlib.Core.List.{List, _∷_, _++_}
+use Prim.Native.Nat.{ℕ, zero, suc, _+_, _-_, _/_, _%_, _^_, _≤_, _<_}
 use native.Mathlib.Nat.{add-zero}
 use native.Mathlib.Omega.{arith}
 use lib.Dec.{eqb, ltb}
@@ -16,42 +16,31 @@ use Rattle.alphabet.specs.declared.Mode.the-variants.{Baudot45, Baudot50, Dtmf,
 use Rattle.alphabet.specs.Dtmf.{keysOf}
 use Rattle.alphabet.specs.Modes.{alphabetOf}
 use Rattle.alphabet.specs.Packing.{codes}
-use Rattle.signal.specs.Signal.{signal}
-use Rattle.signal.specs.Packing.{longest, edtFrame}
-use Rattle.signal.proofs.Levels.{frameLevel, test-22, test-20, baudot-at, edt-at, keys-on, keys-off}
+use Rattle.signal.specs.Signal.{levelOf, signal}
+use Rattle.signal.specs.Packing.{longest}
+use Rattle.signal.proofs.Levels.{test-22, test-20, baudot-at, edt-at, keys-on, keys-off}
 use Rattle.signal.proofs.Lengths.{baudot-165, baudot-150, edt-100}
 use Rattle.access.specs.declared.OnLine.{OnLine}
-use Rattle.access.specs.Line.{inBurst, partMs, levelOn}
-use Rattle.access.specs.Range.{LineIn}
+use Rattle.access.specs.Line.{inBurst, partMs}
 use Rattle.access.proofs.Laws.{within, level-preamble, level-code}
 use Rattle.stretching.specs.Cores.{further}
-use Rattle.stretching.specs.Levels.{codeLevel, partLevel, evenMs}
+use Rattle.stretching.specs.Stretches.{Ends}
+use Rattle.stretching.specs.Levels.{codeLevel, partLevel, evenMs, elementAt, elementEnd, frameOf, Framed}
+use Rattle.stretching.proofs.CoreLaws.{few-codes, longest-480}
 
--- ---- the next ms with the same level
+-- ---- keys
 
-pub even-some : (mode : Mode) (at : ℕ) → 1 ≤ evenMs mode at
+pub even-some : (at : ℕ) → 1 ≤ evenMs at
 unfolding evenMs
-even-some Baudot45 at = omega arith
-even-some Baudot50 at = omega arith
-even-some Dtmf at = go (ltb (at % 120) 70) refl
+even-some at = go (ltb (at % 120) 70) refl
   where
     go : (b : Bool) → ltb (at % 120) 70 ≡ b → 1 ≤ cond b (70 - at % 120) (120 - at % 120)
     go true e = let l = ltb-true (at % 120) 70 e in omega arith
     go false e = omega arith
-even-some Edt at = omega arith
 
-pub even-same : (mode : Mode) (k at j : ℕ) → k < codes (alphabetOf mode) → j < evenMs mode at → at + j < length (signal mode k)
-    → codeLevel mode k at j ≡ getD (signal mode k) at 0
+pub even-same : (k at j : ℕ) → j < evenMs at → codeLevel Dtmf k at j ≡ getD (signal Dtmf k) at 0
 unfolding evenMs signal
-even-same Baudot45 k at j h g l =
-    let n = baudot-165 k in
-    let q : (at + j) / 22 ≡ at / 22 = omega arith in
-    baudot-at 22 165 test-22 k h (at + j) (omega arith) ∙ ap (frameLevel (192 + 2 * k)) q ∙ sym (baudot-at 22 165 test-22 k h at (omega arith))
-even-same Baudot50 k at j h g l =
-    let n = baudot-150 k in
-    let q : (at + j) / 20 ≡ at / 20 = omega arith in
-    baudot-at 20 150 test-20 k h (at + j) (omega arith) ∙ ap (frameLevel (192 + 2 * k)) q ∙ sym (baudot-at 20 150 test-20 k h at (omega arith))
-even-same Dtmf k at j h g l = go (ltb (at % 120) 70) refl g
+even-same k at j = go (ltb (at % 120) 70) refl
   where
     go : (b : Bool) → ltb (at % 120) 70 ≡ b → j < cond b (70 - at % 120) (120 - at % 120) → codeLevel Dtmf k at j ≡ getD (signal Dtmf k) at 0
     go true e m =
@@ -61,10 +50,51 @@ even-same Dtmf k at j h g l = go (ltb (at % 120) 70) refl g
     go false e m =
         let o = ltb-false (at % 120) 70 e in
         keys-off (keysOf k) (at + j) (omega arith) ∙ sym (keys-off (keysOf k) at o)
-even-same Edt k at j h g l =
-    let n = edt-100 k in
-    let q : 11 * (at + j) / 100 ≡ 11 * at / 100 = omega arith in
-    edt-at k (at + j) h (omega arith) ∙ ap (frameLevel (edtFrame k)) q ∙ sym (edt-at k at h (omega arith))
+
+-- ---- frames
+
+pub framed-45 : Framed Baudot45
+unfolding signal frameOf elementAt
+framed-45 = record {
+  level = λ (k m : ℕ) (h : k < 32) (l : m < length (signal Baudot45 k)). let n = baudot-165 k in baudot-at 22 165 test-22 k h m (omega arith);
+  few = λ (m : ℕ) (h : m < 165). omega arith;
+}
+
+pub framed-50 : Framed Baudot50
+unfolding signal frameOf elementAt
+framed-50 = record {
+  level = λ (k m : ℕ) (h : k < 32) (l : m < length (signal Baudot50 k)). let n = baudot-150 k in baudot-at 20 150 test-20 k h m (omega arith);
+  few = λ (m : ℕ) (h : m < 150). omega arith;
+}
+
+pub framed-edt : Framed Edt
+unfolding signal frameOf elementAt
+framed-edt = record {
+  level = λ (k m : ℕ) (h : k < 128) (l : m < length (signal Edt k)). let n = edt-100 k in edt-at k m h (omega arith);
+  few = λ (m : ℕ) (h : m < 100). omega arith;
+}
+
+-- the ms of an element
+pub element-ends : (mode : Mode) (m : ℕ) → m < elementEnd mode (elementAt mode m)
+unfolding elementAt elementEnd
+element-ends Baudot45 m = omega arith
+element-ends Baudot50 m = omega arith
+element-ends Dtmf m = omega arith
+element-ends Edt m = omega arith
+
+pub element-next : (mode : Mode) (j : ℕ) → elementAt mode (elementEnd mode j) ≡ j + 1
+unfolding elementAt elementEnd
+element-next Baudot45 j = omega arith
+element-next Baudot50 j = omega arith
+element-next Dtmf j = omega arith
+element-next Edt j = omega arith
+
+pub element-same : (mode : Mode) (m k : ℕ) → m ≤ k → k < elementEnd mode (elementAt mode m) → elementAt mode k ≡ elementAt mode m
+unfolding elementAt elementEnd
+element-same Baudot45 m k h l = omega arith
+element-same Baudot50 m k h l = omega arith
+element-same Dtmf m k h l = omega arith
+element-same Edt m k h l = omega arith
 
 -- ---- the loop that writes them
 
@@ -105,7 +135,7 @@ module _ (f : ℕ → ℕ) (sent₀ : List ℕ) (from to : ℕ) where
         let w = length-replicate (end - i) level in
         let z : end ≡ i + length run = omega arith in
         let t : tabulate f (to - i) (i - from) ≡ run ++ rest =
-          ap (λ (q : ℕ). tabulate f q (i - from)) n ∙ tabulate-run f (end - i) (to - end) (i - from) level h ∙ ap (λ (q : ℕ). run ++ tabulate f (to - end) q) a in
+        ap (λ (q : ℕ). tabulate f q (i - from)) n ∙ tabulate-run f (end - i) (to - end) (i - from) level h ∙ ap (λ (q : ℕ). run ++ tabulate f (to - end) q) a in
         record {
           size = ap length e ∙ length-sets sent i run ∙ p .size;
           low = omega arith;
@@ -127,7 +157,7 @@ tabulate-as f g (suc n) a h =
     let o = h a (omega arith) in
     λ j. o j ∷ rest j
 
-level-same : (n i level : ℕ) → tabulate (λ (k : ℕ). level) n i ≡ replicate n level
+pub level-same : (n i level : ℕ) → tabulate (λ (k : ℕ). level) n i ≡ replicate n level
 unfolding tabulate
 level-same zero i level = refl
 level-same (suc n) i level = ap (λ (l : List ℕ). level ∷ l) (level-same n (suc i) level)
@@ -142,25 +172,13 @@ module _ (mode : Mode) (l : OnLine) (n : ℕ) (h : l .at + n ≤ length (partMs 
   code-levels e = sym (tabulate-as (partLevel mode l) (codeLevel mode (l .code) (l .at)) n 0 (λ (k : ℕ) (g : k < 0 + n). level-code mode (further l k) e))
 
 -- no code is longer than four keys
-few-codes : (mode : Mode) → codes (alphabetOf mode) ≤ 256
-few-codes Baudot45 = omega arith
-few-codes Baudot50 = omega arith
-few-codes Dtmf = omega arith
-few-codes Edt = omega arith
-
-longest-480 : (mode : Mode) → longest mode ≤ 480
-longest-480 Baudot45 = omega arith
-longest-480 Baudot50 = omega arith
-longest-480 Dtmf = omega arith
-longest-480 Edt = omega arith
-
 pub record Short (mode : Mode) (k : ℕ) : Type 0 where
   pub longest : length (signal mode k) ≤ longest mode
   pub most : length (signal mode k) ≤ 480
 
 pub short : (mode : Mode) (k : ℕ) → k < codes (alphabetOf mode) → Short mode k
 short mode k h =
-    let f = few-codes mode in
+    let f = few-codes (alphabetOf mode) in
     let l = longest-480 mode in
     let w = within mode k (omega arith) in
     record { longest = w; most = omega arith }
@@ -168,3 +186,66 @@ short mode k h =
 -- a part in a burst that is not the preamble is a code
 pub code-part : (l : OnLine) → l .part ≤ 2 → inBurst l ≡ true → (l .part ≡ 1 → ⊥) → l .part ≡ 2
 code-part l h b n = let z = eqb-false (l .part) 0 (not-true (eqb (l .part) 0) b) in omega arith
+
+-- ---- the loop that writes a frame: what is left, and the element of the next ms
+
+pub record Framing (mode : Mode) (code at : ℕ) (sent₀ : List ℕ) (from to : ℕ) (sent : List ℕ) (i j : ℕ) : Type 0 where
+  pub putting : Putting (codeLevel mode code at) sent₀ from to sent i
+  pub element : i < to → j ≡ elementAt mode (at + (i - from))
+
+module _ (mode : Mode) (framed : Framed mode) (code at : ℕ) (h : code < codes (alphabetOf mode)) (sent₀ : List ℕ) (from to : ℕ) (fits : at + (to - from) ≤ length (signal mode code)) where
+  pub framing-start : from ≤ to → (j : ℕ) → j ≡ elementAt mode at → Framing mode code at sent₀ from to sent₀ from j
+  framing-start l j e =
+      let z : at ≡ at + (from - from) = omega arith in
+      record { putting = putting-start (codeLevel mode code at) sent₀ from to l; element = λ (g : from < to). e ∙ ap (elementAt mode) z }
+
+  module _ (sent : List ℕ) (i j : ℕ) (p : Framing mode code at sent₀ from to sent i j) (g : i < to) where
+    abbrev m : ℕ
+    m = at + (i - from)
+
+    ends-later : m < elementEnd mode j
+    ends-later = rw (p .element g) (element-ends mode m)
+
+    pub element-few : j < 16
+    element-few = let s = short mode code h .longest in let low = p .putting .low in rw (p .element g) (framed .few m (omega arith))
+
+    pub element-some : at < elementEnd mode j
+    element-some = let e = ends-later in omega arith
+
+    module _ (end : ℕ) (e : Ends from (elementEnd mode j - at) to end) where
+      pub framing-further : i < end
+      framing-further = go (ltb end to) refl
+        where
+          go : (b : Bool) → ltb end to ≡ b → i < end
+          go true f =
+              let x = e .full (ltb-true end to f) in
+              let y = ends-later in
+              let low = p .putting .low in
+              omega arith
+          go false f = let x = ltb-false end to f in omega arith
+
+      even : (k : ℕ) → k < end - i → codeLevel mode code at (i - from + k) ≡ levelOf (frameOf mode code / 2 ^ j % 2)
+      even k l =
+          let z : at + (i - from + k) ≡ m + k = omega arith in
+          let few = e .few in
+          let high = e .high in
+          let some = element-some in
+          let low = p .putting .low in
+          let q = p .element g in
+          let before : m + k < elementEnd mode (elementAt mode m) = rw q at (let t : m + k < elementEnd mode j = omega arith in t) in
+          let s : elementAt mode (m + k) ≡ j = element-same mode m (m + k) (omega arith) before ∙ sym q in
+          ap (λ (a : ℕ). getD (signal mode code) a 0) z ∙ framed .level code (m + k) h (omega arith) ∙ ap (λ (a : ℕ). levelOf (frameOf mode code / 2 ^ a % 2)) s
+
+      pub framing-turn : (frame level : ℕ) → frame ≡ frameOf mode code → level ≡ levelOf (frame / 2 ^ j % 2)
+          → (sent' : List ℕ) → sent' ≡ sets sent i (replicate (end - i) level) → Framing mode code at sent₀ from to sent' end (j + 1)
+      framing-turn frame level ef el sent' es =
+          let further = framing-further in
+          let some = element-some in
+          let same = el ∙ ap (λ (f : ℕ). levelOf (f / 2 ^ j % 2)) ef in
+          record {
+            putting = putting-turn (codeLevel mode code at) sent₀ from to sent i (p .putting) end level (omega arith) (e .high) (λ (k : ℕ) (l : k < end - i). even k l ∙ sym same) sent' es;
+            element = λ (l : end < to).
+                let x = e .full l in
+                let z : elementEnd mode j ≡ at + (end - from) = omega arith in
+                sym (element-next mode j) ∙ ap (elementAt mode) z;
+          }

@@ -2,10 +2,10 @@
 use mathlib.Core.Path.{_≡_, _∙_, refl, sym, ap}
 use mathlib.Core.Bool.{true}
 use mathlib.Core.List.{List, [], _∷_, _++_}
-use Prim.Native.Nat.{ℕ, suc, _+_, _-_, _≤_, _<_}
+use Prim.Native.Nat.{ℕ, suc, _+_, _-_, _≤_}
 use native.Mathlib.Nat.{add-assoc}
 use native.Mathlib.Omega.{arith}
-use lib.ListN.{length, take, drop, drop-of-length-le, take-append-drop, length-append}
+use lib.ListN.{length, drop, drop-of-length-le, take-append-drop, length-append}
 use lib.Seq.{sets, length-sets, drop-drop}
 use Rattle.lists.specs.Lists.{allAtMost}
 use Rattle.lists.specs.Steps.{stateAfter, outputs}
@@ -13,17 +13,16 @@ use borrow.Author.Tests.{le-leb}
 use Rattle.lists.proofs.Lists.{sets-append, at-most-head, at-most-tail, at-most-drop}
 use Rattle.alphabet.specs.declared.Mode.{Mode}
 use Rattle.alphabet.specs.declared.Mode.the-variants.{Baudot45, Baudot50, Dtmf, Edt}
-use Rattle.line.specs.declared.Event.{Event}
-use Rattle.line.specs.declared.Event.the-variants.{Character, Fault, Nothing}
 use Rattle.line.specs.Words.{wordOf, wordsOf}
 use Rattle.access.specs.declared.Core.{Core}
 use Rattle.access.specs.Core.{modeIn, coreFrom}
 use Rattle.station.specs.declared.Station.{Station}
-use Rattle.station.specs.Station.{station, modeOfStation, stationMs, sentMs, eventOf, stationAfter, sentBy, wordsBy}
+use Rattle.station.specs.Station.{station, modeOfStation, stationMs, eventOf, stationAfter, sentBy, wordsBy}
 use Rattle.station.specs.Range.{inRange}
 use Rattle.station.specs.Entries.{highestLevel}
 use Rattle.station.proofs.Range.{after-full, after-in}
-use Rattle.station.proofs.Cuts.{Cut, cut}
+use Rattle.station.proofs.Cuts.{cut}
+use Rattle.hearing.proofs.Fold.{one-word}
 use Rattle.stretching.specs.declared.Stretched.{Stretched}
 use Rattle.stretching.specs.Stretches.{between, Stretches}
 use Rattle.stretching.proofs.Laws.{at-most-take}
@@ -34,11 +33,6 @@ sent-length : (s : Station) (xs : List ℕ) → length (sentBy s xs) ≡ length 
 unfolding outputs
 sent-length s [] = refl
 sent-length s (x ∷ xs) = ap suc (sent-length (stationMs s x) xs)
-
-one-word : (e : Event) → length (wordOf e) ≤ 1
-one-word (Character c) = omega arith
-one-word Fault = omega arith
-one-word Nothing = omega arith
 
 few-words : (s : Station) (xs : List ℕ) → length (wordsBy s xs) ≤ length xs
 unfolding outputs wordsOf
@@ -127,9 +121,9 @@ module _ (heard chars₀ sent₀ words₀ : List ℕ) (c₀ : Core) where
         let sl : length (sentBy s xs) ≡ x .at - i = sent-length s xs ∙ size in
         let sa : x .at ≡ i + length (sentBy s xs) = omega arith in
         let st : sentBy s xs ++ us ≡ sentBy s (drop i heard) =
-          ap (λ (z : Station). sentBy s xs ++ sentBy z ys) (t .after) ∙ sym (k .sent) ∙ sym (ap (sentBy s) a) in
+        ap (λ (z : Station). sentBy s xs ++ sentBy z ys) (t .after) ∙ sym (k .sent) ∙ sym (ap (sentBy s) a) in
         let wt : ws ++ vs ≡ wordsBy s (drop i heard) =
-          ap (λ (z : Station). ws ++ wordsBy z ys) (t .after) ∙ sym (k .words) ∙ sym (ap (wordsBy s) a) in
+        ap (λ (z : Station). ws ++ wordsBy z ys) (t .after) ∙ sym (k .words) ∙ sym (ap (wordsBy s) a) in
         record {
           sent-size = ap length (t .sent) ∙ length-sets sent₁ i (sentBy s xs) ∙ l .sent-size;
           words-size = ap length (t .words) ∙ length-sets words₁ n ws ∙ l .words-size;

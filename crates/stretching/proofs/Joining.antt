@@ -1,14 +1,13 @@
 -- What a stretch does is what its ms do one after the other.
-use mathlib.Core.Path.{_≡_, _∙_, refl, sym, ap}
-use mathlib.Core.Bool.{Bool, true, false}
-use mathlib.Core.List.{List, [], _∷_, _++_, append-nil}
-use Prim.Native.Nat.{ℕ, zero, suc, _+_, _-_, _≤_, _<_}
+use mathlib.Core.Path.{_≡_, _∙_, sym, ap}
+use mathlib.Core.Bool.{true, false}
+use mathlib.Core.List.{List, [], _∷_, append-nil}
+use Prim.Native.Nat.{ℕ, _+_, _-_, _≤_, _<_}
 use native.Mathlib.Omega.{arith}
 use lib.ListN.{length, getD, take, drop, set, replicate, length-drop}
 use lib.Seq.{sets, drop-cons, length-take-le}
 use Rattle.lists.specs.Tables.{tabulate}
 use Rattle.lists.specs.Steps.{stateAfter, outputs}
-use Rattle.alphabet.specs.declared.Mode.{Mode}
 use Rattle.line.specs.declared.Reader.{Reader}
 use Rattle.line.specs.Words.{wordOf, wordsOf, readerAfter, words}
 use Rattle.access.specs.declared.Core.{Core}
@@ -16,12 +15,12 @@ use Rattle.access.specs.declared.Stepped.{Stepped}
 use Rattle.access.specs.Line.{inBurst, partMs, isOver}
 use Rattle.access.specs.Core.{modeIn, stepped}
 use Rattle.station.specs.declared.Station.{Station}
-use Rattle.station.specs.Station.{station, front, charsAfter, stationMs, sentMs, eventOf, stationAfter, sentBy, wordsBy}
-use Rattle.stretching.specs.declared.Stretched.{Stretched}
+use Rattle.station.specs.Station.{station, charsAfter, stationMs, sentMs, eventOf, stationAfter, sentBy, wordsBy}
 use Rattle.stretching.specs.Cores.{silenceOver, sentFor, deafFor, listened}
 use Rattle.stretching.specs.Levels.{partLevel}
 use Rattle.stretching.specs.Stretches.{between, Stretches}
-use Rattle.stretching.proofs.Laws.{Walk, deaf-walk, part-walk, Listens, listens}
+use Rattle.stretching.proofs.Elements.{level-same}
+use Rattle.stretching.proofs.Laws.{Walk, deaf-walk, part-walk, listens}
 
 pub between-length : (heard : List ℕ) (i to : ℕ) → to ≤ length heard → length (between i to heard) ≡ to - i
 between-length heard i to h = let d = length-drop i heard in length-take-le (to - i) (drop i heard) (omega arith)
@@ -33,11 +32,6 @@ between-one heard i h =
 
 walk-to : {s : Station} {xs : List ℕ} {c d : Core} {chars : List ℕ} {levels : ℕ → ℕ} → Walk s xs (station c chars) levels → c ≡ d → Walk s xs (station d chars) levels
 walk-to {chars = chars} w e = record { after = w .after ∙ ap (λ (k : Core). station k chars) e; sent = w .sent; words = w .words }
-
-tabulate-same : (n i level : ℕ) → tabulate (λ (k : ℕ). level) n i ≡ replicate n level
-unfolding tabulate
-tabulate-same zero i level = refl
-tabulate-same (suc n) i level = ap (λ (l : List ℕ). level ∷ l) (tabulate-same n (suc i) level)
 
 module _ (heard : List ℕ) (c : Core) (chars sent words₀ : List ℕ) (i n : ℕ) where
   -- one ms
@@ -93,7 +87,7 @@ module _ (heard : List ℕ) (c : Core) (chars sent words₀ : List ℕ) (i n : �
         let l = between-length heard i to high in
         let xs = between i to heard in
         let w = walk-to (deaf-walk c chars p xs (omega arith) s (λ (o : 1 ≤ c .waiting). let y = free o in omega arith)) (ap (deafFor c) l ∙ sym e) in
-        walk-stretch to low high d (λ (k : ℕ). 0) w sent' (es ∙ sym (ap (sets sent i) (tabulate-same (to - i) 0 0)))
+        walk-stretch to low high d (λ (k : ℕ). 0) w sent' (es ∙ sym (ap (sets sent i) (level-same (to - i) 0 0)))
 
     pub listen-stretch : c .line .part ≡ 0 → c .inhibited ≡ 0 → (1 ≤ c .waiting → c .silence + (to - i) ≤ 300)
         → (silence : ℕ) → silence ≡ silenceOver (c .silence) (between i to heard)

@@ -1,35 +1,36 @@
 -- Ms that go alike: what they do one after the other.
-use mathlib.Core.Path.{_≡_, _∙_, refl, sym, ap}
-use mathlib.Core.Bool.{Bool, true, false, cond, not, _&&_, _||_, and-false}
+use mathlib.Core.Path.{_≡_, _∙_, refl, ap}
+use mathlib.Core.Bool.{Bool, true, false, cond, not, _&&_, and-false}
 use mathlib.Core.List.{List, [], _∷_, _++_}
 use Prim.Native.Nat.{ℕ, zero, suc, _+_, _-_, _≤_, _<_}
 use native.Mathlib.Omega.{arith}
 use lib.Dec.{eqb, leb, ltb}
 use lib.ListN.{length, take, replicate}
-use borrow.Author.Tests.{eqb-true, eqb-false, lt-ltb, le-ltb, lt-leb, eq-eqb, ne-eqb, ltb-true, ltb-false}
+use borrow.Author.Tests.{eqb-true, lt-ltb, lt-leb, eq-eqb, ltb-true, ltb-false}
 use Rattle.lists.specs.Lists.{allAtMost}
 use Rattle.lists.proofs.Lists.{and-left, and-right}
 use Rattle.lists.specs.Tables.{tabulate}
 use Rattle.lists.specs.Steps.{stateAfter, outputs}
 use Rattle.alphabet.specs.declared.Mode.{Mode}
+use Rattle.frames.specs.Frames.{hunting}
 use Rattle.keys.specs.declared.Keys.{Keys}
 use Rattle.keys.specs.Keys.{needs, keyStep}
-use Rattle.line.specs.declared.Event.{Event}
 use Rattle.line.specs.declared.Event.the-variants.{Nothing}
 use Rattle.line.specs.declared.Reader.{Reader}
-use Rattle.line.specs.Reader.{hear, inhibited}
+use Rattle.line.specs.Reader.{reader, hear, inhibited}
 use Rattle.line.specs.Words.{wordOf, wordsOf, readerAfter, words}
 use Rattle.access.specs.declared.Core.{Core}
 use Rattle.access.specs.declared.OnLine.{OnLine}
 use Rattle.access.specs.declared.Loaded.{Loaded}
-use Rattle.access.specs.Rules.{mayBegin, isInhibited, isSilent, mayEnd}
+use Rattle.access.specs.Rules.{mayBegin, isInhibited, isSilent}
 use Rattle.access.specs.Line.{onLine, inBurst, partMs, isOver, begun, loaded, nextCode, levelOn, oneGone, closed}
 use Rattle.access.specs.Core.{core, silenceAfter, eventMs, modeIn, settled, coreFrom}
 use Rattle.access.proofs.Laws.{level-over, not-over, gone-none, gone-one, stays-left}
 use Rattle.station.specs.declared.Station.{Station}
-use Rattle.station.specs.Station.{station, front, charsAfter, stationMs, sentMs, eventOf, stationAfter, sentBy, eventsBy, wordsBy}
+use Rattle.station.specs.Station.{station, front, charsAfter, stationMs, sentMs, eventOf, stationAfter, sentBy, wordsBy}
 use Rattle.stretching.specs.Levels.{partLevel}
 use Rattle.stretching.specs.Cores.{silenceFor, silenceNext, silenceOver, deafReader, burstLeft, further, sentFor, deafFor, listened}
+use Rattle.stretching.proofs.CoreLaws.{silence-none}
 
 pub at-most-take : (m n : ℕ) (xs : List ℕ) → allAtMost m xs ≡ true → allAtMost m (take n xs) ≡ true
 unfolding allAtMost
@@ -107,13 +108,6 @@ silence-more s n = go (ltb (s + n) 300) refl (ltb (s + suc n) 300) refl
     go false e true f = let h = ltb-true (s + suc n) 300 f in let g = ltb-false (s + n) 300 e in absurd (omega arith)
     go false e false f = refl
 
-silence-none : (s : ℕ) → s ≤ 300 → silenceFor s 0 ≡ s
-silence-none s h = go (ltb (s + 0) 300) refl
-  where
-    go : (a : Bool) → ltb (s + 0) 300 ≡ a → cond a (s + 0) 300 ≡ s
-    go true e = omega arith
-    go false e = let g = ltb-false (s + 0) 300 e in omega arith
-
 keys-quiet : (k : Keys) → keyStep k 0 .keys ≡ needs (k .needed - 1)
 unfolding keyStep
 keys-quiet k = go (eqb (k .needed) 0) refl
@@ -125,7 +119,7 @@ keys-quiet k = go (eqb (k .needed) 0) refl
 reader-more : (r : Reader) (n : ℕ) → inhibited (deafReader r n) ≡ deafReader r (suc n)
 unfolding inhibited deafReader
 reader-more r zero = rw keys-quiet refl
-reader-more r (suc n) = rw (keys-quiet (needs (r .keys .needed - suc n))) (ap (λ (m : ℕ). Rattle.line.specs.Reader.reader Rattle.frames.specs.Frames.hunting (needs m) (r .shift) (r .prefix)) (omega arith))
+reader-more r (suc n) = rw (keys-quiet (needs (r .keys .needed - suc n))) (ap (λ (m : ℕ). reader hunting (needs m) (r .shift) (r .prefix)) (omega arith))
 
 -- ---- no burst
 
@@ -194,13 +188,13 @@ module _ (c : Core) (chars : List ℕ) (e : c .line .part ≡ 0) where
       → Walk (station c chars) xs (station (deafFor c (length xs)) chars) (λ (k : ℕ). 0)
   deaf-walk xs h s w =
       let go : Walk (station (deafFor c 0) chars) xs (station (deafFor c (length xs)) chars) (λ (k : ℕ). 0) =
-        walk (λ (k : ℕ). station (deafFor c k) chars) (λ (k : ℕ). 0) xs
-        (λ (k x : ℕ) (g : k < length xs). deaf-step k x (omega arith) (λ (q : 1 ≤ c .waiting). let r = w q in omega arith)) in
+      walk (λ (k : ℕ). station (deafFor c k) chars) (λ (k : ℕ). 0) xs
+      (λ (k x : ℕ) (g : k < length xs). deaf-step k x (omega arith) (λ (q : 1 ≤ c .waiting). let r = w q in omega arith)) in
       rw deaf-none at go
 
 -- ---- the ms of a part
 
-module _ (mode : Mode) (l : OnLine) (b : inBurst l ≡ true) (k : ℕ) (h : l .at + k < length (partMs mode l)) where
+module _ (mode : Mode) (l : OnLine) (k : ℕ) (h : l .at + k < length (partMs mode l)) where
   further-left : isOver mode (further l k) ≡ false
   unfolding isOver partMs
   further-left = rw (lt-leb (length (partMs mode l)) (l .at + k) h, and-false) refl
@@ -220,13 +214,13 @@ module _ (c : Core) (chars : List ℕ) (b : inBurst (c .line) ≡ true) where
   part-step k x h =
       let mode = modeIn c in
       let d = core (c .waiting) (silenceFor (c .silence) k) (burstLeft (c .inhibited) k) (further (c .line) k) (c .sender) (deafReader (c .reader) k) (c .mode) in
-      let stays = further-stays mode (c .line) b k h (c .waiting) in
+      let stays = further-stays mode (c .line) k h (c .waiting) in
       let same : sentFor c k ≡ d = λ j. core (c .waiting) (silenceFor (c .silence) k) (burstLeft (c .inhibited) k) (stays j) (c .sender) (deafReader (c .reader) k) (c .mode) in
       let t : (mayBegin (c .waiting) (silenceFor (c .silence) k) && not (inBurst (c .line))) ≡ false = rw (b, and-false) refl in
-      let o = one-settled (station d chars) x (settled-by d _ t (further-left mode (c .line) b k h)) in
+      let o = one-settled (station d chars) x (settled-by d _ t (further-left mode (c .line) k h)) in
       let silence : silenceAfter (isSilent (isInhibited (inBurst (c .line)) (burstLeft (c .inhibited) k)) x) (silenceFor (c .silence) k) ≡ silenceFor (c .silence) (suc k) = rw b (silence-more (c .silence) k) in
       let left : cond (inBurst (c .line)) 300 (burstLeft (c .inhibited) k - 1) ≡ 300 = rw b refl in
-      let line = ap (closed mode (c .waiting)) (further-gone mode (c .line) b k h) in
+      let line = ap (closed mode (c .waiting)) (further-gone mode (c .line) k h) in
       let reader : cond (isInhibited (inBurst (c .line)) (burstLeft (c .inhibited) k)) (inhibited (deafReader (c .reader) k)) (hear mode (deafReader (c .reader) k) x .reader) ≡ deafReader (c .reader) (suc k) = rw b (reader-more (c .reader) k) in
       let step : Step (station d chars) x (station (sentFor c (suc k)) chars) (levelOn mode (further (c .line) k)) = record {
         after = o .after ∙ (λ j. station (core (c .waiting) (silence j) (left j) (line j) (c .sender) (reader j) (c .mode)) chars);
@@ -248,7 +242,7 @@ module _ (c : Core) (chars : List ℕ) (b : inBurst (c .line) ≡ true) where
   part-walk xs v s f =
       let levels = partLevel (modeIn c) (c .line) in
       let go : Walk (station (sentFor c 0) chars) xs (station (sentFor c (length xs)) chars) levels =
-        walk (λ (k : ℕ). station (sentFor c k) chars) levels xs (λ (k x : ℕ) (g : k < length xs). part-step k x (omega arith)) in
+      walk (λ (k : ℕ). station (sentFor c k) chars) levels xs (λ (k x : ℕ) (g : k < length xs). part-step k x (omega arith)) in
       rw part-none at go
 
 -- ---- ms that the receiver hears

@@ -1,7 +1,7 @@
 // Cores after some ms that go alike.
-use access::sending;
 use access::Core;
 use access::OnLine;
+use access::sending;
 use alphabet::Mode;
 use frames::Frame;
 use keys::Keys;

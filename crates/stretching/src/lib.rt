@@ -1,6 +1,6 @@
 // The ms of a run, in stretches.
-use access::sending;
 use access::Core;
+use access::sending;
 use alphabet::Mode;
 ghost use mathlib.Core.Path.{_≡_};
 ghost use mathlib.Core.Bool.{true};
@@ -32,7 +32,15 @@ pub struct Stretched {
 }
 
 // The next stretch: a ms in which sending is settled; the ms of a part; inhibited ms; ms that the receiver hears.
-fn stretch(c: Core, chars: &mut [u8], heard: &[u8], i: usize, sent: &mut [u8], words: &mut [u32], n: usize) -> Stretched
+fn stretch(
+    c: Core,
+    chars: &mut [u8],
+    heard: &[u8],
+    i: usize,
+    sent: &mut [u8],
+    words: &mut [u32],
+    n: usize,
+) -> Stretched
     requires { ⌜ inRange (station c (now chars)) ≡ true ⌝ }
     requires { ⌜ length (now chars) ≡ 256 ⌝ }
     requires { ⌜ allAtMost 16 (now heard) ≡ true ⌝ }

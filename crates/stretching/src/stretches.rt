@@ -1,9 +1,9 @@
 // The stretches of a run.
+use crate::Stretched;
 use crate::cores;
 use crate::levels;
-use crate::Stretched;
-use access::sending;
 use access::Core;
+use access::sending;
 use alphabet::Mode;
 ghost use mathlib.Core.Path.{_≡_};
 ghost use mathlib.Core.Bool.{true, false};
@@ -44,7 +44,15 @@ fn free_end(waiting: u16, silence: u16, i: usize, len: usize) -> usize
 }
 
 // One ms in which sending is settled anew.
-pub fn settle(c: Core, chars: &mut [u8], heard: &[u8], i: usize, sent: &mut [u8], words: &mut [u32], n: usize) -> Stretched
+pub fn settle(
+    c: Core,
+    chars: &mut [u8],
+    heard: &[u8],
+    i: usize,
+    sent: &mut [u8],
+    words: &mut [u32],
+    n: usize,
+) -> Stretched
     requires { ⌜ CoreIn c ⌝ }
     requires { ⌜ length (now chars) ≡ 256 ⌝ }
     requires { ⌜ (1 ≤ c .waiting → front (station c (now chars)) < 128) ⌝ }
@@ -110,7 +118,14 @@ pub fn wait(c: Core, heard: &[u8], i: usize, sent: &mut [u8], n: usize) -> Stret
 }
 
 // Ms that the receiver hears, up to one in which a burst may begin.
-pub fn listen(c: Core, heard: &[u8], i: usize, sent: &mut [u8], words: &mut [u32], n: usize) -> Stretched
+pub fn listen(
+    c: Core,
+    heard: &[u8],
+    i: usize,
+    sent: &mut [u8],
+    words: &mut [u32],
+    n: usize,
+) -> Stretched
     requires { ⌜ CoreIn c ⌝ }
     requires { ⌜ c .line .part ≡ 0 ⌝ }
     requires { ⌜ mayBegin (c .waiting) (c .silence) ≡ false ⌝ }

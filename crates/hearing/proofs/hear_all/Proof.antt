@@ -11,11 +11,6 @@ use borrow.Author.Needs.{needs}
 use Rattle.hearing.proofs.Fold.{Left, left-start, left-turn, left-reader, left-place, left-slice}
 use Rattle.hearing.proofs.hear_all.Statement.{statement}
 use Rattle.hearing.proofs.hear_all.Tie as tie
-use Rattle.hearing.proofs.hear_all.Reads as reads
-use Rattle.hearing.proofs.hear_all.Lts as lts
-use Rattle.hearing.proofs.skip.Reads as skip-reads
-use Rattle.line.proofs.hear.Reads as hear-reads
-use Rattle.line.proofs.words.put_word.Reads as put-word-reads
 
 abbrev Inv-loop : tie.InvT-loop
 Inv-loop mode heard words₀ at reader₀ i₀ n₀ words reader i n = Left mode heard words₀ reader₀ i₀ n₀ words reader i n

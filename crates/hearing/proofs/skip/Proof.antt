@@ -1,6 +1,6 @@
 -- `skip` meets its contract: frames, or keys.
 use types.Run.{OneOf}
-use mathlib.Core.Path.{_≡_, _∙_, refl, sym, ap, subst}
+use mathlib.Core.Path.{_≡_, refl, sym, subst}
 use mathlib.Core.Bool.{not}
 use mathlib.Core.Logic.{⊎-elim}
 use mathlib.Core.List.{[], _∷_}
@@ -11,7 +11,7 @@ use Rattle.alphabet.specs.declared.Mode.{Mode}
 use Rattle.alphabet.specs.declared.Mode.the-variants.{Baudot45, Baudot50, Dtmf, Edt}
 use Rattle.alphabet.proofs.Mode as declared
 use Rattle.line.specs.declared.Reader.{Reader}
-use Rattle.line.specs.Reader.{hearFrame, hear}
+use Rattle.line.specs.Reader.{hear}
 use Rattle.line.specs.Range.{ReaderIn}
 use Rattle.hearing.specs.Skipping.{Framed, Skips}
 use borrow.Author.Needs.{needs}

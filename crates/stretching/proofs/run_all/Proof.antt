@@ -1,9 +1,8 @@
 -- `run_all` meets its contract. The invariant: what is left, and the slices as written so far.
-use mathlib.Core.Path.{_≡_, _∙_, sym, ap}
+use mathlib.Core.Path.{_∙_, sym, ap}
 use Prim.Native.Nat.{_-_}
 use native.Mathlib.Omega.{arith}
 use lib.ListN.{length}
-use borrow.Author.Needs.{needs}
 use Rattle.access.specs.Core.{modeIn}
 use Rattle.station.specs.declared.Station.{Station}
 use Rattle.stretching.proofs.Fold.{Left, left-start, left-turn, left-station, left-sent, left-place, left-words, levels-16}

@@ -1,6 +1,5 @@
 -- `through` meets its contract. The invariant: what holds up to the place.
 use Prim.Native.Nat.{_-_}
-use native.Mathlib.Omega.{arith}
 use borrow.Author.Needs.{needs}
 use Rattle.hearing.specs.Runs.{Through}
 use Rattle.hearing.proofs.Searching.{through-start, through-turn}

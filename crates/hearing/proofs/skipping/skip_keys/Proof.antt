@@ -9,7 +9,7 @@ returns : tie.Need-returns
 returns c = search needs
 
 skip-key-requires : tie.Need-skip-key-requires
-skip-key-requires c κs = let s = c .before .before .before .before .before .before in let n = c .before .before .if1 .taken in (s .pre .0, (c .if2 .left, (omega arith, s .pre .1)))
+skip-key-requires c κs = let s = c .before .before .before .before .before .before in (s .pre .0, (c .if2 .left, s .pre .1))
 
 returns-2 : tie.Need-returns-2
 returns-2 c = search needs

@@ -1,9 +1,6 @@
 -- `skip_to_sample` meets its contract.
-use mathlib.Core.Path.{_≡_, _∙_, sym, ap}
-use Prim.Native.Nat.{ℕ, _-_}
+use Prim.Native.Nat.{_-_}
 use native.Mathlib.Omega.{arith}
-use lib.ListN.{length}
-use Rattle.hearing.specs.Runs.{UpTo}
 use Rattle.hearing.proofs.Passing.{next-of, place-fits, frame-skips}
 use borrow.Author.Needs.{needs}
 use Rattle.hearing.proofs.skipping.skip_to_sample.Statement.{statement}

@@ -1,7 +1,6 @@
 -- `sent_for` meets its contract.
 use mathlib.Core.Path.{_≡_, _∙_, ap}
 use Rattle.alphabet.specs.declared.Mode.{Mode}
-use Rattle.access.specs.declared.OnLine.{OnLine}
 use Rattle.access.specs.Line.{closed}
 use Rattle.access.specs.Core.{core, modeIn}
 use Rattle.stretching.specs.Cores.{further, sentFor}
@@ -31,7 +30,7 @@ returns c =
     let s = c .before .before .before .before .before .before .before .before .args .c in
     let n = c .before .before .before .before .before .before .before .before .args .n in
     let line : c .before .closed .result ≡ closed (modeIn s) (s .waiting) (further (s .line) n) =
-      c .before .closed .ensures ∙ ap (λ (m : Mode). closed m (s .waiting) (c .before .before .before .before .before .before .further .result)) (c .before .before .of .ensures) ∙ ap (closed (modeIn s) (s .waiting)) (c .before .before .before .before .before .before .further .ensures) in
+    c .before .closed .ensures ∙ ap (λ (m : Mode). closed m (s .waiting) (c .before .before .before .before .before .before .further .result)) (c .before .before .of .ensures) ∙ ap (closed (modeIn s) (s .waiting)) (c .before .before .before .before .before .before .further .ensures) in
     λ j. core (s .waiting) (c .before .before .before .silence-for .ensures j) (burst-some (s .inhibited) n (c .before .before .before .before .before .before .before .before .pre .0) j) (line j) (s .sender) (c .deaf-reader .ensures j) (s .mode)
 
 pub sent-for-spec : {M : Type 1} → statement M

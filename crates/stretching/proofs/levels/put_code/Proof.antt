@@ -1,118 +1,78 @@
--- `put_code` meets its contract. The invariant: what is left, and the slice as written so far.
-use mathlib.Core.Path.{_≡_, _∙_, sym, ap}
-use Prim.Native.Nat.{ℕ, _+_, _-_, _<_}
+-- `put_code` meets its contract: a frame, or keys.
+use types.Run.{OneOf}
+use mathlib.Core.Path.{_≡_, _∙_, sym, ap, subst}
+use mathlib.Core.Bool.{not}
+use mathlib.Core.Logic.{⊎-elim}
+use mathlib.Core.List.{[], _∷_}
+use Prim.Native.Nat.{ℕ, _+_, _-_, _<_, _≤_}
 use native.Mathlib.Omega.{arith}
-use lib.ListN.{getD}
-use borrow.Author.Needs.{needs}
+use lib.Dec.{T, T-not, eqb, eqb-refl}
+use lib.ListN.{length}
+use lib.Seq.{sets}
+use denote.Enum.Declared
+use Rattle.lists.specs.Tables.{tabulate}
+use Rattle.alphabet.specs.declared.Mode.{Mode}
+use Rattle.alphabet.specs.declared.Mode.the-variants.{Baudot45, Baudot50, Dtmf, Edt}
+use Rattle.alphabet.specs.Modes.{alphabetOf}
+use Rattle.alphabet.specs.Packing.{codes}
+use Rattle.alphabet.proofs.Mode as declared
 use Rattle.signal.specs.Signal.{signal}
-use Rattle.stretching.specs.Levels.{codeLevel}
-use Rattle.stretching.proofs.Elements.{even-some, even-same, Putting, putting-start, putting-turn, putting-end, Short, short}
+use Rattle.stretching.specs.Levels.{Framed, codeLevel}
+use Rattle.stretching.proofs.Elements.{framed-45, framed-50, framed-edt}
+use borrow.Author.Needs.{needs}
 use Rattle.stretching.proofs.levels.put_code.Statement.{statement}
 use Rattle.stretching.proofs.levels.put_code.Tie as tie
 
-abbrev Inv-loop : tie.InvT-loop
-Inv-loop mode code at sent₀ from to i₀ sent i = Putting (codeLevel mode code at) sent₀ from to sent i
+tag : Mode → ℕ
+tag m = Declared.tagOf declared.the-type m
 
-abbrev μ-loop : tie.MeasureT-loop
-μ-loop mode code at sent₀ from to i₀ sent i = to - i
+never : {A : Type 0} {m n : ℕ} → T (not (eqb m n)) → m ≡ n → A
+never {A} {m} {n} t e = absurd (T-not (eqb m n) t (subst (λ (k : ℕ). T (eqb m k)) e (eqb-refl m)))
 
-loop-holds : tie.Need-loop-holds Inv-loop μ-loop
-loop-holds c = putting-start _ _ _ _ (c .before .pre .1 .1 .0)
+-- any mode but DTMF
+framed : (m : Mode) → OneOf (0 ∷ 1 ∷ 3 ∷ []) (tag m) → Framed m
+unfolding tag
+framed Baudot45 p = framed-45
+framed Baudot50 p = framed-50
+framed Dtmf p = ⊎-elim (never tt) (⊎-elim (never tt) (never tt)) p
+framed Edt p = framed-edt
 
-sub-m : tie.Need-sub-m Inv-loop μ-loop
-sub-m c = let p = c .before .loop .inv .low in omega arith
+enum-told : tie.Need-enum-told
+enum-told c = search needs
 
-add-m : tie.Need-add-m Inv-loop μ-loop
-add-m c =
-    let s = c .before .before .before in
-    let p = c .before .loop .inv .low in
-    let m = short (s .args .mode) (s .args .code) (s .pre .0) in
-    let f = s .pre .1 .0 in
-    let k = m .most in
-    omega arith
+put-frame-requires : tie.Need-put-frame-requires
+unfolding tag
+put-frame-requires c κs = let s = c .before .before .before in (framed _ (c .before .match .keys2), s .pre)
 
-even-ms-requires : tie.Need-even-ms-requires Inv-loop μ-loop
-even-ms-requires c κs =
-    let s = c .before .before .before in
-    let p = c .before .loop .inv .low in
-    let m = short (s .args .mode) (s .args .code) (s .pre .0) in
-    let f = s .pre .1 .0 in
-    let k = m .most in
-    omega arith
+same-length : tie.Need-same-length
+same-length c = search needs
 
-end-of-requires : tie.Need-end-of-requires Inv-loop μ-loop
-end-of-requires c κs = let e = c .even-ms .ensures in (rw e (even-some _ _), c .before .loop-test .taken)
+returns : tie.Need-returns
+returns c = search needs
 
-cast-level : tie.Need-cast-level Inv-loop μ-loop
-cast-level c =
-    let s = c .before .before .before .before .before in
-    let p = c .before .before .before .loop .inv .low in
-    let m = short (s .args .mode) (s .args .code) (s .pre .0) in
-    let f = s .pre .1 .0 in
-    let k = m .most in
-    let t = c .before .before .loop-test .taken in
-    omega arith
+put-keys-requires : tie.Need-put-keys-requires
+put-keys-requires c κs =
+    let s = c .before .before .before .before in
+    let e = c .before .enum-told .given .1 in
+    let l = s .pre .1 .1 .0 in
+    (subst (λ (d : Mode). s .args .code < codes (alphabetOf d)) e (s .pre .0), (subst (λ (d : Mode). s .args .at + (s .args .to - s .args .from) ≤ length (signal d (s .args .code))) e (s .pre .1 .0), (omega arith, s .pre .1 .1 .1)))
 
-level-requires : tie.Need-level-requires Inv-loop μ-loop
-level-requires c κs =
-    let s = c .before .before .before .before .before in
-    let p = c .before .before .before .loop .inv .low in
-    let m = short (s .args .mode) (s .args .code) (s .pre .0) in
-    let f = s .pre .1 .0 in
-    let k = m .longest in
-    let t = c .before .before .loop-test .taken in
-    (s .pre .0, omega arith)
+same-length-2 : tie.Need-same-length-2
+same-length-2 c = search needs
 
-fill-requires : tie.Need-fill-requires Inv-loop μ-loop
-fill-requires c κs =
-    let e = c .before .before .end-of .ensures in
-    let z = c .before .before .before .before .before .loop .inv .size in
-    let q = c .before .before .before .before .before .before .before .pre .1 .1 .1 in
-    (omega arith, omega arith)
-
-loop-less : tie.Need-loop-less Inv-loop μ-loop
-loop-less c = let e = c .before .before .before .before .before .end-of .ensures in omega arith
-
-loop-again : tie.Need-loop-again Inv-loop μ-loop
-loop-again c =
-    let s = c .before .before .before .before .before .before .before .before .before .before in
-    let l = c .before .before .before .before .before .before .before .before .loop .inv in
-    let i = c .before .before .before .before .before .before .before .before .loop .i in
-    let end = c .before .before .before .before .before .end-of .result in
-    let a = s .args .at + (i - s .args .from) in
-    let e = c .before .before .before .before .before .end-of .ensures in
-    let v = c .before .before .before .before .before .before .even-ms .ensures in
-    let f = s .pre .1 .0 in
-    let low = l .low in
-    let same : (k : ℕ) → k < end - i → codeLevel (s .args .mode) (s .args .code) (s .args .at) (i - s .args .from + k) ≡ c .before .before .before .before .level .result =
-      λ (k : ℕ) (g : k < end - i).
-        let few = e .few in
-        let high = e .high in
-        let z : s .args .at + (i - s .args .from + k) ≡ a + k = omega arith in
-        ap (λ (m : ℕ). getD (signal (s .args .mode) (s .args .code)) m 0) z ∙ even-same (s .args .mode) (s .args .code) a k (s .pre .0) (omega arith) (omega arith) ∙ sym (c .before .before .before .before .level .ensures) in
-    putting-turn _ _ _ _ _ _ l end (c .before .before .before .before .level .result) (omega arith) (e .high) same _ (c .before .before .fill .ensures)
-
-same-length : tie.Need-same-length Inv-loop μ-loop
-same-length c = c .before .loop .inv .size
-
-returns : tie.Need-returns Inv-loop μ-loop
-returns c = putting-end _ _ _ _ _ _ (c .before .loop .inv) (c .loop-test .left)
+returns-2 : tie.Need-returns-2
+returns-2 c =
+    let s = c .before .before .before .before .before .before .before .args in
+    c .before .before .put-keys .ensures ∙ sym (ap (λ (d : Mode). sets (s .sent .now) (s .from) (tabulate (codeLevel d (s .code) (s .at)) (s .to - s .from) 0)) (c .before .before .before .before .enum-told .given .1))
 
 pub put-code-spec : {M : Type 1} → statement M
 put-code-spec =
     tie.close
     (tie.spec
-    Inv-loop
-    μ-loop
-    loop-holds
-    sub-m
-    add-m
-    even-ms-requires
-    end-of-requires
-    cast-level
-    level-requires
-    fill-requires
-    loop-less
-    loop-again
+    enum-told
+    put-frame-requires
     same-length
-    returns)
+    returns
+    put-keys-requires
+    same-length-2
+    returns-2)

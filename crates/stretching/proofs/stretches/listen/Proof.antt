@@ -1,12 +1,7 @@
 -- `listen` meets its contract.
-use mathlib.Core.Path.{_≡_, _∙_, sym, ap}
 use mathlib.Core.List.{List}
-use Prim.Native.Nat.{ℕ, _+_, _-_, _≤_}
+use Prim.Native.Nat.{ℕ, _-_}
 use native.Mathlib.Omega.{arith}
-use lib.ListN.{length}
-use lib.Seq.{sets}
-use Rattle.alphabet.specs.declared.Mode.{Mode}
-use Rattle.line.specs.Words.{readerAfter, words}
 use Rattle.lists.proofs.Lists.{at-most-drop}
 use Rattle.stretching.proofs.Joining.{between-length, listen-stretch}
 use Rattle.stretching.proofs.Laws.{at-most-take}

@@ -1,0 +1,96 @@
+-- `put_frame` meets its contract. The invariant: what is left, and the element of the next ms.
+use Prim.Native.Nat.{_-_}
+use native.Mathlib.Omega.{arith}
+use Rattle.stretching.proofs.Elements.{putting-end, short, Framing, framing-start, element-few, element-some, framing-further, framing-turn}
+use Rattle.stretching.proofs.levels.put_frame.Statement.{statement}
+use Rattle.stretching.proofs.levels.put_frame.Tie as tie
+
+abbrev Inv-loop : tie.InvT-loop
+Inv-loop mode code at sent₀ from to frame j₀ i₀ sent j i = Framing mode code at sent₀ from to sent i j
+
+abbrev μ-loop : tie.MeasureT-loop
+μ-loop mode code at sent₀ from to frame j₀ i₀ sent j i = to - i
+
+frame-of-requires : tie.Need-frame-of-requires Inv-loop μ-loop
+frame-of-requires c κs = c .before .pre .1 .0
+
+element-at-requires : tie.Need-element-at-requires Inv-loop μ-loop
+element-at-requires c κs =
+    let s = c .before .before in
+    let m = short (s .args .mode) (s .args .code) (s .pre .1 .0) .most in
+    let f = s .pre .1 .1 .0 in
+    let l = s .pre .1 .1 .1 .0 in
+    omega arith
+
+loop-holds : tie.Need-loop-holds Inv-loop μ-loop
+loop-holds c = let s = c .before .before .before in let l = s .pre .1 .1 .1 .0 in framing-start _ (s .pre .0) _ _ (s .pre .1 .0) _ _ _ (s .pre .1 .1 .0) (omega arith) _ (c .element-at .ensures)
+
+element-end-requires : tie.Need-element-end-requires Inv-loop μ-loop
+element-end-requires c κs = let s = c .before .before .before .before .before in element-few _ (s .pre .0) _ _ (s .pre .1 .0) _ _ _ (s .pre .1 .1 .0) _ _ _ (c .before .loop .inv) (c .loop-test .taken)
+
+sub-end-of : tie.Need-sub-end-of Inv-loop μ-loop
+sub-end-of c = let s = c .before .before .before .before .before .before in let e = c .element-end .ensures in let h = element-some _ (s .pre .0) _ _ (s .pre .1 .0) _ _ _ (s .pre .1 .1 .0) _ _ _ (c .before .before .loop .inv) (c .before .loop-test .taken) in omega arith
+
+end-of-requires : tie.Need-end-of-requires Inv-loop μ-loop
+end-of-requires c κs = let s = c .before .before .before .before .before .before in let e = c .element-end .ensures in let h = element-some _ (s .pre .0) _ _ (s .pre .1 .0) _ _ _ (s .pre .1 .1 .0) _ _ _ (c .before .before .loop .inv) (c .before .loop-test .taken) in (omega arith, s .pre .1 .1 .1 .0)
+
+cast-frame-level : tie.Need-cast-frame-level Inv-loop μ-loop
+cast-frame-level c = let s = c .before .before .before .before .before .before .before in let h = element-few _ (s .pre .0) _ _ (s .pre .1 .0) _ _ _ (s .pre .1 .1 .0) _ _ _ (c .before .before .before .loop .inv) (c .before .before .loop-test .taken) in omega arith
+
+frame-level-requires : tie.Need-frame-level-requires Inv-loop μ-loop
+frame-level-requires c κs = let s = c .before .before .before .before .before .before .before in element-few _ (s .pre .0) _ _ (s .pre .1 .0) _ _ _ (s .pre .1 .1 .0) _ _ _ (c .before .before .before .loop .inv) (c .before .before .loop-test .taken)
+
+fill-requires : tie.Need-fill-requires Inv-loop μ-loop
+fill-requires c κs =
+    let s = c .before .before .before .before .before .before .before .before .before in
+    let e = rw (c .before .before .before .element-end .ensures) at (c .before .before .end-of .ensures) in
+    let l = c .before .before .before .before .before .loop .inv in
+    let z = l .putting .size in
+    let q = s .pre .1 .1 .1 .1 in
+    let f = framing-further _ (s .pre .0) _ _ (s .pre .1 .0) _ _ _ (s .pre .1 .1 .0) _ _ _ l (c .before .before .before .before .loop-test .taken) _ e in
+    let high = e .high in
+    (omega arith, omega arith)
+
+add-j : tie.Need-add-j Inv-loop μ-loop
+add-j c = let s = c .before .before .before .before .before .before .before .before .before .before .before .before in let h = element-few _ (s .pre .0) _ _ (s .pre .1 .0) _ _ _ (s .pre .1 .1 .0) _ _ _ (c .before .before .before .before .before .before .before .before .loop .inv) (c .before .before .before .before .before .before .before .loop-test .taken) in omega arith
+
+loop-less : tie.Need-loop-less Inv-loop μ-loop
+loop-less c =
+    let s = c .before .before .before .before .before .before .before .before .before .before .before .before in
+    let e = rw (c .before .before .before .before .before .before .element-end .ensures) at (c .before .before .before .before .before .end-of .ensures) in
+    let f = framing-further _ (s .pre .0) _ _ (s .pre .1 .0) _ _ _ (s .pre .1 .1 .0) _ _ _ (c .before .before .before .before .before .before .before .before .loop .inv) (c .before .before .before .before .before .before .before .loop-test .taken) _ e in
+    let high = e .high in
+    omega arith
+
+loop-again : tie.Need-loop-again Inv-loop μ-loop
+loop-again c =
+    let s = c .before .before .before .before .before .before .before .before .before .before .before .before in
+    let e = rw (c .before .before .before .before .before .before .element-end .ensures) at (c .before .before .before .before .before .end-of .ensures) in
+    framing-turn _ (s .pre .0) _ _ (s .pre .1 .0) _ _ _ (s .pre .1 .1 .0) _ _ _ (c .before .before .before .before .before .before .before .before .loop .inv) (c .before .before .before .before .before .before .before .loop-test .taken) _ e _ _ (c .before .before .before .before .before .before .before .before .before .before .frame-of .ensures) (c .before .before .before .before .frame-level .ensures) _ (c .before .before .fill .ensures)
+
+same-length : tie.Need-same-length Inv-loop μ-loop
+same-length c = c .before .loop .inv .putting .size
+
+returns : tie.Need-returns Inv-loop μ-loop
+returns c = putting-end _ _ _ _ _ _ (c .before .loop .inv .putting) (c .loop-test .left)
+
+pub put-frame-spec : {M : Type 1} → statement M
+put-frame-spec =
+    tie.close
+    (tie.spec
+    Inv-loop
+    μ-loop
+    frame-of-requires
+    element-at-requires
+    loop-holds
+    element-end-requires
+    sub-end-of
+    end-of-requires
+    cast-frame-level
+    frame-level-requires
+    fill-requires
+    add-j
+    loop-less
+    loop-again
+    same-length
+    returns)
