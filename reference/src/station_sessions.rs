@@ -104,8 +104,10 @@ struct Session<'a> {
 
 /// Lists of at least so many ms in each mode; gives back a summary, a line for each mode.
 pub fn compare(random: &mut Random, ms: u64) -> String {
+    let mut openings = [0; 3];
     for number in 0..=255 {
         opened(number);
+        openings[usize::from(Station::open(number).0)] += 1;
     }
     let met = Mode::ALL.map(|mode| {
         let mut met = Met::default();
@@ -123,7 +125,12 @@ pub fn compare(random: &mut Random, ms: u64) -> String {
         (mode, met)
     });
     let lines: Vec<_> = met.iter().map(|(mode, met)| summary(*mode, met)).collect();
-    format!("stations: no difference; openings of 256 modes\n{}", lines.join("\n"))
+    format!(
+        "stations: no difference; openings {SUCCESS}: {}, {MODE}: {}\n{}",
+        openings[usize::from(SUCCESS)],
+        openings[usize::from(MODE)],
+        lines.join("\n")
+    )
 }
 
 fn summary(mode: Mode, met: &Met) -> String {
