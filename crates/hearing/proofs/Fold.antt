@@ -10,21 +10,14 @@ use lib.Seq.{sets, drop-cons, length-sets}
 use Rattle.lists.specs.Steps.{stateAfter, outputs}
 use Rattle.lists.proofs.Lists.{sets-append}
 use Rattle.alphabet.specs.declared.Mode.{Mode}
-use Rattle.line.specs.declared.Event.{Event}
-use Rattle.line.specs.declared.Event.the-variants.{Character, Fault, Nothing}
 use Rattle.line.specs.declared.Reader.{Reader}
 use Rattle.line.specs.declared.Reading.{Reading}
 use Rattle.line.specs.Reader.{hear}
 use Rattle.line.specs.Range.{ReaderIn}
 use Rattle.line.specs.Words.{wordOf, wordsOf, readerAfter, words}
+use Rattle.line.proofs.WordLists.{one-word}
 use Rattle.hearing.specs.declared.Skipped.{Skipped}
 use Rattle.hearing.specs.Skipping.{Skips}
-
--- at most one word a ms
-pub one-word : (e : Event) → length (wordOf e) ≤ 1
-one-word (Character c) = omega arith
-one-word Fault = omega arith
-one-word Nothing = omega arith
 
 module _ (mode : Mode) (r : Reader) (heard : List ℕ) (i : ℕ) where
   -- a ms, and then the others

@@ -5,6 +5,7 @@ use mathlib.Core.List.{List, [], _∷_, _++_}
 use Prim.Native.Nat.{ℕ, zero, suc, _+_, _≤_, _<_}
 use native.Mathlib.Nat.{add-zero, zero-add, add-suc, suc-add, le-of-suc-le-suc, not-suc-le-zero}
 use native.Mathlib.Numerals.{add-one}
+use native.Mathlib.Omega.{arith}
 use lib.Dec.{leb}
 use lib.ListN.{length, getD, set, drop, drop-of-length-le}
 use lib.Seq.{sets, sets-eq, drop-cons}
@@ -85,3 +86,9 @@ module _ (m : ℕ) (xs : List ℕ) (i : ℕ) (ok : Bool) (h : i < length xs) whe
 
 pub at-most-all : (m : ℕ) (xs : List ℕ) (i : ℕ) (ok : Bool) → length xs ≤ i → (ok && allAtMost m (drop i xs)) ≡ allAtMost m xs → ok ≡ allAtMost m xs
 at-most-all m xs i ok h e = sym (and-true ok) ∙ ap (λ (b : Bool). ok && b) (sym (at-most-end m xs i h)) ∙ e
+
+-- a larger bound
+pub at-most-more : (m n : ℕ) (xs : List ℕ) → m ≤ n → allAtMost m xs ≡ true → allAtMost n xs ≡ true
+unfolding allAtMost
+at-most-more m n [] h p = refl
+at-most-more m n (x ∷ xs) h p = let k = at-most-head m x xs p in rw (le-leb x n (omega arith)) (at-most-more m n xs h (at-most-tail m x xs p))

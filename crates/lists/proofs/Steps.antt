@@ -1,7 +1,8 @@
 -- A machine over lists that stand one behind the other.
 use mathlib.Core.Path.{_≡_, _∙_, refl, ap}
 use mathlib.Core.List.{List, [], _∷_, _++_}
-use Prim.Native.Nat.{ℕ}
+use Prim.Native.Nat.{ℕ, suc}
+use lib.ListN.{length}
 use Rattle.lists.specs.Steps.{stateAfter, outputs}
 
 -- from the state s, the list xs ends in os, one for each number, and leaves the state t
@@ -19,6 +20,11 @@ module _ {S : Type 0} {O : Type 0} (step : S → ℕ → S) (out : S → ℕ →
   unfolding stateAfter outputs
   outputs-append s [] ys = refl
   outputs-append s (x ∷ xs) ys = ap (λ (l : List O). out s x ∷ l) (outputs-append (step s x) xs ys)
+
+  pub outputs-length : (s : S) (xs : List ℕ) → length (outputs step out s xs) ≡ length xs
+  unfolding outputs
+  outputs-length s [] = refl
+  outputs-length s (x ∷ xs) = ap suc (outputs-length (step s x) xs)
 
   pub none : (s : S) → Takes step out s [] [] s
   unfolding stateAfter outputs

@@ -3,17 +3,16 @@ use mathlib.Core.Path.{_≡_, _∙_, refl, sym, ap, subst}
 use mathlib.Core.Bool.{Bool, true, false, cond, _&&_}
 use mathlib.Core.Logic.{_⊎_, inl, inr}
 use mathlib.Core.List.{List, [], _∷_, _++_, map}
-use Prim.Native.Nat.{ℕ, zero, suc, _+_, _-_, _≤_}
+use Prim.Native.Nat.{ℕ, zero, suc, _+_, _-_}
 use native.Mathlib.Omega.{arith}
 use lib.Dec.{eqb, leb}
 use lib.ListN.{length, take, drop, length-take, take-append-drop}
 use lib.Seq.{take-nil, take-all, take-at, take-append-seam}
-use borrow.Author.Tests.{eqb-true, eqb-false, leb-true, leb-false, le-leb}
+use borrow.Author.Tests.{eqb-true, eqb-false, leb-true, leb-false}
 use Rattle.lists.specs.Lists.{allAtMost}
 use Rattle.lists.specs.Steps.{stateAfter, outputs}
-use Rattle.lists.proofs.Lists.{at-most-head, at-most-tail, at-most-append}
+use Rattle.lists.proofs.Lists.{at-most-head, at-most-tail, at-most-more, at-most-append}
 use Rattle.alphabet.specs.declared.Mode.{Mode}
-use Rattle.alphabet.specs.declared.Mode.the-variants.{Baudot45, Baudot50, Dtmf, Edt}
 use Rattle.alphabet.specs.Modes.{alphabetOf}
 use Rattle.alphabet.specs.Normal.{allChars}
 use Rattle.line.specs.declared.Event.{Event}
@@ -26,7 +25,8 @@ use Rattle.station.specs.declared.Answered.{Answered}
 use Rattle.station.specs.declared.Ran.{Ran}
 use Rattle.station.specs.Station.{alphabetOfStation, queueOf, offeredTo, stationMs, eventOf, stationAfter, eventsBy, sentBy as sentRun, wordsBy as wordsRun}
 use Rattle.station.specs.Entries.{answered, ran, highestLevel, offerAnswer, offerOf, runAnswer, ranOf, sentAfter, wordsAfter}
-use Rattle.station.proofs.Range.{accepted, runs}
+use Rattle.station.proofs.Range.{highest-16, accepted, runs}
+use Rattle.station.proofs.Lengths.{sent-length}
 use Rattle.station.proofs.Answers.{refused-offer, refused-run}
 use Rattle.station.proofs.Cuts.{first-runs}
 use Rattle.reading.specs.Model.{Model, Step, Ms, msAfter, modelAfter, does, sentIn, heardIn}
@@ -85,12 +85,7 @@ refused-left s (OfferCall text) e = ap (λ (a : Answered). a .station) (refused-
 refused-left s (RunCall heard sent words) e =
     ap (λ (a : Ran). a .station) (refused-run s heard (length sent) (length words) (eqb-false (runAnswer s heard (length sent) (length words)) 0 (sym (run-succeeds-by s heard sent words) ∙ e)))
 
--- one sent ms for each heard; of the first n ms, the first n events
-sent-length : (heard : List ℕ) (s : Station) → length (sentRun s heard) ≡ length heard
-unfolding outputs
-sent-length [] s = refl
-sent-length (x ∷ xs) s = ap suc (sent-length xs (stationMs s x))
-
+-- of the first n ms, the first n events
 outputs-take : (n : ℕ) (heard : List ℕ) (s : Station) → eventsBy s (take n heard) ≡ take n (eventsBy s heard)
 unfolding outputs
 outputs-take zero heard s = refl
@@ -104,22 +99,10 @@ words-of heard sent words s z = rw (run-succeeds heard sent words s z, run-yes s
 
 pub sent-of : (heard sent words : List ℕ) (s : Station) → runAnswer s heard (length sent) (length words) ≡ 0 → sentFor s (RunCall heard sent words) ≡ sentRun s heard
 unfolding sentAfter
-sent-of heard sent words s z = rw (run-succeeds heard sent words s z, z) (take-at (sentRun s heard) (drop (length (sentRun s heard)) sent) (length heard) (sent-length heard s))
+sent-of heard sent words s z = rw (run-succeeds heard sent words s z, z) (take-at (sentRun s heard) (drop (length (sentRun s heard)) sent) (length heard) (sent-length s heard))
 
 pub steps-of : (heard sent words : List ℕ) (s : Station) → runAnswer s heard (length sent) (length words) ≡ 0 → stepsFor s (RunCall heard sent words) ≡ map Ms heard
 steps-of heard sent words s z = ap (λ (b : Bool). cond b (map Ms heard) []) (run-succeeds heard sent words s z)
-
--- a level of any mode is at most 16
-levels-16 : (mode : Mode) → highestLevel mode ≤ 16
-levels-16 Baudot45 = omega arith
-levels-16 Baudot50 = omega arith
-levels-16 Dtmf = omega arith
-levels-16 Edt = omega arith
-
-most-more : (m n : ℕ) (xs : List ℕ) → m ≤ n → allAtMost m xs ≡ true → allAtMost n xs ≡ true
-unfolding allAtMost
-most-more m n [] h p = refl
-most-more m n (x ∷ xs) h p = let k = at-most-head m x xs p in rw (le-leb x n (omega arith)) (most-more m n xs h (at-most-tail m x xs p))
 
 -- before the first ms there is no call
 up-zero : (s : Station) (cs : List Call) → upTo s cs 0 ≡ []
@@ -200,7 +183,7 @@ module _ (mode : Mode) where
         like = rw (e, ap (λ (a : Ran). a .station) (run-yes s heard (length sent) (length words) z)) (g .like);
         sent-are = sent-of heard sent words s z ∙ g .sent-are ∙ ap (λ (l : List Step). sentIn (does mode m l)) (sym (steps-of heard sent words s z));
         chars = rw e (chars-run heard);
-        levels = rw (e, heard-run heard) (most-more (highestLevel mode) 16 heard (levels-16 mode) v);
+        levels = rw (e, heard-run heard) (at-most-more (highestLevel mode) 16 heard (highest-16 mode) v);
         words-cut = λ n.
             let y = run-cut n s heard (length sent) (length words) z in
             rw e (words-of (take n heard) sent words s y ∙ ap wordsOf (outputs-take n heard s ∙ ap (take n) (g .events-are)));

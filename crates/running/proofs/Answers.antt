@@ -1,42 +1,17 @@
 -- What a run answers: what a refusal leaves, and what success gives.
-use mathlib.Core.Path.{_≡_, _∙_, refl, sym, ap}
-use mathlib.Core.List.{List, [], _∷_, _++_}
-use Prim.Native.Nat.{ℕ, suc, _+_, _≤_}
+use mathlib.Core.Path.{_≡_, _∙_, sym, ap}
+use mathlib.Core.List.{List}
+use Prim.Native.Nat.{ℕ, _≤_}
 use native.Mathlib.Omega.{arith}
-use lib.ListN.{length, length-append}
+use lib.ListN.{length}
 use lib.Seq.{sets}
-use Rattle.lists.specs.Steps.{outputs}
 use Rattle.lists.proofs.Lists.{sets-front}
-use Rattle.line.specs.declared.Event.{Event}
-use Rattle.line.specs.declared.Event.the-variants.{Character, Fault, Nothing}
-use Rattle.line.specs.Words.{wordOf, wordsOf}
 use Rattle.station.specs.declared.Station.{Station}
 use Rattle.station.specs.declared.Ran.{Ran}
-use Rattle.station.specs.Station.{stationMs, sentMs, eventOf, stationAfter, sentBy, wordsBy}
+use Rattle.station.specs.Station.{stationAfter, sentBy, wordsBy}
 use Rattle.station.specs.Entries.{runAnswer, ran, ranOf, sentAfter, wordsAfter}
 use Rattle.station.proofs.Answers.{refused-run, refused-sent, refused-words}
-
--- one sent ms for each ms heard, and at most one word
-one : (e : Event) → length (wordOf e) ≤ 1
-one (Character c) = omega arith
-one Fault = omega arith
-one Nothing = omega arith
-
-sent-length : (s : Station) (heard : List ℕ) → length (sentBy s heard) ≡ length heard
-unfolding outputs
-sent-length s [] = refl
-sent-length s (x ∷ xs) = ap suc (sent-length (stationMs s x) xs)
-
-words-most : (s : Station) (heard : List ℕ) → length (wordsBy s heard) ≤ length heard
-unfolding outputs wordsOf
-words-most s [] = omega arith
-words-most s (x ∷ xs) =
-    let w = wordOf (eventOf s x) in
-    let ws = wordsBy (stationMs s x) xs in
-    let o = one (eventOf s x) in
-    let m = words-most (stationMs s x) xs in
-    let l = length-append w ws in
-    omega arith
+use Rattle.station.proofs.Lengths.{sent-length, few-words}
 
 module _ (s : Station) (heard sent words : List ℕ) where
   -- the station after a run, its answer and its count; the two slices
@@ -61,7 +36,7 @@ module _ (s : Station) (heard sent words : List ℕ) where
   unfolding ranOf sentAfter wordsAfter
   accepted a p q t e k f sent′ g words′ h =
       let n = sent-length s heard in
-      let m = words-most s heard in (
+      let m = few-words s heard in (
         simp (a, e, f),
         (simp a (g ∙ sets-front sent (sentBy s heard) (omega arith)), simp a (h ∙ sets-front words (wordsBy s heard) (omega arith))),
       )

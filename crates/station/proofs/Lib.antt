@@ -2,3 +2,4 @@ pub mod Laws
 pub mod Range
 pub mod Answers
 pub mod Cuts
+pub mod Lengths

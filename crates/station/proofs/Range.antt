@@ -216,11 +216,12 @@ fresh-full mode = refl
 
 -- ---- a ms
 
-level-in : (mode : Mode) (x : ℕ) → x ≤ highestLevel mode → x ≤ 16
-level-in Baudot45 x h = omega arith
-level-in Baudot50 x h = omega arith
-level-in Dtmf x h = h
-level-in Edt x h = omega arith
+-- no mode has a level above 16
+pub highest-16 : (mode : Mode) → highestLevel mode ≤ 16
+highest-16 Baudot45 = omega arith
+highest-16 Baudot50 = omega arith
+highest-16 Dtmf = omega arith
+highest-16 Edt = omega arith
 
 moved-full : (cs : List ℕ) → length cs ≡ 256 → length (moved cs) ≡ 256
 moved-full cs h = simp (length-append, length-drop) (omega arith)
@@ -242,9 +243,10 @@ module _ (s : Station) (heard : ℕ) (full : length (s .chars) ≡ 256) where
   unfolding stationMs coreFrom
   ms-in i h =
       let t = station-in s i in
+      let m = highest-16 (modeOfStation s) in
       station-is (stationMs s heard)
       (record {
-        core-in = core-after-in (s .core) (front s) heard (level-in (modeOfStation s) heard h) (front-in s full i) (t .core-in);
+        core-in = core-after-in (s .core) (front s) heard (omega arith) (front-in s full i) (t .core-in);
         mode-low = t .mode-low;
         mode-in = t .mode-in;
         queue-in = queue-after (t .queue-in);

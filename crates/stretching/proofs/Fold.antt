@@ -1,53 +1,30 @@
 -- A run in stretches: what is left at a place, for the loop that runs them.
 use mathlib.Core.Path.{_≡_, _∙_, refl, sym, ap}
 use mathlib.Core.Bool.{true}
-use mathlib.Core.List.{List, [], _∷_, _++_}
-use Prim.Native.Nat.{ℕ, suc, _+_, _-_, _≤_}
+use mathlib.Core.List.{List, [], _++_}
+use Prim.Native.Nat.{ℕ, _+_, _-_, _≤_}
 use native.Mathlib.Nat.{add-assoc}
 use native.Mathlib.Omega.{arith}
 use lib.ListN.{length, drop, drop-of-length-le, take-append-drop, length-append}
 use lib.Seq.{sets, length-sets, drop-drop}
 use Rattle.lists.specs.Lists.{allAtMost}
 use Rattle.lists.specs.Steps.{stateAfter, outputs}
-use borrow.Author.Tests.{le-leb}
-use Rattle.lists.proofs.Lists.{sets-append, at-most-head, at-most-tail, at-most-drop}
+use Rattle.lists.proofs.Lists.{sets-append, at-most-more, at-most-drop}
 use Rattle.alphabet.specs.declared.Mode.{Mode}
-use Rattle.alphabet.specs.declared.Mode.the-variants.{Baudot45, Baudot50, Dtmf, Edt}
-use Rattle.line.specs.Words.{wordOf, wordsOf}
+use Rattle.line.specs.Words.{wordsOf}
 use Rattle.access.specs.declared.Core.{Core}
-use Rattle.access.specs.Core.{modeIn, coreFrom}
+use Rattle.access.specs.Core.{modeIn}
 use Rattle.station.specs.declared.Station.{Station}
-use Rattle.station.specs.Station.{station, modeOfStation, stationMs, eventOf, stationAfter, sentBy, wordsBy}
+use Rattle.station.specs.Station.{station, modeOfStation, stationAfter, sentBy, wordsBy}
 use Rattle.station.specs.Range.{inRange}
 use Rattle.station.specs.Entries.{highestLevel}
-use Rattle.station.proofs.Range.{after-full, after-in}
-use Rattle.station.proofs.Cuts.{cut}
-use Rattle.hearing.proofs.Fold.{one-word}
+use Rattle.station.proofs.Range.{highest-16, after-full, after-in}
+use Rattle.station.proofs.Cuts.{cut, mode-after}
+use Rattle.station.proofs.Lengths.{sent-length, few-words}
 use Rattle.stretching.specs.declared.Stretched.{Stretched}
 use Rattle.stretching.specs.Stretches.{between, Stretches}
 use Rattle.stretching.proofs.Laws.{at-most-take}
 use Rattle.stretching.proofs.Joining.{between-length}
-
--- one sent ms for each ms heard, and at most one word
-sent-length : (s : Station) (xs : List ℕ) → length (sentBy s xs) ≡ length xs
-unfolding outputs
-sent-length s [] = refl
-sent-length s (x ∷ xs) = ap suc (sent-length (stationMs s x) xs)
-
-few-words : (s : Station) (xs : List ℕ) → length (wordsBy s xs) ≤ length xs
-unfolding outputs wordsOf
-few-words s [] = omega arith
-few-words s (x ∷ xs) =
-    let a = one-word (eventOf s x) in
-    let b = few-words (stationMs s x) xs in
-    let c = length-append (wordOf (eventOf s x)) (wordsBy (stationMs s x) xs) in
-    omega arith
-
--- the mode stays
-mode-stays : (s : Station) (xs : List ℕ) → modeOfStation (stationAfter s xs) ≡ modeOfStation s
-unfolding stateAfter stationMs coreFrom
-mode-stays s [] = refl
-mode-stays s (x ∷ xs) = mode-stays (stationMs s x) xs
 
 module _ (s : Station) where
   after-none : stationAfter s [] ≡ s
@@ -131,7 +108,7 @@ module _ (heard chars₀ sent₀ words₀ : List ℕ) (c₀ : Core) where
           within = t .high;
           room = omega arith;
           in-range = ap inRange (t .after) ∙ after-in s xs (l .full) (l .in-range) heights;
-          mode = ap modeOfStation (t .after) ∙ mode-stays s xs ∙ l .mode;
+          mode = ap modeOfStation (t .after) ∙ mode-after s xs ∙ l .mode;
           after = ap (λ (z : Station). stationAfter z ys) (t .after) ∙ sym (k .station) ∙ sym (ap (stationAfter s) a) ∙ l .after;
           sent = (λ j. sets (t .sent j) (sa j) us) ∙ sym (sets-append sent₁ i (sentBy s xs) us) ∙ ap (sets sent₁ i) st ∙ l .sent;
           place = ap (λ (m : ℕ). m + length vs) place ∙ add-assoc n (length ws) (length vs) ∙ sym (ap (λ (m : ℕ). n + m) (length-append ws vs)) ∙ ap (λ (z : List ℕ). n + length z) wt ∙ l .place;
@@ -159,17 +136,5 @@ module _ (heard chars₀ sent₀ words₀ : List ℕ) (c₀ : Core) where
       left-words = sym (ap (sets words₁ n) no-words) ∙ l .words
 
 -- no mode has a level above 16
-highest-16 : (mode : Mode) → highestLevel mode ≤ 16
-highest-16 Baudot45 = omega arith
-highest-16 Baudot50 = omega arith
-highest-16 Dtmf = omega arith
-highest-16 Edt = omega arith
-
 pub levels-16 : (mode : Mode) (heard : List ℕ) → allAtMost (highestLevel mode) heard ≡ true → allAtMost 16 heard ≡ true
-unfolding allAtMost
-levels-16 mode [] e = refl
-levels-16 mode (x ∷ xs) e =
-    let most = highestLevel mode in
-    let h = at-most-head most x xs e in
-    let m = highest-16 mode in
-    rw (le-leb x 16 (omega arith)) (levels-16 mode xs (at-most-tail most x xs e))
+levels-16 mode heard e = at-most-more (highestLevel mode) 16 heard (highest-16 mode) e
