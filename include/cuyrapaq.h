@@ -267,7 +267,7 @@ uint8_t cq_calling_run(cq_calling *state, const uint8_t *tones, size_t tones_len
 typedef struct cq_on_line {
     uint16_t at;  /* ms of the part that are sent, at most those that the part has */
     uint8_t part; /* 0 in no burst, 1 the preamble, 2 a code */
-    uint8_t code; /* the code: below 32 in Baudot and 128 in EDT; in DTMF 16 times the prefix and the digit's key */
+    uint8_t code; /* the code: below 32 in Baudot, 128 in EDT; in DTMF any, 16 times the prefix and the digit's key */
 } cq_on_line;
 
 typedef struct cq_sender {
@@ -355,7 +355,8 @@ uint8_t cq_station_offer(cq_station *station, const uint8_t *text, size_t text_l
  * sent, sent_length    where the sent ms go, one level in each byte; at least as many as heard
  * words, words_length  where the words go; at least as many as heard
  *
- * A burst begins when characters wait and the line has been free for 300 ms: its preamble, then codes
+ * A burst begins when characters wait and the line is free: no signal for 300 ms in a row. (A fresh line is
+ * free, and ms in which the station reads nothing count as without signal.) A burst is its preamble, then codes
  * without gap, up to the end of a code behind which none waits. Outside a burst quiet is sent. In a burst and
  * for 300 ms after it the station reads nothing, so its own echo does no harm.
  *
