@@ -1,26 +1,31 @@
 -- What a stretch does is what its ms do one after the other.
-use mathlib.Core.Path.{_≡_, _∙_, sym, ap}
+use mathlib.Core.Path.{_≡_, _∙_, sym, ap, subst}
 use mathlib.Core.Bool.{true, false}
 use mathlib.Core.List.{List, [], _∷_, append-nil}
 use Prim.Native.Nat.{ℕ, _+_, _-_, _≤_, _<_}
 use native.Mathlib.Omega.{arith}
 use lib.ListN.{length, getD, take, drop, set, replicate, length-drop}
 use lib.Seq.{sets, drop-cons, length-take-le}
+use Rattle.lists.proofs.Lists.{either}
 use Rattle.lists.specs.Tables.{tabulate}
 use Rattle.lists.specs.Steps.{stateAfter, outputs}
 use Rattle.line.specs.declared.Reader.{Reader}
 use Rattle.line.specs.Words.{wordOf, wordsOf, readerAfter, words}
 use Rattle.access.specs.declared.Core.{Core}
+use Rattle.access.specs.declared.Loaded.{Loaded}
 use Rattle.access.specs.declared.Stepped.{Stepped}
 use Rattle.access.specs.Line.{inBurst, partMs, isOver}
-use Rattle.access.specs.Core.{modeIn, stepped}
+use Rattle.access.specs.Core.{modeIn, settled, stepped}
+use Rattle.access.specs.Range.{CoreIn}
+use Rattle.access.proofs.Range.{LoadedIn, settled-in}
 use Rattle.station.specs.declared.Station.{Station}
 use Rattle.station.specs.Station.{station, charsAfter, stationMs, sentMs, eventOf, stationAfter, sentBy, wordsBy}
-use Rattle.stretching.specs.Cores.{silenceOver, sentFor, deafFor, listened}
+use Rattle.stretching.specs.declared.Stretched.{Stretched}
+use Rattle.stretching.specs.Cores.{silenceOver, loadedCore, sentFor, deafFor, listened}
 use Rattle.stretching.specs.Levels.{partLevel}
 use Rattle.stretching.specs.Stretches.{between, Stretches}
 use Rattle.stretching.proofs.Elements.{level-same}
-use Rattle.stretching.proofs.Laws.{Walk, deaf-walk, part-walk, listens}
+use Rattle.stretching.proofs.Laws.{Walk, loaded-alike, left-burst, left-over, deaf-walk, part-walk, listens}
 
 pub between-length : (heard : List ℕ) (i to : ℕ) → to ≤ length heard → length (between i to heard) ≡ to - i
 between-length heard i to h = let d = length-drop i heard in length-take-le (to - i) (drop i heard) (omega arith)
@@ -32,6 +37,31 @@ between-one heard i h =
 
 walk-to : {s : Station} {xs : List ℕ} {c d : Core} {chars : List ℕ} {levels : ℕ → ℕ} → Walk s xs (station c chars) levels → c ≡ d → Walk s xs (station d chars) levels
 walk-to {chars = chars} w e = record { after = w .after ∙ ap (λ (k : Core). station k chars) e; sent = w .sent; words = w .words }
+
+-- a core of which a part is sent
+pub record Sends (d : Core) : Type 0 where
+  pub core-in : CoreIn d
+  pub burst : inBurst (d .line) ≡ true
+  pub left : isOver (modeIn d) (d .line) ≡ false
+
+pub loaded-sends : (c : Core) (given : ℕ) → CoreIn c → (1 ≤ c .waiting → given < 128) → (l : Loaded) → l ≡ settled c given
+    → l .line .at < length (partMs (modeIn c) (l .line)) → (d : Core) → d ≡ loadedCore c l → Sends d
+unfolding loadedCore
+loaded-sends c given i h l e m d ed =
+    let j = subst (LoadedIn (modeIn c)) (sym e) (settled-in c given i h) in
+    let w = i .waiting-in in
+    subst Sends (sym ed) (record {
+      core-in = record {
+        waiting-in = either (λ (k : ℕ). k ≤ 256) (l .takes) (c .waiting - 1) (c .waiting) (omega arith) w;
+        silence-in = i .silence-in;
+        inhibited-in = i .inhibited-in;
+        line-in = j .line-in;
+        sender-in = j .sender-in;
+        reader-in = i .reader-in;
+      };
+      burst = left-burst (modeIn c) (l .line) m;
+      left = left-over (modeIn c) (l .line) m;
+    })
 
 module _ (heard : List ℕ) (c : Core) (chars sent words₀ : List ℕ) (i n : ℕ) where
   -- one ms
@@ -54,6 +84,27 @@ module _ (heard : List ℕ) (c : Core) (chars sent words₀ : List ℕ) (i n : �
           place = en ∙ sym (ap (λ (ws : List ℕ). n + length ws) w);
           words = ew ∙ sym (ap (sets words₀ n) w);
         }
+
+  -- what a ms starts with, loaded already
+  pub begin-stretch : (l : Loaded) → l ≡ settled c (getD chars 0 0) → l .line .at < length (partMs (modeIn c) (l .line))
+      → (d : Core) → d ≡ loadedCore c l → (chars₁ : List ℕ) → chars₁ ≡ charsAfter (l .takes) chars
+      → (x : Stretched) (chars₂ sent₂ words₂ : List ℕ) → Stretches heard d chars₁ sent words₀ i n x chars₂ sent₂ words₂
+      → Stretches heard c chars sent words₀ i n x chars₂ sent₂ words₂
+  begin-stretch l e m d ed chars₁ ec x chars₂ sent₂ words₂ t =
+      let xs = between i (x .at) heard in
+      let low = t .low in
+      let size = between-length heard i (x .at) (t .high) in
+      let s : station d chars₁ ≡ station (loadedCore c l) (charsAfter (l .takes) chars) = λ j. station (ed j) (ec j) in
+      let a = loaded-alike c chars l e (left-burst (modeIn c) (l .line) m) (left-over (modeIn c) (l .line) m) xs (omega arith) in
+      let w : wordsBy (station d chars₁) xs ≡ wordsBy (station c chars) xs = ap (λ (z : Station). wordsBy z xs) s ∙ sym (a .words) in
+      record {
+        low = low;
+        high = t .high;
+        after = t .after ∙ ap (λ (z : Station). stationAfter z xs) s ∙ sym (a .after);
+        sent = t .sent ∙ ap (sets sent i) (ap (λ (z : Station). sentBy z xs) s ∙ sym (a .sent));
+        place = t .place ∙ ap (λ (ws : List ℕ). n + length ws) w;
+        words = t .words ∙ ap (sets words₀ n) w;
+      }
 
   -- ms that go alike
   walk-stretch : (to : ℕ) → i < to → to ≤ length heard → (d : Core) (levels : ℕ → ℕ) → Walk (station c chars) (between i to heard) (station d chars) levels

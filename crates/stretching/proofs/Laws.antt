@@ -1,5 +1,5 @@
 -- Ms that go alike: what they do one after the other.
-use mathlib.Core.Path.{_≡_, _∙_, refl, ap}
+use mathlib.Core.Path.{_≡_, _∙_, refl, sym, ap}
 use mathlib.Core.Bool.{Bool, true, false, cond, not, _&&_, and-false}
 use mathlib.Core.List.{List, [], _∷_, _++_}
 use Prim.Native.Nat.{ℕ, zero, suc, _+_, _-_, _≤_, _<_}
@@ -29,7 +29,7 @@ use Rattle.access.proofs.Laws.{level-over, not-over, gone-none, gone-one, stays
 use Rattle.station.specs.declared.Station.{Station}
 use Rattle.station.specs.Station.{station, front, charsAfter, stationMs, sentMs, eventOf, stationAfter, sentBy, wordsBy}
 use Rattle.stretching.specs.Levels.{partLevel}
-use Rattle.stretching.specs.Cores.{silenceFor, silenceNext, silenceOver, deafReader, burstLeft, further, sentFor, deafFor, listened}
+use Rattle.stretching.specs.Cores.{silenceFor, silenceNext, silenceOver, deafReader, burstLeft, further, loadedCore, sentFor, deafFor, listened}
 use Rattle.stretching.proofs.CoreLaws.{silence-none}
 
 pub at-most-take : (m n : ℕ) (xs : List ℕ) → allAtMost m xs ≡ true → allAtMost m (take n xs) ≡ true
@@ -94,6 +94,44 @@ one-settled s x e = record {
   sent = ap (λ (l : Loaded). levelOn (modeIn (s .core)) (l .line)) e;
   event = ap (λ (l : Loaded). eventMs (modeIn (s .core)) (isInhibited (inBurst (l .line)) (s .core .inhibited)) (s .core .reader) x) e;
 }
+
+-- ---- what a ms starts with, loaded already
+
+-- one ms of two stations that goes alike
+record Same (s t : Station) (x : ℕ) : Type 0 where
+  after : stationMs s x ≡ stationMs t x
+  sent : sentMs s x ≡ sentMs t x
+  event : eventOf s x ≡ eventOf t x
+
+loaded-same : (c : Core) (chars : List ℕ) (l : Loaded) → l ≡ settled c (front (station c chars)) → inBurst (l .line) ≡ true → isOver (modeIn c) (l .line) ≡ false
+    → (x : ℕ) → Same (station c chars) (station (loadedCore c l) (charsAfter (l .takes) chars)) x
+unfolding stationMs sentMs eventOf coreFrom loadedCore
+loaded-same c chars l e b f x =
+    let d = loadedCore c l in
+    let t : (mayBegin (d .waiting) (c .silence) && not (inBurst (l .line))) ≡ false = rw (b, and-false) refl in
+    let o = one-settled (station d (charsAfter (l .takes) chars)) x (settled-by d _ t f) in
+    record {
+      after = sym (ap (λ (k : Loaded). station (coreFrom c k x) (charsAfter (k .takes) chars)) e) ∙ sym (o .after);
+      sent = sym (ap (λ (k : Loaded). levelOn (modeIn c) (k .line)) e) ∙ sym (o .sent);
+      event = sym (ap (λ (k : Loaded). eventMs (modeIn c) (isInhibited (inBurst (k .line)) (c .inhibited)) (c .reader) x) e) ∙ sym (o .event);
+    }
+
+pub record Alike (s t : Station) (xs : List ℕ) : Type 0 where
+  pub after : stationAfter s xs ≡ stationAfter t xs
+  pub sent : sentBy s xs ≡ sentBy t xs
+  pub words : wordsBy s xs ≡ wordsBy t xs
+
+pub loaded-alike : (c : Core) (chars : List ℕ) (l : Loaded) → l ≡ settled c (front (station c chars)) → inBurst (l .line) ≡ true → isOver (modeIn c) (l .line) ≡ false
+    → (xs : List ℕ) → 1 ≤ length xs → Alike (station c chars) (station (loadedCore c l) (charsAfter (l .takes) chars)) xs
+unfolding stateAfter outputs wordsOf
+loaded-alike c chars l e b f [] h = absurd (omega arith)
+loaded-alike c chars l e b f (x ∷ xs) h =
+    let o = loaded-same c chars l e b f x in
+    record {
+      after = ap (λ (s : Station). stationAfter s xs) (o .after);
+      sent = λ j. o .sent j ∷ sentBy (o .after j) xs;
+      words = λ j. wordOf (o .event j) ++ wordsBy (o .after j) xs;
+    }
 
 -- ---- silence and reader
 
@@ -193,6 +231,18 @@ module _ (c : Core) (chars : List ℕ) (e : c .line .part ≡ 0) where
       rw deaf-none at go
 
 -- ---- the ms of a part
+
+module _ (mode : Mode) (l : OnLine) (h : l .at < length (partMs mode l)) where
+  pub left-burst : inBurst l ≡ true
+  left-burst = go (eqb (l .part) 0) refl
+    where
+      go : (b : Bool) → eqb (l .part) 0 ≡ b → not b ≡ true
+      go true e = let z = no-ms l (eqb-true (l .part) 0 e) mode in absurd (omega arith)
+      go false e = refl
+
+  pub left-over : isOver mode l ≡ false
+  unfolding isOver
+  left-over = rw (lt-leb (length (partMs mode l)) (l .at) h, and-false) refl
 
 module _ (mode : Mode) (l : OnLine) (k : ℕ) (h : l .at + k < length (partMs mode l)) where
   further-left : isOver mode (further l k) ≡ false

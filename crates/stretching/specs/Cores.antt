@@ -10,9 +10,10 @@ use Rattle.line.specs.declared.Reader.{Reader}
 use Rattle.line.specs.Reader.{reader}
 use Rattle.access.specs.declared.Core.{Core}
 use Rattle.access.specs.declared.OnLine.{OnLine}
+use Rattle.access.specs.declared.Loaded.{Loaded}
 use Rattle.access.specs.Rules.{freeMs, afterMs, isSilent}
 use Rattle.access.specs.Line.{onLine, closed}
-use Rattle.access.specs.Core.{core, modeIn, silenceAfter}
+use Rattle.access.specs.Core.{core, modeIn, silenceAfter, waitingAfter}
 
 -- The silence after n ms without signal, and after ms that the receiver hears.
 abbrev pub silenceFor : ℕ → ℕ → ℕ
@@ -36,6 +37,11 @@ burstLeft inhibitedMs (suc n) = afterMs
 
 abbrev pub further : OnLine → ℕ → OnLine
 further l n = onLine (l .part) (l .code) (l .at + n)
+
+-- In which what a ms starts with is loaded already.
+unfoldable pub loadedCore : Core → Loaded → Core
+loadedCore c l =
+    core (waitingAfter (l .takes) (c .waiting)) (c .silence) (c .inhibited) (l .line) (l .sender) (c .reader) (c .mode)
 
 -- After n ms of a part; after n inhibited ms in no burst; after ms that the receiver hears.
 unfoldable pub sentFor : Core → ℕ → Core

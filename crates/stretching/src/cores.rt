@@ -1,5 +1,6 @@
 // Cores after some ms that go alike.
 use access::Core;
+use access::Loaded;
 use access::OnLine;
 use access::sending;
 use alphabet::Mode;
@@ -8,7 +9,7 @@ use keys::Keys;
 use line::Reader;
 ghost use mathlib.Core.Path.{_≡_};
 ghost use Prim.Native.Nat.{_+_, _-_, _≤_};
-ghost use Rattle.stretching.specs.Cores.{silenceFor, silenceOver, deafReader, sentFor, deafFor, listened};
+ghost use Rattle.stretching.specs.Cores.{silenceFor, silenceOver, deafReader, loadedCore, sentFor, deafFor, listened};
 
 // The silence after n ms without signal.
 pub fn silence_for(silence: u16, n: usize) -> u16
@@ -81,6 +82,24 @@ fn further(l: OnLine, n: usize) -> OnLine
         at: l.at + n as u16,
         part: l.part,
         code: l.code,
+    }
+}
+
+// A core in which what a ms starts with is loaded already.
+pub fn loaded(c: Core, l: Loaded) -> Core
+    ensures { λ r. ⌜ r ≡ loadedCore c l ⌝ }
+{
+    let line = l.line;
+    let sender = l.sender;
+    let reader = c.reader;
+    Core {
+        waiting: access::waiting_after(l.takes, c.waiting),
+        silence: c.silence,
+        inhibited: c.inhibited,
+        line,
+        sender,
+        reader,
+        mode: c.mode,
     }
 }
 

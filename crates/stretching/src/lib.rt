@@ -31,7 +31,7 @@ pub struct Stretched {
     pub words: usize,
 }
 
-// The next stretch: a ms in which sending is settled; the ms of a part; inhibited ms; ms that the receiver hears.
+// The next stretch: sending is settled and what it loads is sent; the ms of a part; inhibited ms; ms that the receiver hears.
 fn stretch(
     c: Core,
     chars: &mut [u8],
@@ -52,12 +52,12 @@ fn stretch(
     let line = c.line;
     if line.part != 0 {
         if sending::is_over(Mode::of(c.mode), line) {
-            return stretches::settle(c, chars, heard, i, sent, words, n);
+            return stretches::begin(c, chars, heard, i, sent, words, n);
         }
         return stretches::send(c, heard, i, sent, n);
     }
     if access::may_begin(c.waiting, c.silence) {
-        return stretches::settle(c, chars, heard, i, sent, words, n);
+        return stretches::begin(c, chars, heard, i, sent, words, n);
     }
     if c.inhibited != 0 {
         return stretches::wait(c, heard, i, sent, n);

@@ -44,7 +44,7 @@ fn free_end(waiting: u16, silence: u16, i: usize, len: usize) -> usize
 }
 
 // One ms in which sending is settled anew.
-pub fn settle(
+fn settle(
     c: Core,
     chars: &mut [u8],
     heard: &[u8],
@@ -95,6 +95,36 @@ pub fn send(c: Core, heard: &[u8], i: usize, sent: &mut [u8], n: usize) -> Stret
         at: to,
         words: n,
     }
+}
+
+// Sending is settled anew, and the ms of what is then on the line are sent; one ms if it has none.
+pub fn begin(
+    c: Core,
+    chars: &mut [u8],
+    heard: &[u8],
+    i: usize,
+    sent: &mut [u8],
+    words: &mut [u32],
+    n: usize,
+) -> Stretched
+    requires { ⌜ CoreIn c ⌝ }
+    requires { ⌜ length (now chars) ≡ 256 ⌝ }
+    requires { ⌜ (1 ≤ c .waiting → front (station c (now chars)) < 128) ⌝ }
+    requires { ⌜ i < length (now heard) ⌝ }
+    requires { ⌜ length (now heard) ≤ length (now sent) ⌝ }
+    requires { ⌜ n < length (now words) ⌝ }
+    ensures { λ x. ⌜ Stretches (now (heard .entry)) c (now (chars .entry)) (now (sent .entry)) (now (words .entry)) i n x (now (chars .exit)) (now (sent .exit)) (now (words .exit)) ⌝ }
+{
+    let l = access::settle(c, chars[0]);
+    let line = l.line;
+    if sending::part_ms(Mode::of(c.mode), line) <= line.at {
+        return settle(c, chars, heard, i, sent, words, n);
+    }
+    if l.takes {
+        queue::move_up(chars);
+    }
+    let core = cores::loaded(c, l);
+    send(core, heard, i, sent, n)
 }
 
 // Inhibited ms in no burst, up to one in which a burst may begin.

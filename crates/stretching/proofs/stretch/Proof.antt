@@ -17,12 +17,12 @@ of-requires c κs = search needs
 is-over-requires : tie.Need-is-over-requires
 is-over-requires c κs = search needs
 
-settle-requires : tie.Need-settle-requires
-settle-requires c κs =
+begin-requires : tie.Need-begin-requires
+begin-requires c κs =
     let t = c .before .before .before .before .before .before .before .before .before .before .before .before .before in
     let p = t .pre in
     let s = station-in (station (t .args .c) (t .args .chars .now)) (p .0) in
-    (s .core-in, (p .1 .0, (front-in (station (t .args .c) (t .args .chars .now)) (p .1 .0) (p .0), (p .1 .1 .1 .0, (omega arith, omega arith)))))
+    (s .core-in, (p .1 .0, (front-in (station (t .args .c) (t .args .chars .now)) (p .1 .0) (p .0), (p .1 .1 .1 .0, (p .1 .1 .1 .1 .0, omega arith)))))
 
 same-length : tie.Need-same-length
 same-length c = search needs
@@ -34,7 +34,7 @@ same-length-3 : tie.Need-same-length-3
 same-length-3 c = search needs
 
 returns : tie.Need-returns
-returns c = c .before .before .before .before .before .before .settle .ensures
+returns c = c .before .before .before .before .before .before .begin .ensures
 
 send-requires : tie.Need-send-requires
 send-requires c κs =
@@ -54,12 +54,12 @@ returns-2 c = c .before .before .send .ensures _ _
 may-begin-requires : tie.Need-may-begin-requires
 may-begin-requires c κs = search needs
 
-settle-requires-2 : tie.Need-settle-requires-2
-settle-requires-2 c κs =
+begin-requires-2 : tie.Need-begin-requires-2
+begin-requires-2 c κs =
     let t = c .before .before .before .before .before .before .before .before .before .before .before .before in
     let p = t .pre in
     let s = station-in (station (t .args .c) (t .args .chars .now)) (p .0) in
-    (s .core-in, (p .1 .0, (front-in (station (t .args .c) (t .args .chars .now)) (p .1 .0) (p .0), (p .1 .1 .1 .0, (omega arith, omega arith)))))
+    (s .core-in, (p .1 .0, (front-in (station (t .args .c) (t .args .chars .now)) (p .1 .0) (p .0), (p .1 .1 .1 .0, (p .1 .1 .1 .1 .0, omega arith)))))
 
 same-length-5 : tie.Need-same-length-5
 same-length-5 c = search needs
@@ -71,7 +71,7 @@ same-length-7 : tie.Need-same-length-7
 same-length-7 c = search needs
 
 returns-3 : tie.Need-returns-3
-returns-3 c = c .before .before .before .before .before .before .settle2 .ensures
+returns-3 c = c .before .before .before .before .before .before .begin2 .ensures
 
 wait-requires : tie.Need-wait-requires
 wait-requires c κs =
@@ -109,7 +109,7 @@ stretch-spec =
     (tie.spec
     of-requires
     is-over-requires
-    settle-requires
+    begin-requires
     same-length
     same-length-2
     same-length-3
@@ -118,7 +118,7 @@ stretch-spec =
     same-length-4
     returns-2
     may-begin-requires
-    settle-requires-2
+    begin-requires-2
     same-length-5
     same-length-6
     same-length-7

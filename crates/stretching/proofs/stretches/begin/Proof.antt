@@ -1,0 +1,100 @@
+-- `begin` meets its contract.
+use mathlib.Core.Path.{_≡_, _∙_, sym, ap}
+use mathlib.Core.Bool.{Bool}
+use mathlib.Core.Logic.{⊎-elim}
+use mathlib.Core.List.{List}
+use Prim.Native.Nat.{ℕ, _<_}
+use native.Mathlib.Omega.{arith}
+use lib.ListN.{length}
+use Rattle.alphabet.specs.declared.Mode.{Mode}
+use Rattle.access.specs.Line.{partMs}
+use Rattle.access.specs.Core.{modeIn}
+use Rattle.station.specs.Station.{charsAfter}
+use Rattle.stretching.proofs.Joining.{loaded-sends, begin-stretch}
+use borrow.Author.Needs.{needs}
+use Rattle.stretching.proofs.stretches.begin.Statement.{statement}
+use Rattle.stretching.proofs.stretches.begin.Tie as tie
+
+slice-read-settle : tie.Need-slice-read-settle
+slice-read-settle c = search needs
+
+settle-requires : tie.Need-settle-requires
+settle-requires c κs = search needs
+
+of-requires : tie.Need-of-requires
+of-requires c κs = search needs
+
+part-ms-requires : tie.Need-part-ms-requires
+part-ms-requires c κs = search needs
+
+settle-requires-2 : tie.Need-settle-requires-2
+settle-requires-2 c κs =
+    let p = c .before .before .before .before .before .before .before .before .before .before .before .before .before .before .pre in
+    let h = p .1 .1 .1 in
+    (p .0, (p .1 .0, (p .1 .1 .0, (h .0, (omega arith, h .1 .1)))))
+
+same-length : tie.Need-same-length
+same-length c = search needs
+
+same-length-2 : tie.Need-same-length-2
+same-length-2 c = search needs
+
+same-length-3 : tie.Need-same-length-3
+same-length-3 c = search needs
+
+returns : tie.Need-returns
+returns c = c .before .before .before .before .before .before .settle2 .ensures
+
+move-up-requires : tie.Need-move-up-requires
+move-up-requires c κs = search needs
+
+loaded-requires : tie.Need-loaded-requires
+loaded-requires c κs = search needs
+
+-- ms of what is on the line are left
+more : (c : tie.Else1) → c .before .before .before .before .before .settle .result .line .at < length (partMs (modeIn (c .before .before .before .before .before .before .before .before .before .before .before .args .c)) (c .before .before .before .before .before .settle .result .line))
+more c =
+    let m = c .before .before .part-ms .ensures ∙ ap (λ (d : Mode). length (partMs d (c .before .before .before .before .before .settle .result .line))) (c .before .before .before .of .ensures) in
+    let h = c .if1 .left in
+    omega arith
+
+chars-are : (c : tie.Joined2) → c .if2 .chars ≡ charsAfter (c .before .before .before .before .before .before .settle .result .takes) (c .before .before .before .before .before .before .before .before .before .before .before .before .args .chars .now)
+chars-are c =
+    let given : Bool → List ℕ = λ (b : Bool). charsAfter b (c .before .before .before .before .before .before .before .before .before .before .before .before .args .chars .now) in
+    ⊎-elim (λ w. w .5 ∙ w .2 .ensures ∙ sym (ap given (w .0 .taken))) (λ w. w .1 ∙ sym (ap given (w .0 .left))) (c .if2 .came)
+
+send-requires : tie.Need-send-requires
+send-requires c κs =
+    let p = c .before .before .before .before .before .before .before .before .before .before .before .before .before .before .pre in
+    let h = p .1 .1 .1 in
+    let s = loaded-sends _ _ (p .0) (p .1 .1 .0) _ (c .before .before .before .before .before .before .before .before .settle .ensures) (more (c .before .before .before)) _ (c .before .loaded .ensures) in
+    (s .core-in, (s .burst, (s .left, (h .0, h .1 .0))))
+
+same-length-4 : tie.Need-same-length-4
+same-length-4 c = ⊎-elim (λ w. ap length (w .5) ∙ w .2 .kept .0) (λ w. ap length (w .1)) (c .before .before .before .before .before .if2 .came)
+
+same-length-5 : tie.Need-same-length-5
+same-length-5 c = search needs
+
+returns-2 : tie.Need-returns-2
+returns-2 c = begin-stretch _ _ _ _ _ _ _ _ (c .before .before .before .before .before .before .before .before .before .before .before .settle .ensures) (more (c .before .before .before .before .before .before)) _ (c .before .before .before .before .loaded .ensures) _ (chars-are (c .before .before .before .before .before)) _ _ _ _ (c .before .before .send .ensures _ _)
+
+pub begin-spec : {M : Type 1} → statement M
+begin-spec =
+    tie.close
+    (tie.spec
+    slice-read-settle
+    settle-requires
+    of-requires
+    part-ms-requires
+    settle-requires-2
+    same-length
+    same-length-2
+    same-length-3
+    returns
+    move-up-requires
+    loaded-requires
+    send-requires
+    same-length-4
+    same-length-5
+    returns-2)
