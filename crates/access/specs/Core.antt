@@ -85,5 +85,11 @@ coreFrom c l heard =
 abbrev pub coreAfter : Core → ℕ → ℕ → Core
 coreAfter c front heard = coreFrom c (settled c front) heard
 
-abbrev pub stepped : Core → ℕ → ℕ → Stepped
-stepped c front heard = record { core = coreAfter c front heard; sent = sentIn c front; event = eventIn c front heard; takes = settled c front .takes }
+-- All that a ms does, after what it starts with.
+abbrev pub stepped : Core → Loaded → ℕ → Stepped
+stepped c l heard = record {
+  core = coreFrom c l heard;
+  sent = levelOn (modeIn c) (l .line);
+  event = eventMs (modeIn c) (isInhibited (inBurst (l .line)) (c .inhibited)) (c .reader) heard;
+  takes = l .takes;
+}

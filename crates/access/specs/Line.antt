@@ -83,5 +83,8 @@ unfoldable pub oneGone : Mode → OnLine → OnLine
 oneGone mode l = cond (ltb (l .at) (length (partMs mode l))) (onLine (l .part) (l .code) (l .at + 1)) l
 
 -- If the last ms of a part has come, the burst ends with that ms if it may.
+abbrev pub ended : Bool → ℕ → OnLine → OnLine
+ended over waiting l = cond (over && mayEnd (isCode l) waiting) idle l
+
 unfoldable pub closed : Mode → ℕ → OnLine → OnLine
-closed mode waiting l = cond (isOver mode l && mayEnd (isCode l) waiting) idle l
+closed mode waiting l = ended (isOver mode l) waiting l

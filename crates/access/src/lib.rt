@@ -174,13 +174,12 @@ fn core_from(c: Core, l: Loaded, heard: u8, reader: Reader) -> Core
     }
 }
 
-// One ms.
-pub fn step(c: Core, front: u8, heard: u8) -> Stepped
+// One ms, after what it starts with.
+pub fn step(c: Core, l: Loaded, heard: u8) -> Stepped
     requires { ⌜ CoreIn c ⌝ }
-    requires { ⌜ (1 ≤ c .waiting → front < 128) ⌝ }
-    ensures { λ r. ⌜ r ≡ stepped c front heard ⌝ }
+    requires { ⌜ LineIn (modeIn c) (l .line) ⌝ }
+    ensures { λ r. ⌜ r ≡ stepped c l heard ⌝ }
 {
-    let l = settle(c, front);
     let now = l.line;
     let mode = Mode::of(c.mode);
     let sent = sending::level_on(mode, now);

@@ -12,7 +12,7 @@ ghost use Prim.Native.Nat.{_≤_, _<_};
 ghost use lib.ListN.{length};
 ghost use Rattle.baudot.specs.Sending.{wanted};
 ghost use Rattle.access.specs.Rules.{mayEnd};
-ghost use Rattle.access.specs.Line.{inBurst, isCode, partMs, isOver, begun, shiftWanted, senderAfterOwn, codeBegins, nextCode, levelOn, oneGone, closed};
+ghost use Rattle.access.specs.Line.{inBurst, isCode, partMs, isOver, begun, shiftWanted, senderAfterOwn, codeBegins, nextCode, levelOn, oneGone, ended, closed};
 ghost use Rattle.access.specs.Range.{LineIn, SenderIn, SendsIn};
 
 const IDLE: u8 = 0;
@@ -203,11 +203,11 @@ fn one_gone(mode: Mode, l: OnLine) -> OnLine
     }
 }
 
-// If the last ms of a part has come, the burst ends if it may.
-pub fn closed(mode: Mode, waiting: u16, l: OnLine) -> OnLine
-    ensures { λ r. ⌜ r ≡ closed mode waiting l ⌝ }
+// With no ms of a part left, the burst ends if it may.
+pub fn ended(over: bool, waiting: u16, l: OnLine) -> OnLine
+    ensures { λ r. ⌜ r ≡ ended over waiting l ⌝ }
 {
-    if !is_over(mode, l) {
+    if !over {
         return l;
     }
     if !may_end(l.part == CODE, waiting) {
@@ -218,6 +218,13 @@ pub fn closed(mode: Mode, waiting: u16, l: OnLine) -> OnLine
         part: IDLE,
         code: 0,
     }
+}
+
+// If the last ms of a part has come, the burst ends if it may.
+pub fn closed(mode: Mode, waiting: u16, l: OnLine) -> OnLine
+    ensures { λ r. ⌜ r ≡ closed mode waiting l ⌝ }
+{
+    ended(is_over(mode, l), waiting, l)
 }
 
 // What is on the line after a ms.

@@ -1,5 +1,5 @@
 -- What a stretch does is what its ms do one after the other.
-use mathlib.Core.Path.{_≡_, _∙_, sym, ap, subst}
+use mathlib.Core.Path.{_≡_, _∙_, refl, sym, ap, subst}
 use mathlib.Core.Bool.{true, false}
 use mathlib.Core.List.{List, [], _∷_, append-nil}
 use Prim.Native.Nat.{ℕ, _+_, _-_, _≤_, _<_}
@@ -39,18 +39,18 @@ walk-to : {s : Station} {xs : List ℕ} {c d : Core} {chars : List ℕ} {levels 
 walk-to {chars = chars} w e = record { after = w .after ∙ ap (λ (k : Core). station k chars) e; sent = w .sent; words = w .words }
 
 -- a core of which a part is sent
-pub record Sends (d : Core) : Type 0 where
+pub record Sends (c : Core) (l : Loaded) (d : Core) : Type 0 where
   pub core-in : CoreIn d
-  pub burst : inBurst (d .line) ≡ true
-  pub left : isOver (modeIn d) (d .line) ≡ false
+  pub mode-is : modeIn c ≡ modeIn d
+  pub left : d .line .at + (length (partMs (modeIn c) (l .line)) - l .line .at) ≡ length (partMs (modeIn d) (d .line))
 
 pub loaded-sends : (c : Core) (given : ℕ) → CoreIn c → (1 ≤ c .waiting → given < 128) → (l : Loaded) → l ≡ settled c given
-    → l .line .at < length (partMs (modeIn c) (l .line)) → (d : Core) → d ≡ loadedCore c l → Sends d
+    → l .line .at < length (partMs (modeIn c) (l .line)) → (d : Core) → d ≡ loadedCore c l → Sends c l d
 unfolding loadedCore
 loaded-sends c given i h l e m d ed =
     let j = subst (LoadedIn (modeIn c)) (sym e) (settled-in c given i h) in
     let w = i .waiting-in in
-    subst Sends (sym ed) (record {
+    subst (Sends c l) (sym ed) (record {
       core-in = record {
         waiting-in = either (λ (k : ℕ). k ≤ 256) (l .takes) (c .waiting - 1) (c .waiting) (omega arith) w;
         silence-in = i .silence-in;
@@ -59,20 +59,20 @@ loaded-sends c given i h l e m d ed =
         sender-in = j .sender-in;
         reader-in = i .reader-in;
       };
-      burst = left-burst (modeIn c) (l .line) m;
-      left = left-over (modeIn c) (l .line) m;
+      mode-is = refl;
+      left = omega arith;
     })
 
 module _ (heard : List ℕ) (c : Core) (chars sent words₀ : List ℕ) (i n : ℕ) where
   -- one ms
-  module _ (q : Stepped) (h : i < length heard) (e : q ≡ stepped c (getD chars 0 0) (getD heard i 0)) where
-    pub settle-stretch : (chars' : List ℕ) → chars' ≡ charsAfter (q .takes) chars
+  module _ (q : Stepped) (h : i < length heard) (e : q ≡ stepped c (settled c (getD chars 0 0)) (getD heard i 0)) where
+    pub step-stretch : (chars' : List ℕ) → chars' ≡ charsAfter (q .takes) chars
         → (sent' : List ℕ) → sent' ≡ set sent i (q .sent)
         → (n' : ℕ) → n' ≡ n + length (wordOf (q .event))
         → (words' : List ℕ) → words' ≡ sets words₀ n (wordOf (q .event))
         → Stretches heard c chars sent words₀ i n (record { core = q .core; at = i + 1; words = n' }) chars' sent' words'
     unfolding stateAfter outputs wordsOf stationMs sentMs eventOf
-    settle-stretch chars' ec sent' es n' en words' ew =
+    step-stretch chars' ec sent' es n' en words' ew =
         let o = between-one heard i h in
         let s = station c chars in
         let w : wordsBy s (between i (i + 1) heard) ≡ wordOf (q .event) = ap (wordsBy s) o ∙ append-nil _ ∙ sym (ap (λ (p : Stepped). wordOf (p .event)) e) in

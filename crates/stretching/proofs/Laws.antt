@@ -6,7 +6,7 @@ use Prim.Native.Nat.{ℕ, zero, suc, _+_, _-_, _≤_, _<_}
 use native.Mathlib.Omega.{arith}
 use lib.Dec.{eqb, leb, ltb}
 use lib.ListN.{length, take, replicate}
-use borrow.Author.Tests.{eqb-true, lt-ltb, lt-leb, eq-eqb, ltb-true, ltb-false}
+use borrow.Author.Tests.{eqb-true, eqb-false, lt-ltb, lt-leb, le-leb, eq-eqb, ltb-true, ltb-false}
 use Rattle.lists.specs.Lists.{allAtMost}
 use Rattle.lists.proofs.Lists.{and-left, and-right}
 use Rattle.lists.specs.Tables.{tabulate}
@@ -239,6 +239,15 @@ module _ (mode : Mode) (l : OnLine) (h : l .at < length (partMs mode l)) where
       go : (b : Bool) → eqb (l .part) 0 ≡ b → not b ≡ true
       go true e = let z = no-ms l (eqb-true (l .part) 0 e) mode in absurd (omega arith)
       go false e = refl
+
+  -- it is over when all are gone
+  pub gone-over : (n left : ℕ) → l .at + left ≡ length (partMs mode l) → n ≤ left → eqb n left ≡ isOver mode (onLine (l .part) (l .code) (l .at + n))
+  unfolding isOver partMs
+  gone-over n left e few = go (eqb n left) refl ∙ sym (ap (λ (b : Bool). b && leb (length (partMs mode l)) (l .at + n)) left-burst)
+    where
+      go : (b : Bool) → eqb n left ≡ b → b ≡ leb (length (partMs mode l)) (l .at + n)
+      go true f = let z = eqb-true n left f in sym (le-leb (length (partMs mode l)) (l .at + n) (omega arith))
+      go false f = let z = eqb-false n left f in sym (lt-leb (length (partMs mode l)) (l .at + n) (omega (arith, z)))
 
   pub left-over : isOver mode l ≡ false
   unfolding isOver

@@ -3,12 +3,13 @@ use access::Core;
 use access::Loaded;
 use access::OnLine;
 use access::sending;
-use alphabet::Mode;
 use frames::Frame;
 use keys::Keys;
 use line::Reader;
 ghost use mathlib.Core.Path.{_≡_};
 ghost use Prim.Native.Nat.{_+_, _-_, _≤_};
+ghost use Rattle.access.specs.Line.{onLine, isOver};
+ghost use Rattle.access.specs.Core.{modeIn};
 ghost use Rattle.stretching.specs.Cores.{silenceFor, silenceOver, deafReader, loadedCore, sentFor, deafFor, listened};
 
 // The silence after n ms without signal.
@@ -103,9 +104,10 @@ pub fn loaded(c: Core, l: Loaded) -> Core
     }
 }
 
-// A core after n ms of a part.
-pub fn sent_for(c: Core, n: usize) -> Core
+// A core after n ms of a part, which is over or not.
+pub fn sent_for(c: Core, n: usize, over: bool) -> Core
     requires { ⌜ 1 ≤ n ⌝ }
+    requires { ⌜ over ≡ isOver (modeIn c) (onLine (c .line .part) (c .line .code) (c .line .at + n)) ⌝ }
     requires { ⌜ c .silence ≤ 300 ⌝ }
     requires { ⌜ c .line .at + n ≤ 480 ⌝ }
     ensures { λ r. ⌜ r ≡ sentFor c n ⌝ }
@@ -118,7 +120,7 @@ pub fn sent_for(c: Core, n: usize) -> Core
         waiting: c.waiting,
         silence: silence_for(c.silence, n),
         inhibited: access::INHIBITED,
-        line: sending::closed(Mode::of(c.mode), c.waiting, line),
+        line: sending::ended(over, c.waiting, line),
         sender,
         reader: deaf_reader(reader, n),
         mode: c.mode,

@@ -1,13 +1,12 @@
 // The ms of a run, in stretches.
 use access::Core;
-use access::sending;
-use alphabet::Mode;
 ghost use mathlib.Core.Path.{_≡_};
-ghost use mathlib.Core.Bool.{true};
+ghost use mathlib.Core.Bool.{true, false};
 ghost use Prim.Native.Nat.{_+_, _≤_, _<_};
 ghost use lib.ListN.{length};
 ghost use lib.Seq.{sets};
 ghost use Rattle.lists.specs.Lists.{allAtMost};
+ghost use Rattle.access.specs.Rules.{mayBegin};
 ghost use Rattle.access.specs.Core.{modeIn};
 ghost use Rattle.station.specs.Station.{station, stationAfter, sentBy, wordsBy};
 ghost use Rattle.station.specs.Range.{inRange};
@@ -31,7 +30,17 @@ pub struct Stretched {
     pub words: usize,
 }
 
-// The next stretch: sending is settled and what it loads is sent; the ms of a part; inhibited ms; ms that the receiver hears.
+// In a burst, or may one begin?
+fn may_send(c: Core) -> bool
+    ensures { λ r. ⌜ (r ≡ false → (c .line .part ≡ 0) × (mayBegin (c .waiting) (c .silence) ≡ false)) ⌝ }
+{
+    if c.line.part != 0 {
+        return true;
+    }
+    access::may_begin(c.waiting, c.silence)
+}
+
+// The next stretch: the ms of a part; inhibited ms; ms that the receiver hears.
 fn stretch(
     c: Core,
     chars: &mut [u8],
@@ -49,14 +58,7 @@ fn stretch(
     requires { ⌜ n + length (now heard) ≤ length (now words) + i ⌝ }
     ensures { λ x. ⌜ Stretches (now (heard .entry)) c (now (chars .entry)) (now (sent .entry)) (now (words .entry)) i n x (now (chars .exit)) (now (sent .exit)) (now (words .exit)) ⌝ }
 {
-    let line = c.line;
-    if line.part != 0 {
-        if sending::is_over(Mode::of(c.mode), line) {
-            return stretches::begin(c, chars, heard, i, sent, words, n);
-        }
-        return stretches::send(c, heard, i, sent, n);
-    }
-    if access::may_begin(c.waiting, c.silence) {
+    if may_send(c) {
         return stretches::begin(c, chars, heard, i, sent, words, n);
     }
     if c.inhibited != 0 {

@@ -3,6 +3,7 @@ use crate::Stretched;
 use crate::cores;
 use crate::levels;
 use access::Core;
+use access::Loaded;
 use access::sending;
 use alphabet::Mode;
 ghost use mathlib.Core.Path.{_≡_};
@@ -12,8 +13,8 @@ ghost use Prim.Native.Nat.{ℕ, _+_, _≤_, _<_};
 ghost use lib.ListN.{length};
 ghost use Rattle.lists.specs.Lists.{allAtMost};
 ghost use Rattle.access.specs.Rules.{mayBegin};
-ghost use Rattle.access.specs.Line.{inBurst, isOver};
-ghost use Rattle.access.specs.Core.{modeIn};
+ghost use Rattle.access.specs.Line.{partMs};
+ghost use Rattle.access.specs.Core.{modeIn, settled};
 ghost use Rattle.access.specs.Range.{CoreIn};
 ghost use Rattle.station.specs.Station.{station, front};
 ghost use Rattle.stretching.specs.Stretches.{Ends, Free, Stretches};
@@ -43,9 +44,10 @@ fn free_end(waiting: u16, silence: u16, i: usize, len: usize) -> usize
     end_of(i, (access::FREE - silence) as usize, len)
 }
 
-// One ms in which sending is settled anew.
-fn settle(
+// One ms by itself, after what it starts with.
+fn step(
     c: Core,
+    l: Loaded,
     chars: &mut [u8],
     heard: &[u8],
     i: usize,
@@ -56,12 +58,13 @@ fn settle(
     requires { ⌜ CoreIn c ⌝ }
     requires { ⌜ length (now chars) ≡ 256 ⌝ }
     requires { ⌜ (1 ≤ c .waiting → front (station c (now chars)) < 128) ⌝ }
+    requires { ⌜ l ≡ settled c (front (station c (now chars))) ⌝ }
     requires { ⌜ i < length (now heard) ⌝ }
     requires { ⌜ i < length (now sent) ⌝ }
     requires { ⌜ n < length (now words) ⌝ }
     ensures { λ x. ⌜ Stretches (now (heard .entry)) c (now (chars .entry)) (now (sent .entry)) (now (words .entry)) i n x (now (chars .exit)) (now (sent .exit)) (now (words .exit)) ⌝ }
 {
-    let x = access::step(c, chars[0], heard[i]);
+    let x = access::step(c, l, heard[i]);
     if x.takes {
         queue::move_up(chars);
     }
@@ -77,27 +80,35 @@ fn settle(
 }
 
 // The ms of a part that are left.
-pub fn send(c: Core, heard: &[u8], i: usize, sent: &mut [u8], n: usize) -> Stretched
+fn send(
+    c: Core,
+    mode: Mode,
+    left: usize,
+    heard: &[u8],
+    i: usize,
+    sent: &mut [u8],
+    n: usize,
+) -> Stretched
     requires { ⌜ CoreIn c ⌝ }
-    requires { ⌜ inBurst (c .line) ≡ true ⌝ }
-    requires { ⌜ isOver (modeIn c) (c .line) ≡ false ⌝ }
+    requires { ⌜ mode ≡ modeIn c ⌝ }
+    requires { ⌜ 1 ≤ left ⌝ }
+    requires { ⌜ c .line .at + left ≡ length (partMs (modeIn c) (c .line)) ⌝ }
     requires { ⌜ i < length (now heard) ⌝ }
     requires { ⌜ length (now heard) ≤ length (now sent) ⌝ }
     ensures { λ x. ⌜ ((chars words : List ℕ) → Stretches (now (heard .entry)) c chars (now (sent .entry)) words i n x chars (now (sent .exit)) words) ⌝ }
 {
     let l = c.line;
-    let mode = Mode::of(c.mode);
-    let left = (sending::part_ms(mode, l) - l.at) as usize;
     let to = end_of(i, left, heard.len());
     levels::put(mode, l, sent, i, to);
+    let gone = to - i;
     Stretched {
-        core: cores::sent_for(c, to - i),
+        core: cores::sent_for(c, gone, gone == left),
         at: to,
         words: n,
     }
 }
 
-// Sending is settled anew, and the ms of what is then on the line are sent; one ms if it has none.
+// Sending is settled, and the ms of what is then on the line are sent; one ms if it has none.
 pub fn begin(
     c: Core,
     chars: &mut [u8],
@@ -117,14 +128,16 @@ pub fn begin(
 {
     let l = access::settle(c, chars[0]);
     let line = l.line;
-    if sending::part_ms(Mode::of(c.mode), line) <= line.at {
-        return settle(c, chars, heard, i, sent, words, n);
+    let mode = Mode::of(c.mode);
+    let ms = sending::part_ms(mode, line);
+    if ms <= line.at {
+        return step(c, l, chars, heard, i, sent, words, n);
     }
     if l.takes {
         queue::move_up(chars);
     }
     let core = cores::loaded(c, l);
-    send(core, heard, i, sent, n)
+    send(core, mode, (ms - line.at) as usize, heard, i, sent, n)
 }
 
 // Inhibited ms in no burst, up to one in which a burst may begin.

@@ -1,7 +1,6 @@
 -- `sent_for` meets its contract.
-use mathlib.Core.Path.{_≡_, _∙_, ap}
-use Rattle.alphabet.specs.declared.Mode.{Mode}
-use Rattle.access.specs.Line.{closed}
+use mathlib.Core.Path.{_≡_, _∙_}
+use Rattle.access.specs.Line.{ended, closed}
 use Rattle.access.specs.Core.{core, modeIn}
 use Rattle.stretching.specs.Cores.{further, sentFor}
 use Rattle.stretching.proofs.CoreLaws.{burst-some}
@@ -15,31 +14,21 @@ further-requires c κs = search needs
 silence-for-requires : tie.Need-silence-for-requires
 silence-for-requires c κs = search needs
 
-of-requires : tie.Need-of-requires
-of-requires c κs = search needs
-
-closed-requires : tie.Need-closed-requires
-closed-requires c κs = search needs
+ended-requires : tie.Need-ended-requires
+ended-requires c κs = search needs
 
 deaf-reader-requires : tie.Need-deaf-reader-requires
 deaf-reader-requires c κs = search needs
 
 returns : tie.Need-returns
-unfolding sentFor
+unfolding sentFor closed
 returns c =
-    let s = c .before .before .before .before .before .before .before .before .args .c in
-    let n = c .before .before .before .before .before .before .before .before .args .n in
-    let line : c .before .closed .result ≡ closed (modeIn s) (s .waiting) (further (s .line) n) =
-    c .before .closed .ensures ∙ ap (λ (m : Mode). closed m (s .waiting) (c .before .before .before .before .before .before .further .result)) (c .before .before .of .ensures) ∙ ap (closed (modeIn s) (s .waiting)) (c .before .before .before .before .before .before .further .ensures) in
-    λ j. core (s .waiting) (c .before .before .before .silence-for .ensures j) (burst-some (s .inhibited) n (c .before .before .before .before .before .before .before .before .pre .0) j) (line j) (s .sender) (c .deaf-reader .ensures j) (s .mode)
+    let t = c .before .before .before .before .before .before .before in
+    let s = t .args .c in
+    let n = t .args .n in
+    let line : c .before .ended .result ≡ closed (modeIn s) (s .waiting) (further (s .line) n) =
+    c .before .ended .ensures ∙ (λ j. ended (t .pre .1 .0 j) (s .waiting) (c .before .before .before .before .before .further .ensures j)) in
+    λ j. core (s .waiting) (c .before .before .silence-for .ensures j) (burst-some (s .inhibited) n (t .pre .0) j) (line j) (s .sender) (c .deaf-reader .ensures j) (s .mode)
 
 pub sent-for-spec : {M : Type 1} → statement M
-sent-for-spec =
-    tie.close
-    (tie.spec
-    further-requires
-    silence-for-requires
-    of-requires
-    closed-requires
-    deaf-reader-requires
-    returns)
+sent-for-spec = tie.close (tie.spec further-requires silence-for-requires ended-requires deaf-reader-requires returns)

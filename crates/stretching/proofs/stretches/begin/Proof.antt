@@ -27,11 +27,11 @@ of-requires c κs = search needs
 part-ms-requires : tie.Need-part-ms-requires
 part-ms-requires c κs = search needs
 
-settle-requires-2 : tie.Need-settle-requires-2
-settle-requires-2 c κs =
+step-requires : tie.Need-step-requires
+step-requires c κs =
     let p = c .before .before .before .before .before .before .before .before .before .before .before .before .before .before .pre in
     let h = p .1 .1 .1 in
-    (p .0, (p .1 .0, (p .1 .1 .0, (h .0, (omega arith, h .1 .1)))))
+    (p .0, (p .1 .0, (p .1 .1 .0, (c .before .before .before .before .before .before .before .before .settle .ensures, (h .0, (omega arith, h .1 .1))))))
 
 same-length : tie.Need-same-length
 same-length c = search needs
@@ -43,7 +43,7 @@ same-length-3 : tie.Need-same-length-3
 same-length-3 c = search needs
 
 returns : tie.Need-returns
-returns c = c .before .before .before .before .before .before .settle2 .ensures
+returns c = c .before .before .before .before .before .before .step .ensures
 
 move-up-requires : tie.Need-move-up-requires
 move-up-requires c κs = search needs
@@ -63,21 +63,30 @@ chars-are c =
     let given : Bool → List ℕ = λ (b : Bool). charsAfter b (c .before .before .before .before .before .before .before .before .before .before .before .before .args .chars .now) in
     ⊎-elim (λ w. w .5 ∙ w .2 .ensures ∙ sym (ap given (w .0 .taken))) (λ w. w .1 ∙ sym (ap given (w .0 .left))) (c .if2 .came)
 
+sub-send : tie.Need-sub-send
+sub-send c = search needs
+
+cast-send : tie.Need-cast-send
+cast-send c = search needs
+
 send-requires : tie.Need-send-requires
 send-requires c κs =
-    let p = c .before .before .before .before .before .before .before .before .before .before .before .before .before .before .pre in
+    let p = c .before .before .before .before .before .before .before .before .before .before .before .before .before .before .before .pre in
     let h = p .1 .1 .1 in
-    let s = loaded-sends _ _ (p .0) (p .1 .1 .0) _ (c .before .before .before .before .before .before .before .before .settle .ensures) (more (c .before .before .before)) _ (c .before .loaded .ensures) in
-    (s .core-in, (s .burst, (s .left, (h .0, h .1 .0))))
+    let s = loaded-sends _ _ (p .0) (p .1 .1 .0) _ (c .before .before .before .before .before .before .before .before .before .settle .ensures) (more (c .before .before .before .before)) _ (c .before .before .loaded .ensures) in
+    let m = c .before .before .before .before .before .before .part-ms .ensures ∙ ap (λ (d : Mode). length (partMs d (c .before .before .before .before .before .before .before .before .before .settle .result .line))) (c .before .before .before .before .before .before .before .of .ensures) in
+    let g = c .before .before .before .before .if1 .left in
+    let left = s .left in
+    (s .core-in, (c .before .before .before .before .before .before .before .of .ensures ∙ s .mode-is, (omega arith, (omega arith, (h .0, h .1 .0)))))
 
 same-length-4 : tie.Need-same-length-4
-same-length-4 c = ⊎-elim (λ w. ap length (w .5) ∙ w .2 .kept .0) (λ w. ap length (w .1)) (c .before .before .before .before .before .if2 .came)
+same-length-4 c = ⊎-elim (λ w. ap length (w .5) ∙ w .2 .kept .0) (λ w. ap length (w .1)) (c .before .before .before .before .before .before .if2 .came)
 
 same-length-5 : tie.Need-same-length-5
 same-length-5 c = search needs
 
 returns-2 : tie.Need-returns-2
-returns-2 c = begin-stretch _ _ _ _ _ _ _ _ (c .before .before .before .before .before .before .before .before .before .before .before .settle .ensures) (more (c .before .before .before .before .before .before)) _ (c .before .before .before .before .loaded .ensures) _ (chars-are (c .before .before .before .before .before)) _ _ _ _ (c .before .before .send .ensures _ _)
+returns-2 c = begin-stretch _ _ _ _ _ _ _ _ (c .before .before .before .before .before .before .before .before .before .before .before .before .settle .ensures) (more (c .before .before .before .before .before .before .before)) _ (c .before .before .before .before .before .loaded .ensures) _ (chars-are (c .before .before .before .before .before .before)) _ _ _ _ (c .before .before .send .ensures _ _)
 
 pub begin-spec : {M : Type 1} → statement M
 begin-spec =
@@ -87,13 +96,15 @@ begin-spec =
     settle-requires
     of-requires
     part-ms-requires
-    settle-requires-2
+    step-requires
     same-length
     same-length-2
     same-length-3
     returns
     move-up-requires
     loaded-requires
+    sub-send
+    cast-send
     send-requires
     same-length-4
     same-length-5
