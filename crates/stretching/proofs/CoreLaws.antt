@@ -180,16 +180,3 @@ part-most mode l i =
     go true b p q = p
     go false true p q = q
     go false false p q = omega arith
-
-module _ (mode : Mode) (l : OnLine) where
-  -- a part that is not over has a ms left
-  pub has-more : inBurst l ≡ true → isOver mode l ≡ false → l .at < length (partMs mode l)
-  unfolding isOver
-  has-more b f = go (ltb (l .at) (length (partMs mode l))) refl
-    where
-      go : (t : Bool) → ltb (l .at) (length (partMs mode l)) ≡ t → l .at < length (partMs mode l)
-      go true e = ltb-true (l .at) (length (partMs mode l)) e
-      go false e =
-          let z : _≡_ {A = Bool} true false = sym (rw (b, le-leb (length (partMs mode l)) (l .at) (ltb-false (l .at) (length (partMs mode l)) e)) refl) ∙ f in
-          let y : _≡_ {A = ℕ} 0 1 = cc in
-          absurd (omega arith)

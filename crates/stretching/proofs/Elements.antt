@@ -25,7 +25,7 @@ use Rattle.access.specs.Line.{inBurst, partMs}
 use Rattle.access.proofs.Laws.{within, level-preamble, level-code}
 use Rattle.stretching.specs.Cores.{further}
 use Rattle.stretching.specs.Stretches.{Ends}
-use Rattle.stretching.specs.Levels.{codeLevel, partLevel, evenMs, elementAt, elementEnd, frameOf, Framed}
+use Rattle.stretching.specs.Levels.{codeLevel, partLevel, evenMs, elementAt, elementEnd, frameOf, Run, Framed}
 use Rattle.stretching.proofs.CoreLaws.{few-codes, longest-480}
 
 -- ---- keys
@@ -75,13 +75,6 @@ framed-edt = record {
 }
 
 -- the ms of an element
-pub element-ends : (mode : Mode) (m : ℕ) → m < elementEnd mode (elementAt mode m)
-unfolding elementAt elementEnd
-element-ends Baudot45 m = omega arith
-element-ends Baudot50 m = omega arith
-element-ends Dtmf m = omega arith
-element-ends Edt m = omega arith
-
 pub element-next : (mode : Mode) (j : ℕ) → elementAt mode (elementEnd mode j) ≡ j + 1
 unfolding elementAt elementEnd
 element-next Baudot45 j = omega arith
@@ -89,12 +82,27 @@ element-next Baudot50 j = omega arith
 element-next Dtmf j = omega arith
 element-next Edt j = omega arith
 
-pub element-same : (mode : Mode) (m k : ℕ) → m ≤ k → k < elementEnd mode (elementAt mode m) → elementAt mode k ≡ elementAt mode m
+-- the ms up to the end of an element, and the elements to which they belong
+element-before : (mode : Mode) (m j : ℕ) → elementAt mode m ≤ j → m < elementEnd mode j
 unfolding elementAt elementEnd
-element-same Baudot45 m k h l = omega arith
-element-same Baudot50 m k h l = omega arith
-element-same Dtmf m k h l = omega arith
-element-same Edt m k h l = omega arith
+element-before Baudot45 m j h = omega arith
+element-before Baudot50 m j h = omega arith
+element-before Dtmf m j h = omega arith
+element-before Edt m j h = omega arith
+
+element-within : (mode : Mode) (m j : ℕ) → m < elementEnd mode j → elementAt mode m ≤ j
+unfolding elementAt elementEnd
+element-within Baudot45 m j h = omega arith
+element-within Baudot50 m j h = omega arith
+element-within Dtmf m j h = omega arith
+element-within Edt m j h = omega arith
+
+element-later : (mode : Mode) (m k : ℕ) → m ≤ k → elementAt mode m ≤ elementAt mode k
+unfolding elementAt
+element-later Baudot45 m k h = omega arith
+element-later Baudot50 m k h = omega arith
+element-later Dtmf m k h = omega arith
+element-later Edt m k h = omega arith
 
 -- ---- the loop that writes them
 
@@ -203,49 +211,70 @@ module _ (mode : Mode) (framed : Framed mode) (code at : ℕ) (h : code < codes 
     abbrev m : ℕ
     m = at + (i - from)
 
-    ends-later : m < elementEnd mode j
-    ends-later = rw (p .element g) (element-ends mode m)
-
     pub element-few : j < 16
     element-few = let s = short mode code h .longest in let low = p .putting .low in rw (p .element g) (framed .few m (omega arith))
 
-    pub element-some : at < elementEnd mode j
-    element-some = let e = ends-later in omega arith
+    module _ (last : ℕ) (r : Run (frameOf mode code) j last) where
+      ends-later : m < elementEnd mode last
+      ends-later = let q = p .element g in let low = r .low in element-before mode m last (omega arith)
 
-    module _ (end : ℕ) (e : Ends from (elementEnd mode j - at) to end) where
-      pub framing-further : i < end
-      framing-further = go (ltb end to) refl
-        where
-          go : (b : Bool) → ltb end to ≡ b → i < end
-          go true f =
-              let x = e .full (ltb-true end to f) in
-              let y = ends-later in
-              let low = p .putting .low in
-              omega arith
-          go false f = let x = ltb-false end to f in omega arith
+      pub element-some : at < elementEnd mode last
+      element-some = let e = ends-later in omega arith
 
-      even : (k : ℕ) → k < end - i → codeLevel mode code at (i - from + k) ≡ levelOf (frameOf mode code / 2 ^ j % 2)
-      even k l =
-          let z : at + (i - from + k) ≡ m + k = omega arith in
-          let few = e .few in
-          let high = e .high in
-          let some = element-some in
-          let low = p .putting .low in
-          let q = p .element g in
-          let before : m + k < elementEnd mode (elementAt mode m) = rw q at (let t : m + k < elementEnd mode j = omega arith in t) in
-          let s : elementAt mode (m + k) ≡ j = element-same mode m (m + k) (omega arith) before ∙ sym q in
-          ap (λ (a : ℕ). getD (signal mode code) a 0) z ∙ framed .level code (m + k) h (omega arith) ∙ ap (λ (a : ℕ). levelOf (frameOf mode code / 2 ^ a % 2)) s
+      module _ (end : ℕ) (e : Ends from (elementEnd mode last - at) to end) where
+        pub framing-further : i < end
+        framing-further = go (ltb end to) refl
+          where
+            go : (b : Bool) → ltb end to ≡ b → i < end
+            go true f =
+                let x = e .full (ltb-true end to f) in
+                let y = ends-later in
+                let low = p .putting .low in
+                omega arith
+            go false f = let x = ltb-false end to f in omega arith
 
-      pub framing-turn : (frame level : ℕ) → frame ≡ frameOf mode code → level ≡ levelOf (frame / 2 ^ j % 2)
-          → (sent' : List ℕ) → sent' ≡ sets sent i (replicate (end - i) level) → Framing mode code at sent₀ from to sent' end (j + 1)
-      framing-turn frame level ef el sent' es =
-          let further = framing-further in
-          let some = element-some in
-          let same = el ∙ ap (λ (f : ℕ). levelOf (f / 2 ^ j % 2)) ef in
-          record {
-            putting = putting-turn (codeLevel mode code at) sent₀ from to sent i (p .putting) end level (omega arith) (e .high) (λ (k : ℕ) (l : k < end - i). even k l ∙ sym same) sent' es;
-            element = λ (l : end < to).
-                let x = e .full l in
-                let z : elementEnd mode j ≡ at + (end - from) = omega arith in
-                sym (element-next mode j) ∙ ap (elementAt mode) z;
-          }
+        even : (k : ℕ) → k < end - i → codeLevel mode code at (i - from + k) ≡ levelOf (frameOf mode code / 2 ^ j % 2)
+        even k l =
+            let z : at + (i - from + k) ≡ m + k = omega arith in
+            let few = e .few in
+            let high = e .high in
+            let some = element-some in
+            let low = p .putting .low in
+            let q = p .element g in
+            let after = element-later mode m (m + k) (omega arith) in
+            let before = element-within mode (m + k) last (omega arith) in
+            ap (λ (a : ℕ). getD (signal mode code) a 0) z ∙ framed .level code (m + k) h (omega arith) ∙ r .same (elementAt mode (m + k)) (omega arith) before
+
+        pub framing-turn : (level : ℕ) → level ≡ levelOf (frameOf mode code / 2 ^ j % 2)
+            → (sent' : List ℕ) → sent' ≡ sets sent i (replicate (end - i) level) → Framing mode code at sent₀ from to sent' end (last + 1)
+        framing-turn level el sent' es =
+            let further = framing-further in
+            let some = element-some in
+            record {
+              putting = putting-turn (codeLevel mode code at) sent₀ from to sent i (p .putting) end level (omega arith) (e .high) (λ (k : ℕ) (l : k < end - i). even k l ∙ sym el) sent' es;
+              element = λ (l : end < to).
+                  let x = e .full l in
+                  let z : elementEnd mode last ≡ at + (end - from) = omega arith in
+                  sym (element-next mode last) ∙ ap (elementAt mode) z;
+            }
+
+-- ---- the loop over elements of one level
+
+module _ (frame j k : ℕ) where
+  pub run-start : j < 16 → k ≡ j → Run frame j k
+  run-start h e = record {
+    low = omega arith;
+    high = omega arith;
+    same = λ (n : ℕ) (a : j ≤ n) (b : n ≤ k). let z : n ≡ j = omega arith in ap (λ (q : ℕ). levelOf (frame / 2 ^ q % 2)) z;
+  }
+
+  pub run-turn : Run frame j k → k < 15 → levelOf (frame / 2 ^ (k + 1) % 2) ≡ levelOf (frame / 2 ^ j % 2) → Run frame j (k + 1)
+  run-turn r h e = record {
+    low = let low = r .low in omega arith;
+    high = omega arith;
+    same = λ (n : ℕ) (a : j ≤ n) (b : n ≤ k + 1). go n a b (ltb n (k + 1)) refl;
+  }
+    where
+      go : (n : ℕ) → j ≤ n → n ≤ k + 1 → (b : Bool) → ltb n (k + 1) ≡ b → levelOf (frame / 2 ^ n % 2) ≡ levelOf (frame / 2 ^ j % 2)
+      go n a b true f = let l = ltb-true n (k + 1) f in r .same n a (omega arith)
+      go n a b false f = let l = ltb-false n (k + 1) f in let z : n ≡ k + 1 = omega arith in ap (λ (q : ℕ). levelOf (frame / 2 ^ q % 2)) z ∙ e

@@ -1,5 +1,5 @@
 -- The levels of a part, from a ms of it on.
-use Prim.Native.Nat.{ℕ, _+_, _-_, _*_, _/_, _%_, _^_, _<_}
+use Prim.Native.Nat.{ℕ, _+_, _-_, _*_, _/_, _%_, _^_, _≤_, _<_}
 use mathlib.Core.Path.{_≡_}
 use mathlib.Core.Bool.{cond}
 use lib.Dec.{ltb}
@@ -43,6 +43,12 @@ frameOf Baudot45 code = 192 + 2 * code
 frameOf Baudot50 code = 192 + 2 * code
 frameOf Dtmf code = 0
 frameOf Edt code = edtFrame code
+
+-- The elements of a frame from one up to another have one level.
+pub record Run (frame j last : ℕ) : Type 0 where
+  pub low : j ≤ last
+  pub high : last < 16
+  pub same : (k : ℕ) → j ≤ k → k ≤ last → levelOf (frame / 2 ^ k % 2) ≡ levelOf (frame / 2 ^ j % 2)
 
 -- A mode whose codes are sent in frames.
 pub record Framed (mode : Mode) : Type 0 where

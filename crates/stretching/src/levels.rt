@@ -5,17 +5,17 @@ use alphabet::LineCode;
 use alphabet::Mode;
 ghost use mathlib.Core.Path.{_≡_};
 ghost use mathlib.Core.Bool.{true};
-ghost use Prim.Native.Nat.{_+_, _-_, _≤_, _<_};
+ghost use Prim.Native.Nat.{_+_, _-_, _/_, _%_, _^_, _≤_, _<_};
 ghost use lib.ListN.{length, replicate};
 ghost use lib.Seq.{sets};
 ghost use Rattle.lists.specs.Tables.{tabulate};
 ghost use Rattle.alphabet.specs.Modes.{alphabetOf};
 ghost use Rattle.alphabet.specs.Packing.{codes};
-ghost use Rattle.signal.specs.Signal.{signal};
+ghost use Rattle.signal.specs.Signal.{levelOf, signal};
 ghost use Rattle.access.specs.Line.{inBurst, partMs};
 ghost use Rattle.access.specs.Range.{LineIn};
 ghost use Rattle.alphabet.specs.declared.Mode.the-variants as mode;
-ghost use Rattle.stretching.specs.Levels.{evenMs, elementAt, elementEnd, frameOf, Framed, codeLevel, partLevel};
+ghost use Rattle.stretching.specs.Levels.{evenMs, elementAt, elementEnd, frameOf, Run, Framed, codeLevel, partLevel};
 
 // A level, written from a place to another.
 pub fn fill(sent: &mut [u8], from: usize, to: usize, level: u8)
@@ -98,6 +98,22 @@ fn frame_of(mode: Mode, code: u8) -> u16
     }
 }
 
+// The last of the elements from one on that have its level.
+fn run_end(frame: u16, j: usize, level: u8) -> usize
+    requires { ⌜ j < 16 ⌝ }
+    requires { ⌜ level ≡ levelOf (frame / 2 ^ j % 2) ⌝ }
+    ensures { λ r. ⌜ Run frame j r ⌝ }
+{
+    let mut k = j;
+    while k < 15 {
+        if signal::frame_level(frame, k as u16 + 1) != level {
+            return k;
+        }
+        k += 1;
+    }
+    k
+}
+
 // The ms of a frame from one on, written from a place to another.
 fn put_frame(mode: Mode, code: u8, at: usize, sent: &mut [u8], from: usize, to: usize)
     requires { ⌜ Framed mode ⌝ }
@@ -111,11 +127,12 @@ fn put_frame(mode: Mode, code: u8, at: usize, sent: &mut [u8], from: usize, to: 
     let mut j = element_at(mode, at);
     let mut i = from;
     while i < to {
-        let end = stretches::end_of(from, element_end(mode, j) - at, to);
         let level = signal::frame_level(frame, j as u16);
+        let last = run_end(frame, j, level);
+        let end = stretches::end_of(from, element_end(mode, last) - at, to);
         fill(sent, i, end, level);
         i = end;
-        j += 1;
+        j = last + 1;
     }
 }
 

@@ -25,48 +25,64 @@ element-at-requires c κs =
 loop-holds : tie.Need-loop-holds Inv-loop μ-loop
 loop-holds c = let s = c .before .before .before in let l = s .pre .1 .1 .1 .0 in framing-start _ (s .pre .0) _ _ (s .pre .1 .0) _ _ _ (s .pre .1 .1 .0) (omega arith) _ (c .element-at .ensures)
 
-element-end-requires : tie.Need-element-end-requires Inv-loop μ-loop
-element-end-requires c κs = let s = c .before .before .before .before .before in element-few _ (s .pre .0) _ _ (s .pre .1 .0) _ _ _ (s .pre .1 .1 .0) _ _ _ (c .before .loop .inv) (c .loop-test .taken)
-
-sub-end-of : tie.Need-sub-end-of Inv-loop μ-loop
-sub-end-of c = let s = c .before .before .before .before .before .before in let e = c .element-end .ensures in let h = element-some _ (s .pre .0) _ _ (s .pre .1 .0) _ _ _ (s .pre .1 .1 .0) _ _ _ (c .before .before .loop .inv) (c .before .loop-test .taken) in omega arith
-
-end-of-requires : tie.Need-end-of-requires Inv-loop μ-loop
-end-of-requires c κs = let s = c .before .before .before .before .before .before in let e = c .element-end .ensures in let h = element-some _ (s .pre .0) _ _ (s .pre .1 .0) _ _ _ (s .pre .1 .1 .0) _ _ _ (c .before .before .loop .inv) (c .before .loop-test .taken) in (omega arith, s .pre .1 .1 .1 .0)
-
 cast-frame-level : tie.Need-cast-frame-level Inv-loop μ-loop
-cast-frame-level c = let s = c .before .before .before .before .before .before .before in let h = element-few _ (s .pre .0) _ _ (s .pre .1 .0) _ _ _ (s .pre .1 .1 .0) _ _ _ (c .before .before .before .loop .inv) (c .before .before .loop-test .taken) in omega arith
+cast-frame-level c = let s = c .before .before .before .before .before in let h = element-few _ (s .pre .0) _ _ (s .pre .1 .0) _ _ _ (s .pre .1 .1 .0) _ _ _ (c .before .loop .inv) (c .loop-test .taken) in omega arith
 
 frame-level-requires : tie.Need-frame-level-requires Inv-loop μ-loop
-frame-level-requires c κs = let s = c .before .before .before .before .before .before .before in element-few _ (s .pre .0) _ _ (s .pre .1 .0) _ _ _ (s .pre .1 .1 .0) _ _ _ (c .before .before .before .loop .inv) (c .before .before .loop-test .taken)
+frame-level-requires c κs = let s = c .before .before .before .before .before in element-few _ (s .pre .0) _ _ (s .pre .1 .0) _ _ _ (s .pre .1 .1 .0) _ _ _ (c .before .loop .inv) (c .loop-test .taken)
+
+run-end-requires : tie.Need-run-end-requires Inv-loop μ-loop
+run-end-requires c κs = let s = c .before .before .before .before .before .before in (element-few _ (s .pre .0) _ _ (s .pre .1 .0) _ _ _ (s .pre .1 .1 .0) _ _ _ (c .before .before .loop .inv) (c .before .loop-test .taken), c .frame-level .ensures)
+
+element-end-requires : tie.Need-element-end-requires Inv-loop μ-loop
+element-end-requires c κs = c .run-end .ensures .high
+
+sub-end-of : tie.Need-sub-end-of Inv-loop μ-loop
+sub-end-of c =
+    let s = c .before .before .before .before .before .before .before .before in
+    let e = c .element-end .ensures in
+    let r = rw (c .before .before .before .before .before .before .frame-of .ensures) at (c .before .run-end .ensures) in
+    let h = element-some _ (s .pre .0) _ _ (s .pre .1 .0) _ _ _ (s .pre .1 .1 .0) _ _ _ (c .before .before .before .before .loop .inv) (c .before .before .before .loop-test .taken) _ r in
+    omega arith
+
+end-of-requires : tie.Need-end-of-requires Inv-loop μ-loop
+end-of-requires c κs =
+    let s = c .before .before .before .before .before .before .before .before in
+    let e = c .element-end .ensures in
+    let r = rw (c .before .before .before .before .before .before .frame-of .ensures) at (c .before .run-end .ensures) in
+    let h = element-some _ (s .pre .0) _ _ (s .pre .1 .0) _ _ _ (s .pre .1 .1 .0) _ _ _ (c .before .before .before .before .loop .inv) (c .before .before .before .loop-test .taken) _ r in
+    (omega arith, s .pre .1 .1 .1 .0)
 
 fill-requires : tie.Need-fill-requires Inv-loop μ-loop
 fill-requires c κs =
-    let s = c .before .before .before .before .before .before .before .before .before in
-    let e = rw (c .before .before .before .element-end .ensures) at (c .before .before .end-of .ensures) in
-    let l = c .before .before .before .before .before .loop .inv in
+    let s = c .before .before .before .before .before .before .before .before .before .before in
+    let e = rw (c .before .before .element-end .ensures) at (c .before .end-of .ensures) in
+    let l = c .before .before .before .before .before .before .loop .inv in
     let z = l .putting .size in
     let q = s .pre .1 .1 .1 .1 in
-    let f = framing-further _ (s .pre .0) _ _ (s .pre .1 .0) _ _ _ (s .pre .1 .1 .0) _ _ _ l (c .before .before .before .before .loop-test .taken) _ e in
+    let r = rw (c .before .before .before .before .before .before .before .before .frame-of .ensures) at (c .before .before .before .run-end .ensures) in
+    let f = framing-further _ (s .pre .0) _ _ (s .pre .1 .0) _ _ _ (s .pre .1 .1 .0) _ _ _ (c .before .before .before .before .before .before .loop .inv) (c .before .before .before .before .before .loop-test .taken) _ r _ e in
     let high = e .high in
     (omega arith, omega arith)
 
 add-j : tie.Need-add-j Inv-loop μ-loop
-add-j c = let s = c .before .before .before .before .before .before .before .before .before .before .before .before in let h = element-few _ (s .pre .0) _ _ (s .pre .1 .0) _ _ _ (s .pre .1 .1 .0) _ _ _ (c .before .before .before .before .before .before .before .before .loop .inv) (c .before .before .before .before .before .before .before .loop-test .taken) in omega arith
+add-j c = let h = c .before .before .before .before .before .before .run-end .ensures .high in omega arith
 
 loop-less : tie.Need-loop-less Inv-loop μ-loop
 loop-less c =
-    let s = c .before .before .before .before .before .before .before .before .before .before .before .before in
-    let e = rw (c .before .before .before .before .before .before .element-end .ensures) at (c .before .before .before .before .before .end-of .ensures) in
-    let f = framing-further _ (s .pre .0) _ _ (s .pre .1 .0) _ _ _ (s .pre .1 .1 .0) _ _ _ (c .before .before .before .before .before .before .before .before .loop .inv) (c .before .before .before .before .before .before .before .loop-test .taken) _ e in
+    let s = c .before .before .before .before .before .before .before .before .before .before .before .before .before in
+    let e = rw (c .before .before .before .before .before .element-end .ensures) at (c .before .before .before .before .end-of .ensures) in
+    let r = rw (c .before .before .before .before .before .before .before .before .before .before .before .frame-of .ensures) at (c .before .before .before .before .before .before .run-end .ensures) in
+    let f = framing-further _ (s .pre .0) _ _ (s .pre .1 .0) _ _ _ (s .pre .1 .1 .0) _ _ _ (c .before .before .before .before .before .before .before .before .before .loop .inv) (c .before .before .before .before .before .before .before .before .loop-test .taken) _ r _ e in
     let high = e .high in
     omega arith
 
 loop-again : tie.Need-loop-again Inv-loop μ-loop
 loop-again c =
-    let s = c .before .before .before .before .before .before .before .before .before .before .before .before in
-    let e = rw (c .before .before .before .before .before .before .element-end .ensures) at (c .before .before .before .before .before .end-of .ensures) in
-    framing-turn _ (s .pre .0) _ _ (s .pre .1 .0) _ _ _ (s .pre .1 .1 .0) _ _ _ (c .before .before .before .before .before .before .before .before .loop .inv) (c .before .before .before .before .before .before .before .loop-test .taken) _ e _ _ (c .before .before .before .before .before .before .before .before .before .before .frame-of .ensures) (c .before .before .before .before .frame-level .ensures) _ (c .before .before .fill .ensures)
+    let s = c .before .before .before .before .before .before .before .before .before .before .before .before .before in
+    let e = rw (c .before .before .before .before .before .element-end .ensures) at (c .before .before .before .before .end-of .ensures) in
+    let r = rw (c .before .before .before .before .before .before .before .before .before .before .before .frame-of .ensures) at (c .before .before .before .before .before .before .run-end .ensures) in
+    framing-turn _ (s .pre .0) _ _ (s .pre .1 .0) _ _ _ (s .pre .1 .1 .0) _ _ _ (c .before .before .before .before .before .before .before .before .before .loop .inv) (c .before .before .before .before .before .before .before .before .loop-test .taken) _ r _ e _ (rw (c .before .before .before .before .before .before .before .before .before .before .before .frame-of .ensures) at (c .before .before .before .before .before .before .before .frame-level .ensures)) _ (c .before .before .fill .ensures)
 
 same-length : tie.Need-same-length Inv-loop μ-loop
 same-length c = c .before .loop .inv .putting .size
@@ -83,11 +99,12 @@ put-frame-spec =
     frame-of-requires
     element-at-requires
     loop-holds
+    cast-frame-level
+    frame-level-requires
+    run-end-requires
     element-end-requires
     sub-end-of
     end-of-requires
-    cast-frame-level
-    frame-level-requires
     fill-requires
     add-j
     loop-less
