@@ -140,6 +140,11 @@ fn pair(first: u8, second: u8, highest: Option<u8>) -> Option<Pair> {
     first.checked_sub(b'0').filter(|&level| level <= highest).map(|level| Pair::Heard(level, ms))
 }
 
+/// Is it of a size and a form that a test program reads?
+pub fn is_input(text: &[u8]) -> bool {
+    text.len() <= 60_000 && text.split(|&byte| byte == b'\n').all(|line| line.len() < 100)
+}
+
 #[cfg(test)]
 mod tests {
     use super::Pair::{Fresh, Heard, Inhibited};

@@ -22,15 +22,6 @@ module _ (a : Alphabet) where
       go true = refl
       go false = refl
 
-  pub waiters-append : (cs ds : List ℕ) → waiters a (cs ++ ds) ≡ waiters a cs ++ waiters a ds
-  unfolding waiters
-  waiters-append [] ds = refl
-  waiters-append (c ∷ cs) ds = go (waits a c) (waiters-append cs ds)
-    where
-      go : (b : Bool) → waiters a (cs ++ ds) ≡ waiters a cs ++ waiters a ds → cond b (c ∷ waiters a (cs ++ ds)) (waiters a (cs ++ ds)) ≡ cond b (c ∷ waiters a cs) (waiters a cs) ++ waiters a ds
-      go true e = ap (λ (l : List ℕ). c ∷ l) e
-      go false e = e
-
   -- one that waits, and one that does not
   pub waiter : (c : ℕ) → waits a c ≡ true → waiters a (c ∷ []) ≡ c ∷ []
   unfolding waiters
@@ -59,15 +50,6 @@ module _ (a : Alphabet) where
   pub wait-end : (cs : List ℕ) (i : ℕ) → length cs ≤ i → allWait a (drop i cs) ≡ true
   unfolding allWait
   wait-end cs i h = rw (drop-of-length-le cs h)
-
-  pub waiters-most : (cs : List ℕ) → length (waiters a cs) ≤ length cs
-  unfolding waiters
-  waiters-most [] = omega arith
-  waiters-most (c ∷ cs) = go (waits a c) (waiters-most cs)
-    where
-      go : (b : Bool) → length (waiters a cs) ≤ length cs → length (cond b (c ∷ waiters a cs) (waiters a cs)) ≤ suc (length cs)
-      go true h = omega arith
-      go false h = omega arith
 
   -- characters that are written at a place: what is left of the text, behind what stands there, is the whole
   pub record Putting (text chars₀ : List ℕ) (at : ℕ) (chars : List ℕ) (n i : ℕ) : Type 0 where

@@ -3,7 +3,7 @@ use Prim.Native.Nat.{ℕ, _+_, _-_}
 use mathlib.Core.Bool.{Bool, true, false, cond, _&&_}
 use mathlib.Core.List.{List, [], _∷_}
 use lib.Dec.{leb}
-use lib.ListN.{length, getD, take, drop}
+use lib.ListN.{length, take, drop}
 use lib.Seq.{sets}
 use Rattle.lists.specs.Lists.{written}
 use Rattle.alphabet.specs.declared.Alphabet.{Alphabet}
@@ -53,9 +53,6 @@ offerOf a q text =
     cond (room a q text) (record { accepted = true; queue = offered a q text }) (record { accepted = false; queue = q })
 
 -- The one in front is taken first: the others move up one place.
-abbrev pub front : Queue → ℕ
-front q = getD (q .chars) 0 0
-
 abbrev pub moved : List ℕ → List ℕ
 moved chars = written (drop 1 chars) chars
 

@@ -5,12 +5,12 @@ use alphabet::Sends;
 ghost use mathlib.Core.Path.{_≡_};
 ghost use mathlib.Core.Bool.{false};
 ghost use mathlib.Core.List.{[], _∷_};
-ghost use Prim.Native.Nat.{_+_, _-_, _≤_};
+ghost use Prim.Native.Nat.{_+_, _≤_};
 ghost use lib.ListN.{length};
 ghost use lib.Seq.{sets};
 ghost use Rattle.alphabet.specs.Normal.{isCode};
 ghost use Rattle.alphabet.specs.Packing.{sendTable};
-ghost use Rattle.queue.specs.Queue.{waits, waiters, allWait, moved, inRange, offerOf, front, taken};
+ghost use Rattle.queue.specs.Queue.{waits, waiters, allWait, moved, inRange, offerOf};
 
 pub struct Queue {
     pub waiting: u16,
@@ -161,34 +161,5 @@ pub fn offer(a: Alphabet, q: Queue, text: &[u8]) -> Offered
             waiting: (before + n) as u16,
             chars,
         },
-    }
-}
-
-// The character in front.
-pub fn front(q: Queue) -> Char
-    ensures { λ r. ⌜ r .0 ≡ front q ⌝ }
-{
-    Char(q.chars[0])
-}
-
-// One less, down to none.
-fn one_less(n: u16) -> u16
-    ensures { λ r. ⌜ r ≡ n - 1 ⌝ }
-{
-    if n == 0 {
-        return 0;
-    }
-    n - 1
-}
-
-// The queue without the character in front; none is left of none.
-pub fn take(q: Queue) -> Queue
-    ensures { λ r. ⌜ r ≡ taken q ⌝ }
-{
-    let mut chars = q.chars;
-    move_up(&mut chars);
-    Queue {
-        waiting: one_less(q.waiting),
-        chars,
     }
 }

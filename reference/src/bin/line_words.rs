@@ -503,12 +503,12 @@ impl Cases {
 #[cfg(test)]
 mod tests {
     use super::*;
+    use reference::tape::is_input;
 
     #[test]
     fn the_input_is_of_the_wanted_size_and_form() {
         let text = input();
-        assert!(text.len() <= 60_000);
-        assert!(text.split(|&byte| byte == b'\n').all(|line| line.len() < 100));
+        assert!(is_input(&text));
         let starts = SHARES.map(|(mode, _)| {
             let all = pairs(&text).unwrap();
             all.iter().filter(|&&pair| pair == Pair::Fresh(mode)).count()

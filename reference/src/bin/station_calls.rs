@@ -396,12 +396,12 @@ fn burst(mode: Mode, text: &[u8]) -> Vec<u8> {
 #[cfg(test)]
 mod tests {
     use super::*;
+    use reference::tape::is_input;
 
     #[test]
     fn the_input_is_of_the_wanted_size_and_form() {
         let text = input();
-        assert!(text.len() <= 60_000);
-        assert!(text.split(|&byte| byte == b'\n').all(|line| line.len() < 100));
+        assert!(is_input(&text));
         assert_eq!(text, input());
     }
 
