@@ -1,2 +1,3 @@
 pub mod Waiters
 pub mod Laws
+pub mod Moves

@@ -1,5 +1,5 @@
 -- Document 01, "The station's turn": the characters that wait.
-use Prim.Native.Nat.{ℕ, _+_, _-_}
+use Prim.Native.Nat.{ℕ, zero, suc, _+_, _-_}
 use mathlib.Core.Bool.{Bool, true, false, cond, _&&_}
 use mathlib.Core.List.{List, [], _∷_}
 use lib.Dec.{leb}
@@ -55,6 +55,11 @@ offerOf a q text =
 -- The one in front is taken first: the others move up one place.
 abbrev pub moved : List ℕ → List ℕ
 moved chars = written (drop 1 chars) chars
+
+-- The characters after so many are taken.
+unfoldable pub movedBy : ℕ → List ℕ → List ℕ
+movedBy zero chars = chars
+movedBy (suc n) chars = moved (movedBy n chars)
 
 unfoldable pub taken : Queue → Queue
 taken q = queue (q .waiting - 1) (moved (q .chars))

@@ -10,7 +10,7 @@ ghost use lib.ListN.{length};
 ghost use lib.Seq.{sets};
 ghost use Rattle.alphabet.specs.Normal.{isCode};
 ghost use Rattle.alphabet.specs.Packing.{sendTable};
-ghost use Rattle.queue.specs.Queue.{waits, waiters, allWait, moved, inRange, offerOf};
+ghost use Rattle.queue.specs.Queue.{waits, waiters, allWait, moved, movedBy, inRange, offerOf};
 
 pub struct Queue {
     pub waiting: u16,
@@ -108,6 +108,32 @@ pub fn move_up(chars: &mut [u8])
         let c = chars[i];
         chars[i - 1] = c;
         i += 1;
+    }
+}
+
+// All move up n places in one pass; the last character stays in the places that are left.
+pub fn move_up_by(chars: &mut [u8], n: usize)
+    ensures { λ r. ⌜ now (chars .exit) ≡ movedBy n (now (chars .entry)) ⌝ }
+{
+    if n == 0 {
+        return;
+    }
+    if chars.len() == 0 {
+        return;
+    }
+    let last = chars.len() - 1;
+    let mut to: usize = 0;
+    let mut from = n;
+    while from < last {
+        let c = chars[from];
+        chars[to] = c;
+        from += 1;
+        to += 1;
+    }
+    while to < last {
+        let c = chars[last];
+        chars[to] = c;
+        to += 1;
     }
 }
 
