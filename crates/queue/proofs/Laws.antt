@@ -10,8 +10,7 @@ use lib.Seq.{sets-eq, take-append-seam, take-append-le, take-nil, length-take-le
 use borrow.Author.Tests.{le-leb, leb-true}
 use Rattle.lists.proofs.Lists.{and-left, and-right}
 use Rattle.alphabet.specs.declared.Alphabet.{Alphabet}
-use Rattle.queue.specs.declared.Queue.{Queue}
-use Rattle.queue.specs.Queue.{waits, waiters, allWait, waitingOf, inRange, room, offered, taken}
+use Rattle.queue.specs.Queue.{Queue, waits, waiters, allWait, waitingOf, inRange, room, offered, taken}
 
 and-both : (x y : Bool) → x ≡ true → y ≡ true → (x && y) ≡ true
 and-both x y p q = rw (p, q) refl

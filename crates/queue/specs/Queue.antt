@@ -8,8 +8,6 @@ use lib.Seq.{sets}
 use Rattle.lists.specs.Lists.{written}
 use Rattle.alphabet.specs.declared.Alphabet.{Alphabet}
 use Rattle.alphabet.specs.Normal.{sends, isCode}
-use Rattle.queue.specs.declared.Queue.{Queue}
-use Rattle.queue.specs.declared.Offered.{Offered}
 
 -- A station keeps up to 256 characters waiting.
 abbrev pub most : ℕ
@@ -28,10 +26,20 @@ unfoldable pub allWait : Alphabet → List ℕ → Bool
 allWait a [] = true
 allWait a (c ∷ cs) = waits a c && allWait a cs
 
--- A queue, and those waiting in it, the front one first.
+-- How many characters wait, and the characters, the front one first; those behind them mean nothing.
+pub record Queue : Type 0 where
+  pub waiting : ℕ
+  pub chars : List ℕ
+
+-- A queue after an offer, and whether there was space.
+pub record QueueOffered : Type 0 where
+  pub accepted : Bool
+  pub queue : Queue
+
 abbrev pub queue : ℕ → List ℕ → Queue
 queue n chars = record { waiting = n; chars = chars }
 
+-- Those waiting in it.
 abbrev pub waitingOf : Queue → List ℕ
 waitingOf q = take (q .waiting) (q .chars)
 
@@ -48,7 +56,7 @@ unfoldable pub offered : Alphabet → Queue → List ℕ → Queue
 offered a q text = queue (q .waiting + length (waiters a text)) (sets (q .chars) (q .waiting) (waiters a text))
 
 -- A refused offer leaves the queue.
-unfoldable pub offerOf : Alphabet → Queue → List ℕ → Offered
+unfoldable pub offerOf : Alphabet → Queue → List ℕ → QueueOffered
 offerOf a q text =
     cond (room a q text) (record { accepted = true; queue = offered a q text }) (record { accepted = false; queue = q })
 

@@ -3,20 +3,15 @@ use alphabet::Alphabet;
 use alphabet::Char;
 use alphabet::Sends;
 ghost use mathlib.Core.Path.{_≡_};
-ghost use mathlib.Core.Bool.{false};
 ghost use mathlib.Core.List.{[], _∷_};
 ghost use Prim.Native.Nat.{_+_, _≤_};
-ghost use lib.ListN.{length};
+ghost use lib.ListN.{length, take, replicate};
 ghost use lib.Seq.{sets};
 ghost use Rattle.alphabet.specs.Normal.{isCode};
 ghost use Rattle.alphabet.specs.Packing.{sendTable};
-ghost use Rattle.queue.specs.Queue.{waits, waiters, allWait, moved, movedBy, inRange, offerOf};
+ghost use Rattle.queue.specs.Queue.{waits, waiters, allWait, queue, inRange, offerOf, moved, movedBy};
 
-pub struct Queue {
-    pub waiting: u16,
-    pub chars: [u8; 256],
-}
-
+// The most characters that wait.
 pub const MOST: u16 = 256;
 
 // Is it a code?
@@ -137,55 +132,60 @@ pub fn move_up_by(chars: &mut [u8], n: usize)
     }
 }
 
-// Question 1 of a queue.
-pub fn in_range(a: Alphabet, q: Queue) -> bool
-    ensures { λ r. ⌜ r ≡ inRange a q ⌝ }
+// No characters. The compiler makes 16 stores of this, and no call of memset, which it calls from 257 bytes on.
+pub fn clear(chars: &mut [u8; 256])
+    ensures { λ r. ⌜ now (chars .exit) ≡ replicate 256 0 ⌝ }
 {
-    if MOST < q.waiting {
+    *chars = [0; 256];
+}
+
+// Are the first so many characters that wait?
+fn first_wait(table: &[u16; 384], a: Alphabet, chars: &[u8], n: usize) -> bool
+    requires { ⌜ now table ≡ sendTable ⌝ }
+    requires { ⌜ n ≤ length (now chars) ⌝ }
+    ensures { λ r. ⌜ r ≡ allWait a (take n (now (chars .entry))) ⌝ }
+{
+    all_wait(table, a, &chars[..n])
+}
+
+// Question 1 of a queue.
+pub fn in_range(a: Alphabet, waiting: u16, chars: &[u8; 256]) -> bool
+    ensures { λ r. ⌜ r ≡ inRange a (queue waiting (now (chars .entry))) ⌝ }
+{
+    if MOST < waiting {
         return false;
     }
-    let n = q.waiting as usize;
-    let chars = q.chars;
     let table = alphabet::table::send_table();
-    all_wait(&table, a, &chars[..n])
+    first_wait(&table, a, chars, waiting as usize)
 }
 
-// A queue after an offer, and whether there was space.
+// Whether there was space for an offer, and how many wait then.
 pub struct Offered {
     pub accepted: bool,
-    pub queue: Queue,
-}
-
-// An offer without space leaves the queue.
-fn refused(q: Queue) -> Offered
-    ensures { λ r. ⌜ r ≡ record { accepted = false; queue = q } ⌝ }
-{
-    Offered {
-        accepted: false,
-        queue: q,
-    }
+    pub waiting: u16,
 }
 
 // The characters of a text that wait, put behind those waiting, if there is space for all of them.
-pub fn offer(a: Alphabet, q: Queue, text: &[u8]) -> Offered
-    ensures { λ r. ⌜ r ≡ offerOf a q (now (text .entry)) ⌝ }
+pub fn offer(a: Alphabet, waiting: u16, chars: &mut [u8; 256], text: &[u8]) -> Offered
+    ensures { λ r. ⌜ r .accepted ≡ offerOf a (queue waiting (now (chars .entry))) (now (text .entry)) .accepted ⌝ }
+    ensures { λ r. ⌜ queue (r .waiting) (now (chars .exit)) ≡ offerOf a (queue waiting (now (chars .entry))) (now (text .entry)) .queue ⌝ }
 {
-    if MOST < q.waiting {
-        return refused(q);
+    let refused = Offered {
+        accepted: false,
+        waiting,
+    };
+    if MOST < waiting {
+        return refused;
     }
     let table = alphabet::table::send_table();
     let n = count_waiters(&table, a, text);
-    let before = q.waiting as usize;
+    let before = waiting as usize;
     if MOST as usize - before < n {
-        return refused(q);
+        return refused;
     }
-    let mut chars = q.chars;
-    put_waiters(&table, a, text, &mut chars, before);
+    put_waiters(&table, a, text, chars, before);
     Offered {
         accepted: true,
-        queue: Queue {
-            waiting: (before + n) as u16,
-            chars,
-        },
+        waiting: (before + n) as u16,
     }
 }

@@ -1,9 +1,10 @@
 // Running a station: the questions of a run.
+use access::Core;
 use alphabet::Mode;
 use station::Ran;
-use station::Station;
 ghost use mathlib.Core.Path.{_≡_};
 ghost use lib.ListN.{length};
+ghost use Rattle.station.specs.Station.{station};
 ghost use Rattle.station.specs.Entries.{highestLevel, ranOf, sentAfter, wordsAfter};
 
 // The most ms of one call.
@@ -22,43 +23,43 @@ fn highest_level(mode: Mode) -> u8
 }
 
 // A run that is refused.
-fn refused(s: Station, answer: u8) -> Ran
-    ensures { λ r. ⌜ r ≡ record { station = s; answer = answer; words = 0 } ⌝ }
+fn refused(c: Core, answer: u8) -> Ran
+    ensures { λ r. ⌜ r ≡ record { core = c; answer = answer; words = 0 } ⌝ }
 {
     Ran {
-        station: s,
+        core: c,
         answer,
         words: 0,
     }
 }
 
 // A run: the sent ms and the words of the ms that are heard.
-pub fn run(s: Station, heard: &[u8], sent: &mut [u8], words: &mut [u32]) -> Ran
-    ensures { λ r. ⌜ r ≡ ranOf s (now (heard .entry)) (length (now (sent .entry))) (length (now (words .entry))) ⌝ }
-    ensures { λ r. ⌜ now (sent .exit) ≡ sentAfter s (now (heard .entry)) (length (now (words .entry))) (now (sent .entry)) ⌝ }
-    ensures { λ r. ⌜ now (words .exit) ≡ wordsAfter s (now (heard .entry)) (length (now (sent .entry))) (now (words .entry)) ⌝ }
+pub fn run(c: Core, chars: &mut [u8; 256], heard: &[u8], sent: &mut [u8], words: &mut [u32]) -> Ran
+    ensures { λ r. ⌜ station (r .core) (now (chars .exit)) ≡ ranOf (station c (now (chars .entry))) (now (heard .entry)) (length (now (sent .entry))) (length (now (words .entry))) .station ⌝ }
+    ensures { λ r. ⌜ r .answer ≡ ranOf (station c (now (chars .entry))) (now (heard .entry)) (length (now (sent .entry))) (length (now (words .entry))) .answer ⌝ }
+    ensures { λ r. ⌜ r .words ≡ ranOf (station c (now (chars .entry))) (now (heard .entry)) (length (now (sent .entry))) (length (now (words .entry))) .words ⌝ }
+    ensures { λ r. ⌜ now (sent .exit) ≡ sentAfter (station c (now (chars .entry))) (now (heard .entry)) (length (now (words .entry))) (now (sent .entry)) ⌝ }
+    ensures { λ r. ⌜ now (words .exit) ≡ wordsAfter (station c (now (chars .entry))) (now (heard .entry)) (length (now (sent .entry))) (now (words .entry)) ⌝ }
 {
-    if !station::checks::in_range(s) {
-        return refused(s, 1);
+    if !station::checks::in_range(c, chars) {
+        return refused(c, 1);
     }
     if LONGEST < heard.len() {
-        return refused(s, 5);
+        return refused(c, 5);
     }
-    let c = s.core;
     if !lists::checks::all_at_most(heard, highest_level(Mode::of(c.mode))) {
-        return refused(s, 6);
+        return refused(c, 6);
     }
     if sent.len() < heard.len() {
-        return refused(s, 7);
+        return refused(c, 7);
     }
     if words.len() < heard.len() {
-        return refused(s, 8);
+        return refused(c, 8);
     }
-    let mut chars = s.chars;
-    let e = stretching::run_all(c, &mut chars, heard, sent, words);
+    let e = stretching::run_all(c, chars, heard, sent, words);
     let core = e.core;
     Ran {
-        station: Station { core, chars },
+        core,
         answer: 0,
         words: e.words,
     }

@@ -15,14 +15,11 @@ use Rattle.frames.specs.Samples.{placed, samplesOf, baudotKinds, edtKinds}
 use Rattle.frames.specs.Range.{lastMs}
 use Rattle.line.specs.declared.Reader.{Reader}
 use Rattle.access.specs.declared.Core.{Core}
-use Rattle.queue.specs.declared.Queue.{Queue}
-use Rattle.queue.specs.declared.Offered.{Offered}
-use Rattle.queue.specs.Queue.{room, offered, offerOf as queueOffer}
+use Rattle.queue.specs.Queue.{Queue, QueueOffered, queue, room, offered, offerOf as queueOffer}
 use Rattle.station.specs.declared.Station.{Station}
-use Rattle.station.specs.declared.Answered.{Answered}
 use Rattle.station.specs.Station.{station, alphabetOfStation, queueOf, hasDel, readerOffered, coreWith, offeredTo}
 use Rattle.station.specs.Range.{inRange}
-use Rattle.station.specs.Entries.{answered, offerAnswer, offerOf}
+use Rattle.station.specs.Entries.{StationAnswered, answered, offerAnswer, offerOf}
 use Rattle.station.proofs.Answers.{offer-4, offer-0}
 
 -- where all the tests before the last one passed, the last one decides
@@ -58,8 +55,12 @@ pub del-end : (text : List ℕ) (i : ℕ) → length text ≤ i → hasDel (drop
 unfolding hasDel
 del-end text i h = rw (drop-of-length-le text h)
 
+-- the station and the answer
+pub parts : {x y : StationAnswered} → x ≡ y → (x .station ≡ y .station) × (x .answer ≡ y .answer)
+parts e = (ap (λ (z : StationAnswered). z .station) e, ap (λ (z : StationAnswered). z .answer) e)
+
 -- the answers to an offer
-abbrev offering : Bool → Queue → Offered
+abbrev offering : Bool → Queue → QueueOffered
 offering accepted q = record { accepted = accepted; queue = q }
 
 module _ (s : Station) (text : List ℕ) where
@@ -71,33 +72,35 @@ module _ (s : Station) (text : List ℕ) where
   unfolding offerOf
   accepted e = rw e refl
 
-  module _ (i : inRange s ≡ true) where
-    module _ (c : allChars text ≡ true) (a : Alphabet) (e : a ≡ alphabetOfStation s) (o : Offered) (f : o ≡ queueOffer a (queueOf s) text) where
-      offered-is : o ≡ queueOffer (alphabetOfStation s) (queueOf s) text
-      offered-is = f ∙ ap (λ (b : Alphabet). queueOffer b (queueOf s) text) e
+  abbrev offerTo : Alphabet → QueueOffered
+  offerTo a = queueOffer a (queueOf s) text
 
-      room-is : o .accepted ≡ room (alphabetOfStation s) (queueOf s) text
-      unfolding queueOffer
-      room-is = ap (λ (x : Offered). x .accepted) offered-is ∙ go (room (alphabetOfStation s) (queueOf s) text)
-        where
-          go : (b : Bool) → cond b (offering true (offered (alphabetOfStation s) (queueOf s) text)) (offering false (queueOf s)) .accepted ≡ b
-          go true = refl
-          go false = refl
+  module _ (i : inRange s ≡ true) (c : allChars text ≡ true) (a : Alphabet) (e : a ≡ alphabetOfStation s) (b : Bool) (f : b ≡ offerTo a .accepted) (q : Queue) (g : q ≡ offerTo a .queue) where
+    room-is : b ≡ room (alphabetOfStation s) (queueOf s) text
+    unfolding queueOffer
+    room-is = f ∙ ap (λ (d : Alphabet). offerTo d .accepted) e ∙ go (room (alphabetOfStation s) (queueOf s) text)
+      where
+        go : (d : Bool) → cond d (offering true (offered (alphabetOfStation s) (queueOf s) text)) (offering false (queueOf s)) .accepted ≡ d
+        go true = refl
+        go false = refl
 
-      pub answer-4 : o .accepted ≡ false → offerAnswer s text ≡ 4
-      answer-4 n = offer-4 s text i c (sym room-is ∙ n)
+    queue-is : q ≡ offerTo (alphabetOfStation s) .queue
+    queue-is = g ∙ ap (λ (d : Alphabet). offerTo d .queue) e
 
-      queue-is : o .accepted ≡ true → o .queue ≡ offered (alphabetOfStation s) (queueOf s) text
-      unfolding queueOffer
-      queue-is y =
-          let r : room (alphabetOfStation s) (queueOf s) text ≡ true = sym room-is ∙ y in
-          ap (λ (x : Offered). x .queue) offered-is ∙ (rw r refl)
+    -- without space the queue stays
+    pub full : b ≡ false → answered (station (s .core) (q .chars)) 4 ≡ offerOf s text
+    unfolding queueOffer
+    full n =
+        let r : room (alphabetOfStation s) (queueOf s) text ≡ false = sym room-is ∙ n in
+        let k : q ≡ queueOf s = queue-is ∙ (rw r refl) in
+        (λ j. answered (station (s .core) (k j .chars)) 4) ∙ refused 4 refl (offer-4 s text i c r)
 
-      pub made : o .accepted ≡ true → (r : Reader) → r ≡ readerOffered a text (s .core .reader) → (k : Core) → k ≡ coreWith (s .core) (o .queue .waiting) r → answered (station k (o .queue .chars)) 0 ≡ offerOf s text
-      unfolding offeredTo
-      made y r g k h =
-          let q = queue-is y in
-          let t = g ∙ ap (λ (b : Alphabet). readerOffered b text (s .core .reader)) e in
-          (λ j. answered (station (h j) (o .queue .chars)) 0)
-          ∙ (λ j. answered (station (coreWith (s .core) (q j .waiting) (t j)) (q j .chars)) 0)
-          ∙ accepted (offer-0 s text i c (sym room-is ∙ y))
+    pub made : b ≡ true → (r : Reader) → r ≡ readerOffered a text (s .core .reader) → (k : Core) → k ≡ coreWith (s .core) (q .waiting) r → answered (station k (q .chars)) 0 ≡ offerOf s text
+    unfolding offeredTo queueOffer
+    made y r h k l =
+        let o : room (alphabetOfStation s) (queueOf s) text ≡ true = sym room-is ∙ y in
+        let p : q ≡ offered (alphabetOfStation s) (queueOf s) text = queue-is ∙ (rw o refl) in
+        let t = h ∙ ap (λ (d : Alphabet). readerOffered d text (s .core .reader)) e in
+        (λ j. answered (station (l j) (q .chars)) 0)
+        ∙ (λ j. answered (station (coreWith (s .core) (p j .waiting) (t j)) (p j .chars)) 0)
+        ∙ accepted (offer-0 s text i c o)

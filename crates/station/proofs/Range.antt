@@ -35,15 +35,12 @@ use Rattle.access.specs.Line.{partMs}
 use Rattle.access.specs.Core.{modeIn, settled, coreFrom}
 use Rattle.access.specs.Range.{LineIn, SenderIn, CoreIn}
 use Rattle.access.proofs.Range.{blank-in, takes-waiting, core-after-in}
-use Rattle.queue.specs.declared.Queue.{Queue}
-use Rattle.queue.specs.Queue.{queue, waits, waiters, allWait, waitingOf, moved, room, offered, taken, inRange as queueIn}
+use Rattle.queue.specs.Queue.{Queue, queue, waits, waiters, allWait, waitingOf, moved, room, offered, taken, inRange as queueIn}
 use Rattle.queue.proofs.Laws as queue
 use Rattle.station.specs.declared.Station.{Station}
-use Rattle.station.specs.declared.Answered.{Answered}
-use Rattle.station.specs.declared.Ran.{Ran}
 use Rattle.station.specs.Station.{modeOfStation, alphabetOfStation, queueOf, freshStation, hasDel, readerOffered, offeredTo, front, charsAfter, stationMs, stationAfter, wordsBy}
 use Rattle.station.specs.Range.{frameIn, keysIn, readerIn, lineIn, coreIn, inRange}
-use Rattle.station.specs.Entries.{answered, isMode, openOf, offerAnswer, offerOf, highestLevel, runAnswer, ran, ranOf}
+use Rattle.station.specs.Entries.{StationAnswered, StationRan, answered, isMode, openOf, offerAnswer, offerOf, highestLevel, runAnswer, ran, ranOf}
 
 -- ---- question 1 in facts
 
@@ -340,7 +337,7 @@ offer-in s text full i = go (eqb (offerAnswer s text) 0) refl
 pub offer-full : (s : Station) (text : List ℕ) → length (s .chars) ≡ 256 → length (offerOf s text .station .chars) ≡ 256
 unfolding offerOf
 offer-full s text full =
-    either (λ (r : Answered). length (r .station .chars) ≡ 256) (eqb (offerAnswer s text) 0) (answered (offeredTo s text) 0) (answered s (offerAnswer s text)) (offered-full s text full) full
+    either (λ (r : StationAnswered). length (r .station .chars) ≡ 256) (eqb (offerAnswer s text) 0) (answered (offeredTo s text) 0) (answered s (offerAnswer s text)) (offered-full s text full) full
 
 -- what a run that succeeds has
 pub record Runs (s : Station) (heard : List ℕ) (sentRoom wordRoom : ℕ) : Type 0 where
@@ -370,7 +367,7 @@ module _ (s : Station) (heard : List ℕ) (sentRoom wordRoom : ℕ) where
   unfolding ranOf
   run-full full =
       let answer = runAnswer s heard sentRoom wordRoom in
-      either (λ (r : Ran). length (r .station .chars) ≡ 256) (eqb answer 0) (ran (stationAfter s heard) 0 (length (wordsBy s heard))) (ran s answer 0) (after-full s heard full) full
+      either (λ (r : StationRan). length (r .station .chars) ≡ 256) (eqb answer 0) (ran (stationAfter s heard) 0 (length (wordsBy s heard))) (ran s answer 0) (after-full s heard full) full
 
   pub run-in : length (s .chars) ≡ 256 → inRange s ≡ true → inRange (ranOf s heard sentRoom wordRoom .station) ≡ true
   unfolding ranOf

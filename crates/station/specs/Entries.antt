@@ -12,19 +12,22 @@ use Rattle.alphabet.specs.declared.Mode.the-variants.{Baudot45, Baudot50, Dtmf,
 use Rattle.alphabet.specs.Normal.{allChars}
 use Rattle.queue.specs.Queue.{room}
 use Rattle.station.specs.declared.Station.{Station}
-use Rattle.station.specs.declared.Answered.{Answered}
-use Rattle.station.specs.declared.Ran.{Ran}
 use Rattle.station.specs.Station.{modeOfStation, alphabetOfStation, queueOf, freshStation, offeredTo, stationAfter, sentBy, wordsBy}
 use Rattle.station.specs.Range.{inRange}
 
-abbrev pub answered : Station → ℕ → Answered
+-- A station after an opening or an offer, and 0 or the number of the refusal.
+pub record StationAnswered : Type 0 where
+  pub station : Station
+  pub answer : ℕ
+
+abbrev pub answered : Station → ℕ → StationAnswered
 answered s answer = record { station = s; answer = answer }
 
 -- Opening. 2: is the mode 1 to 4? A refusal gives a fresh station of mode 1.
 abbrev pub isMode : ℕ → Bool
 isMode mode = leb 1 mode && leb mode 4
 
-unfoldable pub openOf : ℕ → Answered
+unfoldable pub openOf : ℕ → StationAnswered
 openOf mode = cond (isMode mode) (answered (freshStation mode) 0) (answered (freshStation 1) 2)
 
 -- Offering. 1: in range? 3: is every offered byte at most 127? 4: is there space for all that send something?
@@ -34,7 +37,7 @@ offerAnswer s text =
     (cond (allChars text)
     (cond (room (alphabetOfStation s) (queueOf s) text) 0 4) 3) 1
 
-unfoldable pub offerOf : Station → List ℕ → Answered
+unfoldable pub offerOf : Station → List ℕ → StationAnswered
 offerOf s text =
     let answer = offerAnswer s text in
     cond (eqb answer 0) (answered (offeredTo s text) 0) (answered s answer)
@@ -56,11 +59,17 @@ runAnswer s heard sentRoom wordRoom =
     (cond (leb (length heard) sentRoom)
     (cond (leb (length heard) wordRoom) 0 8) 7) 6) 5) 1
 
-abbrev pub ran : Station → ℕ → ℕ → Ran
+-- A station after a run, 0 or the number of the refusal, and how many words were written.
+pub record StationRan : Type 0 where
+  pub station : Station
+  pub answer : ℕ
+  pub words : ℕ
+
+abbrev pub ran : Station → ℕ → ℕ → StationRan
 ran s answer words = record { station = s; answer = answer; words = words }
 
 -- The station after a run, the answer, and the count of the words.
-unfoldable pub ranOf : Station → List ℕ → ℕ → ℕ → Ran
+unfoldable pub ranOf : Station → List ℕ → ℕ → ℕ → StationRan
 ranOf s heard sentRoom wordRoom =
     let answer = runAnswer s heard sentRoom wordRoom in
     cond (eqb answer 0) (ran (stationAfter s heard) 0 (length (wordsBy s heard))) (ran s answer 0)

@@ -16,8 +16,7 @@ use Rattle.line.specs.Reader.{reader}
 use Rattle.line.specs.Words.{wordsOf}
 use Rattle.access.specs.declared.Core.{Core}
 use Rattle.access.specs.Core.{core, freshCore, modeIn, settled, sentIn, eventIn, coreAfter}
-use Rattle.queue.specs.declared.Queue.{Queue}
-use Rattle.queue.specs.Queue.{queue, offered, moved}
+use Rattle.queue.specs.Queue.{Queue, queue, offered, moved}
 use Rattle.station.specs.declared.Station.{Station}
 
 -- A core, and the characters that wait, the front one first; those behind them mean nothing.

@@ -1,5 +1,4 @@
 // Question 1: are the station's numbers in range?
-use crate::Station;
 use access::Core;
 use access::OnLine;
 use alphabet::Alphabet;
@@ -8,13 +7,13 @@ use baudot::Sender;
 use frames::Frame;
 use keys::Keys;
 use line::Reader;
-use queue::Queue;
 ghost use mathlib.Core.Path.{_≡_};
 ghost use lib.Dec.{ltb};
 ghost use Rattle.baudot.specs.Sending.{inRange as senderIn};
 ghost use Rattle.alphabet.specs.Packing.{codes};
 ghost use Rattle.frames.specs.Samples.{samplesOf};
 ghost use Rattle.frames.specs.Range.{lastMs, frameCodes};
+ghost use Rattle.station.specs.Station.{station};
 ghost use Rattle.station.specs.Range.{frameIn, keysIn, readerIn, lineIn, coreIn, inRange};
 
 // The ms of a frame's last sample.
@@ -143,20 +142,12 @@ fn core_in(c: Core) -> bool
     reader_in(mode, r)
 }
 
-pub fn in_range(s: Station) -> bool
-    ensures { λ r. ⌜ r ≡ inRange s ⌝ }
+pub fn in_range(c: Core, chars: &[u8; 256]) -> bool
+    ensures { λ r. ⌜ r ≡ inRange (station c (now (chars .entry))) ⌝ }
 {
-    let c = s.core;
     if !core_in(c) {
         return false;
     }
-    let chars = s.chars;
     let a = Mode::of(c.mode).alphabet();
-    queue::in_range(
-        a,
-        Queue {
-            waiting: c.waiting,
-            chars,
-        },
-    )
+    queue::in_range(a, c.waiting, chars)
 }

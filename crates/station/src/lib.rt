@@ -5,10 +5,10 @@ use alphabet::Alphabet;
 use alphabet::Mode;
 use baudot::Sender;
 use line::Reader;
-use queue::Queue;
 ghost use mathlib.Core.Path.{_≡_};
 ghost use Rattle.alphabet.specs.declared.Alphabet.the-variants.{Baudot};
-ghost use Rattle.station.specs.Station.{hasDel, readerOffered, coreWith, freshStation};
+ghost use Rattle.access.specs.Core.{freshCore};
+ghost use Rattle.station.specs.Station.{station, hasDel, readerOffered, coreWith};
 ghost use Rattle.station.specs.Entries.{openOf, offerOf};
 
 pub mod checks;
@@ -20,62 +20,59 @@ pub struct Station {
     pub chars: [u8; 256],
 }
 
-// A station after an opening or an offer, and 0 or the number of the refusal.
-#[repr(C)]
+// A core after an opening or an offer, and 0 or the number of the refusal.
 pub struct Answered {
-    pub station: Station,
+    pub core: Core,
     pub answer: u8,
 }
 
-// A station after a run, 0 or the number of the refusal, and how many words were written.
-#[repr(C)]
+// A core after a run, 0 or the number of the refusal, and how many words were written.
 pub struct Ran {
-    pub station: Station,
+    pub core: Core,
     pub answer: u8,
     pub words: usize,
 }
 
-// A fresh station of a mode's number.
-fn fresh(mode: u8) -> Station
-    ensures { λ r. ⌜ r ≡ freshStation mode ⌝ }
+// A fresh core of a mode's number.
+fn fresh(mode: u8) -> Core
+    ensures { λ r. ⌜ r ≡ freshCore mode ⌝ }
 {
     let reader = Reader::fresh();
-    Station {
-        core: Core {
-            waiting: 0,
-            silence: access::FREE,
-            inhibited: 0,
-            line: OnLine {
-                at: 0,
-                part: 0,
-                code: 0,
-            },
-            sender: Sender { shift: 0, count: 0 },
-            reader,
-            mode,
+    Core {
+        waiting: 0,
+        silence: access::FREE,
+        inhibited: 0,
+        line: OnLine {
+            at: 0,
+            part: 0,
+            code: 0,
         },
-        chars: [0; 256],
+        sender: Sender { shift: 0, count: 0 },
+        reader,
+        mode,
     }
 }
 
 // Opening a station: of mode 1 to 4.
-pub fn open(mode: u8) -> Answered
-    ensures { λ r. ⌜ r ≡ openOf mode ⌝ }
+pub fn open(chars: &mut [u8; 256], mode: u8) -> Answered
+    ensures { λ r. ⌜ station (r .core) (now (chars .exit)) ≡ openOf mode .station ⌝ }
+    ensures { λ r. ⌜ r .answer ≡ openOf mode .answer ⌝ }
 {
+    queue::clear(chars);
     if mode < 1 {
         return Answered {
-            station: fresh(1),
+            core: fresh(1),
             answer: 2,
         };
     }
     if 4 < mode {
         return Answered {
-            station: fresh(1),
+            core: fresh(1),
             answer: 2,
         };
     }
     Answered {
-        station: fresh(mode),
+        core: fresh(mode),
         answer: 0,
     }
 }
@@ -140,47 +137,25 @@ fn core_with(c: Core, waiting: u16, reader: Reader) -> Core
 }
 
 // Offering a text: those of its characters that send something wait behind the others.
-pub fn offer(s: Station, text: &[u8]) -> Answered
-    ensures { λ r. ⌜ r ≡ offerOf s (now (text .entry)) ⌝ }
+pub fn offer(c: Core, chars: &mut [u8; 256], text: &[u8]) -> Answered
+    ensures { λ r. ⌜ station (r .core) (now (chars .exit)) ≡ offerOf (station c (now (chars .entry))) (now (text .entry)) .station ⌝ }
+    ensures { λ r. ⌜ r .answer ≡ offerOf (station c (now (chars .entry))) (now (text .entry)) .answer ⌝ }
 {
-    if !checks::in_range(s) {
-        return Answered {
-            station: s,
-            answer: 1,
-        };
+    if !checks::in_range(c, chars) {
+        return Answered { core: c, answer: 1 };
     }
     if !lists::checks::all_at_most(text, 127) {
-        return Answered {
-            station: s,
-            answer: 3,
-        };
+        return Answered { core: c, answer: 3 };
     }
-    let c = s.core;
-    let chars = s.chars;
     let a = Mode::of(c.mode).alphabet();
-    let o = queue::offer(
-        a,
-        Queue {
-            waiting: c.waiting,
-            chars,
-        },
-        text,
-    );
+    let o = queue::offer(a, c.waiting, chars, text);
     if !o.accepted {
-        return Answered {
-            station: s,
-            answer: 4,
-        };
+        return Answered { core: c, answer: 4 };
     }
     let before = c.reader;
-    let q = o.queue;
-    let behind = q.chars;
     let reader = reader_offered(a, text, before);
     Answered {
-        station: Station {
-            core: core_with(c, q.waiting, reader),
-            chars: behind,
-        },
+        core: core_with(c, o.waiting, reader),
         answer: 0,
     }
 }

@@ -16,8 +16,8 @@ use Rattle.alphabet.proofs.Mode.of.Reads as of-reads
 use Rattle.lists.proofs.checks.all_at_most.Reads as all-at-most-reads
 use Rattle.running.proofs.highest_level.Reads as highest-level-reads
 use Rattle.running.proofs.refused.Reads as refused-reads
-use Rattle.stretching.proofs.run_all.Reads as run-all-reads
 use Rattle.station.proofs.checks.in_range.Reads as in-range-reads
+use Rattle.stretching.proofs.run_all.Reads as run-all-reads
 
 in-range-requires : tie.Need-in-range-requires
 in-range-requires c κs = search needs
@@ -26,13 +26,18 @@ refused-requires : tie.Need-refused-requires
 refused-requires c κs = search needs
 
 returns : tie.Need-returns
-returns c = refused _ _ _ _ 1 (λ z. omega arith) (run-1 _ _ _ _ (sym (c .before .before .in-range .ensures) ∙ not-true (c .before .before .in-range .result) (c .before .if1 .taken))) _ (c .refused .ensures)
+returns c =
+    let r = c .before .before .in-range in
+    refused _ _ _ _ 1 (λ z. omega arith) (run-1 _ _ _ _ (sym (r .ensures) ∙ not-true (r .result) (c .before .if1 .taken))) _ (c .refused .ensures)
 
 refused-requires-2 : tie.Need-refused-requires-2
 refused-requires-2 c κs = search needs
 
 returns-2 : tie.Need-returns-2
-returns-2 c = refused _ _ _ _ 5 (λ z. omega arith) (run-5 _ _ _ _ (sym (c .before .before .before .in-range .ensures) ∙ not-false (c .before .before .before .in-range .result) (c .before .before .if1 .left)) (c .before .if2 .taken)) _ (c .refused2 .ensures)
+returns-2 c =
+    let r = c .before .before .before .in-range in
+    let i = sym (r .ensures) ∙ not-false (r .result) (c .before .before .if1 .left) in
+    refused _ _ _ _ 5 (λ z. omega arith) (run-5 _ _ _ _ i (c .before .if2 .taken)) _ (c .refused2 .ensures)
 
 of-requires : tie.Need-of-requires
 of-requires c κs = search needs
@@ -47,30 +52,54 @@ refused-requires-3 : tie.Need-refused-requires-3
 refused-requires-3 c κs = search needs
 
 returns-3 : tie.Need-returns-3
-returns-3 c = let l = ap (λ (m : ℕ). allAtMost m (c .before .before .before .before .before .before .before .before .before .before .before .before .args .heard .now)) (sym (c .before .before .before .highest-level .ensures ∙ ap highestLevel (c .before .before .before .before .of .ensures))) ∙ sym (c .before .before .all-at-most .ensures) ∙ not-true (c .before .before .all-at-most .result) (c .before .if3 .taken) in
-    refused _ _ _ _ 6 (λ z. omega arith) (run-6 _ _ _ _ (sym (c .before .before .before .before .before .before .before .before .in-range .ensures) ∙ not-false (c .before .before .before .before .before .before .before .before .in-range .result) (c .before .before .before .before .before .before .before .if1 .left)) (c .before .before .before .before .before .before .if2 .left) l) _ (c .refused3 .ensures)
+returns-3 c =
+    let d = c .before in
+    let r = d .before .before .before .before .before .before .in-range in
+    let t = d .before .all-at-most in
+    let m = d .before .before .highest-level .ensures ∙ ap highestLevel (d .before .before .before .of .ensures) in
+    let i = sym (r .ensures) ∙ not-false (r .result) (d .before .before .before .before .before .if1 .left) in
+    let few = d .before .before .before .before .if2 .left in
+    let l = ap (λ (n : ℕ). allAtMost n (d .before .before .before .before .before .before .before .before .before .before .before .args .heard .now)) (sym m) ∙ sym (t .ensures) ∙ not-true (t .result) (d .if3 .taken) in
+    refused _ _ _ _ 6 (λ z. omega arith) (run-6 _ _ _ _ i few l) _ (c .refused3 .ensures)
 
 refused-requires-4 : tie.Need-refused-requires-4
 refused-requires-4 c κs = search needs
 
 returns-4 : tie.Need-returns-4
-returns-4 c = let l = ap (λ (m : ℕ). allAtMost m (c .before .before .before .before .before .before .before .before .before .before .before .before .before .args .heard .now)) (sym (c .before .before .before .before .highest-level .ensures ∙ ap highestLevel (c .before .before .before .before .before .of .ensures))) ∙ sym (c .before .before .before .all-at-most .ensures) ∙ not-false (c .before .before .before .all-at-most .result) (c .before .before .if3 .left) in
-    refused _ _ _ _ 7 (λ z. omega arith) (run-7 _ _ _ _ (sym (c .before .before .before .before .before .before .before .before .before .in-range .ensures) ∙ not-false (c .before .before .before .before .before .before .before .before .before .in-range .result) (c .before .before .before .before .before .before .before .before .if1 .left)) (c .before .before .before .before .before .before .before .if2 .left) l (c .before .if4 .taken)) _ (c .refused4 .ensures)
+returns-4 c =
+    let d = c .before .before in
+    let r = d .before .before .before .before .before .before .in-range in
+    let t = d .before .all-at-most in
+    let m = d .before .before .highest-level .ensures ∙ ap highestLevel (d .before .before .before .of .ensures) in
+    let i = sym (r .ensures) ∙ not-false (r .result) (d .before .before .before .before .before .if1 .left) in
+    let few = d .before .before .before .before .if2 .left in
+    let l = ap (λ (n : ℕ). allAtMost n (d .before .before .before .before .before .before .before .before .before .before .before .args .heard .now)) (sym m) ∙ sym (t .ensures) ∙ not-false (t .result) (d .if3 .left) in
+    refused _ _ _ _ 7 (λ z. omega arith) (run-7 _ _ _ _ i few l (c .before .if4 .taken)) _ (c .refused4 .ensures)
 
 refused-requires-5 : tie.Need-refused-requires-5
 refused-requires-5 c κs = search needs
 
 returns-5 : tie.Need-returns-5
-returns-5 c = let l = ap (λ (m : ℕ). allAtMost m (c .before .before .before .before .before .before .before .before .before .before .before .before .before .before .args .heard .now)) (sym (c .before .before .before .before .before .highest-level .ensures ∙ ap highestLevel (c .before .before .before .before .before .before .of .ensures))) ∙ sym (c .before .before .before .before .all-at-most .ensures) ∙ not-false (c .before .before .before .before .all-at-most .result) (c .before .before .before .if3 .left) in
-    refused _ _ _ _ 8 (λ z. omega arith) (run-8 _ _ _ _ (sym (c .before .before .before .before .before .before .before .before .before .before .in-range .ensures) ∙ not-false (c .before .before .before .before .before .before .before .before .before .before .in-range .result) (c .before .before .before .before .before .before .before .before .before .if1 .left)) (c .before .before .before .before .before .before .before .before .if2 .left) l (c .before .before .if4 .left) (c .before .if5 .taken)) _ (c .refused5 .ensures)
-
-slice-aggregate-run-all : tie.Need-slice-aggregate-run-all
-slice-aggregate-run-all c = search needs
+returns-5 c =
+    let d = c .before .before .before in
+    let r = d .before .before .before .before .before .before .in-range in
+    let t = d .before .all-at-most in
+    let m = d .before .before .highest-level .ensures ∙ ap highestLevel (d .before .before .before .of .ensures) in
+    let i = sym (r .ensures) ∙ not-false (r .result) (d .before .before .before .before .before .if1 .left) in
+    let few = d .before .before .before .before .if2 .left in
+    let l = ap (λ (n : ℕ). allAtMost n (d .before .before .before .before .before .before .before .before .before .before .before .args .heard .now)) (sym m) ∙ sym (t .ensures) ∙ not-false (t .result) (d .if3 .left) in
+    refused _ _ _ _ 8 (λ z. omega arith) (run-8 _ _ _ _ i few l (c .before .before .if4 .left) (c .before .if5 .taken)) _ (c .refused5 .ensures)
 
 run-all-requires : tie.Need-run-all-requires
-run-all-requires c κs = let l = ap (λ (m : ℕ). allAtMost m (c .before .before .before .before .before .before .before .before .before .before .before .before .before .before .before .before .before .args .heard .now)) (sym (c .before .before .before .before .before .before .before .before .highest-level .ensures ∙ ap highestLevel (c .before .before .before .before .before .before .before .before .before .of .ensures))) ∙ sym (c .before .before .before .before .before .before .before .all-at-most .ensures) ∙ not-false (c .before .before .before .before .before .before .before .all-at-most .result) (c .before .before .before .before .before .before .if3 .left) in
-    let f : length (c .before .before .before .before .before .before .before .before .before .before .before .before .before .before .before .before .before .args .s .chars) ≡ 256 = search needs in
-    (sym (c .before .before .before .before .before .before .before .before .before .before .before .before .before .in-range .ensures) ∙ not-false (c .before .before .before .before .before .before .before .before .before .before .before .before .before .in-range .result) (c .before .before .before .before .before .before .before .before .before .before .before .before .if1 .left), (f, (l, (c .before .before .before .before .before .if4 .left, c .before .before .before .before .if5 .left))))
+run-all-requires c κs =
+    let d = c .before .before .before .before .before in
+    let r = d .before .before .before .before .before .before .in-range in
+    let t = d .before .all-at-most in
+    let m = d .before .before .highest-level .ensures ∙ ap highestLevel (d .before .before .before .of .ensures) in
+    let i = sym (r .ensures) ∙ not-false (r .result) (d .before .before .before .before .before .if1 .left) in
+    let l = ap (λ (n : ℕ). allAtMost n (d .before .before .before .before .before .before .before .before .before .before .before .args .heard .now)) (sym m) ∙ sym (t .ensures) ∙ not-false (t .result) (d .if3 .left) in
+    let f : length (d .before .before .before .before .before .before .before .before .before .before .before .args .chars .now) ≡ 256 = search needs in
+    (i, (f, (l, (c .before .before .before .before .if4 .left, c .before .before .before .if5 .left))))
 
 same-length : tie.Need-same-length
 same-length c = search needs
@@ -79,10 +108,18 @@ same-length-2 : tie.Need-same-length-2
 same-length-2 c = search needs
 
 returns-6 : tie.Need-returns-6
-returns-6 c = let l = ap (λ (m : ℕ). allAtMost m (c .before .before .before .before .before .before .before .before .before .before .before .before .before .before .before .before .before .before .before .before .before .before .before .before .args .heard .now)) (sym (c .before .before .before .before .before .before .before .before .before .before .before .before .before .before .before .highest-level .ensures ∙ ap highestLevel (c .before .before .before .before .before .before .before .before .before .before .before .before .before .before .before .before .of .ensures))) ∙ sym (c .before .before .before .before .before .before .before .before .before .before .before .before .before .before .all-at-most .ensures) ∙ not-false (c .before .before .before .before .before .before .before .before .before .before .before .before .before .before .all-at-most .result) (c .before .before .before .before .before .before .before .before .before .before .before .before .before .if3 .left) in
-    let r = c .before .before .before .before .before .before .run-all .ensures in
-    let a = run-0 _ _ _ _ (sym (c .before .before .before .before .before .before .before .before .before .before .before .before .before .before .before .before .before .before .before .before .in-range .ensures) ∙ not-false (c .before .before .before .before .before .before .before .before .before .before .before .before .before .before .before .before .before .before .before .before .in-range .result) (c .before .before .before .before .before .before .before .before .before .before .before .before .before .before .before .before .before .before .before .if1 .left)) (c .before .before .before .before .before .before .before .before .before .before .before .before .before .before .before .before .before .before .if2 .left) l (c .before .before .before .before .before .before .before .before .before .before .before .before .if4 .left) (c .before .before .before .before .before .before .before .before .before .before .before .if5 .left) in
-    accepted _ _ _ _ a (c .before .before .before .before .before .before .before .before .before .before .before .before .if4 .left) (c .before .before .before .before .before .before .before .before .before .before .before .if5 .left) _ (λ j. station (r .0 j) (r .1 .1 .0 j)) _ (r .1 .0) _ (r .1 .1 .1 .0) _ (r .1 .1 .1 .1)
+returns-6 c =
+    let d = c .before .before .before .before .before .before .before .before .before .before .before in
+    let r = d .before .before .before .before .before .before .in-range in
+    let t = d .before .all-at-most in
+    let m = d .before .before .highest-level .ensures ∙ ap highestLevel (d .before .before .before .of .ensures) in
+    let i = sym (r .ensures) ∙ not-false (r .result) (d .before .before .before .before .before .if1 .left) in
+    let few = d .before .before .before .before .if2 .left in
+    let l = ap (λ (n : ℕ). allAtMost n (d .before .before .before .before .before .before .before .before .before .before .before .args .heard .now)) (sym m) ∙ sym (t .ensures) ∙ not-false (t .result) (d .if3 .left) in
+    let s = c .before .before .before .before .before .before .before .before .before .before .if4 .left in
+    let w = c .before .before .before .before .before .before .before .before .before .if5 .left in
+    let x = c .before .before .before .before .before .run-all .ensures in
+    accepted _ _ _ _ (run-0 _ _ _ _ i few l s w) s w _ (λ j. station (x .0 j) (x .1 .1 .0 j)) _ (x .1 .0) _ (x .1 .1 .1 .0) _ (x .1 .1 .1 .1)
 
 pub run-spec : {M : Type 1} → statement M
 run-spec =
@@ -102,7 +139,6 @@ run-spec =
     returns-4
     refused-requires-5
     returns-5
-    slice-aggregate-run-all
     run-all-requires
     same-length
     same-length-2

@@ -28,7 +28,7 @@ in-range-requires c κs = search needs
 
 returns-2 : tie.Need-returns-2
 unfolding inRange
-returns-2 c = simp (sym (c .before .before .before .before .before .core-in .ensures) ∙ not-false (c .before .before .before .before .before .core-in .result) (c .before .before .before .before .if1 .left), c .in-range .ensures, c .before .alphabet .ensures, c .before .before .of .ensures)
+returns-2 c = simp (sym (c .before .before .before .before .core-in .ensures) ∙ not-false (c .before .before .before .before .core-in .result) (c .before .before .before .if1 .left), c .in-range .ensures, c .before .alphabet .ensures, c .before .before .of .ensures)
 
 pub in-range-spec : {M : Type 1} → statement M
 in-range-spec =
