@@ -3,11 +3,11 @@
 // count are ms to be heard; u and a sign, then l and a sign, are the high and the low digit of a character to be offered, each
 // that many behind 0; n and a count offer the last one so many times more; o and any byte is the offer; r and a sign is the run, with the slices that the
 // sign says. A count is the byte less 32. The expected output is what the reference prints.
+use access::Core;
 use libc::STDIN_FILENO;
 use libc::STDOUT_FILENO;
 use station::Answered;
 use station::Ran;
-use station::Station;
 ghost use mathlib.Core.Path.{_≡_};
 ghost use lib.ListN.{length};
 
@@ -24,10 +24,10 @@ struct Row {
     ms: u64,
 }
 
-// A station; how many ms are to be heard and characters to be offered; 16 times the high digit of the next character; the last
+// A core; how many ms are to be heard and characters to be offered; 16 times the high digit of the next character; the last
 // character; the first byte of a pair whose second is still to come, or LF.
 struct Play {
-    station: Station,
+    core: Core,
     heard: usize,
     text: usize,
     high: u8,
@@ -117,11 +117,11 @@ fn fresh_words() -> [u32; 4100]
     [WORD_PATTERN; 4100]
 }
 
-fn fresh() -> Play {
-    let r = station::open(1);
-    let station = r.station;
+fn fresh(chars: &mut [u8; 256]) -> Play {
+    let r = station::open(chars, 1);
+    let core = r.core;
     Play {
-        station,
+        core,
         heard: 0,
         text: 0,
         high: 0,
@@ -130,17 +130,12 @@ fn fresh() -> Play {
     }
 }
 
-fn open(mode: u8) -> Play {
-    let r = station::open(mode);
-    let station = r.station;
-    print_call(
-        b"open",
-        mode as u64,
-        r.answer as u64,
-        station.core.mode as u64,
-    );
+fn open(chars: &mut [u8; 256], mode: u8) -> Play {
+    let r = station::open(chars, mode);
+    let core = r.core;
+    print_call(b"open", mode as u64, r.answer as u64, core.mode as u64);
     Play {
-        station,
+        core,
         heard: 0,
         text: 0,
         high: 0,
@@ -192,26 +187,21 @@ fn high_digit(b: u8) -> u8 {
 }
 
 // An offer of the first characters of a slice; of all, if there are fewer.
-fn offer_first(s: Station, text: &[u8], n: usize) -> Answered {
+fn offer_first(c: Core, chars: &mut [u8; 256], text: &[u8], n: usize) -> Answered {
     if text.len() < n {
-        return station::offer(s, text);
+        return station::offer(c, chars, text);
     }
-    station::offer(s, &text[..n])
+    station::offer(c, chars, &text[..n])
 }
 
-fn offer(x: Play, text: &[u8]) -> Play {
+fn offer(x: Play, chars: &mut [u8; 256], text: &[u8]) -> Play {
     let n = x.text;
-    let s = x.station;
-    let r = offer_first(s, text, n);
-    let station = r.station;
-    print_call(
-        b"offer",
-        n as u64,
-        r.answer as u64,
-        station.core.waiting as u64,
-    );
+    let c = x.core;
+    let r = offer_first(c, chars, text, n);
+    let core = r.core;
+    print_call(b"offer", n as u64, r.answer as u64, core.waiting as u64);
     Play {
-        station,
+        core,
         heard: x.heard,
         text: 0,
         high: 0,
@@ -221,21 +211,28 @@ fn offer(x: Play, text: &[u8]) -> Play {
 }
 
 // A run of the first ms of a slice; of all, if there are fewer.
-fn run_first(s: Station, heard: &[u8], n: usize, sent: &mut [u8], words: &mut [u32]) -> Ran {
+fn run_first(
+    c: Core,
+    chars: &mut [u8; 256],
+    heard: &[u8],
+    n: usize,
+    sent: &mut [u8],
+    words: &mut [u32],
+) -> Ran {
     if heard.len() < n {
-        return running::run(s, heard, sent, words);
+        return running::run(c, chars, heard, sent, words);
     }
-    running::run(s, &heard[..n], sent, words)
+    running::run(c, chars, &heard[..n], sent, words)
 }
 
-fn run(x: Play, heard: &[u8], sent: &mut [u8], words: &mut [u32]) -> Play {
+fn run(x: Play, chars: &mut [u8; 256], heard: &[u8], sent: &mut [u8], words: &mut [u32]) -> Play {
     let n = x.heard;
-    let s = x.station;
-    let r = run_first(s, heard, n, sent, words);
-    let station = r.station;
+    let c = x.core;
+    let r = run_first(c, chars, heard, n, sent, words);
+    let core = r.core;
     print_call(b"run", n as u64, r.answer as u64, r.words as u64);
     Play {
-        station,
+        core,
         heard: 0,
         text: x.text,
         high: x.high,
@@ -247,6 +244,7 @@ fn run(x: Play, heard: &[u8], sent: &mut [u8], words: &mut [u32]) -> Play {
 // A run with the first part of both slices; all that they hold is listed.
 fn run_listed(
     x: Play,
+    chars: &mut [u8; 256],
     heard: &[u8],
     sent: &mut [u8],
     n: usize,
@@ -259,16 +257,16 @@ fn run_listed(
     if words.len() < k {
         return x;
     }
-    let y = run(x, heard, &mut sent[..n], &mut words[..k]);
+    let y = run(x, chars, heard, &mut sent[..n], &mut words[..k]);
     print_sent(sent);
     print_words(words);
     y
 }
 
-fn run_parts(x: Play, heard: &[u8], n: usize, k: usize) -> Play {
+fn run_parts(x: Play, chars: &mut [u8; 256], heard: &[u8], n: usize, k: usize) -> Play {
     let mut sent = levels();
     let mut words = fresh_words();
-    run_listed(x, heard, &mut sent, n, &mut words, k)
+    run_listed(x, chars, heard, &mut sent, n, &mut words, k)
 }
 
 fn one_less(n: usize) -> usize {
@@ -279,23 +277,23 @@ fn one_less(n: usize) -> usize {
 }
 
 // The slices of a run: as long as what is heard; one of them, or both, one shorter; or as long as there is.
-fn run_sign(x: Play, heard: &[u8], sign: u8) -> Play {
+fn run_sign(x: Play, chars: &mut [u8; 256], heard: &[u8], sign: u8) -> Play {
     let n = x.heard;
     match sign {
-        b's' => run_parts(x, heard, one_less(n), n),
-        b'w' => run_parts(x, heard, n, one_less(n)),
-        b'b' => run_parts(x, heard, one_less(n), one_less(n)),
-        b'+' => run_parts(x, heard, 4100, 4100),
-        _ => run_parts(x, heard, n, n),
+        b's' => run_parts(x, chars, heard, one_less(n), n),
+        b'w' => run_parts(x, chars, heard, n, one_less(n)),
+        b'b' => run_parts(x, chars, heard, one_less(n), one_less(n)),
+        b'+' => run_parts(x, chars, heard, 4100, 4100),
+        _ => run_parts(x, chars, heard, n, n),
     }
 }
 
 // A character of two digits.
 fn character(x: Play, text: &mut [u8], low: u8) -> Play {
     let c = std::num::wrapping_add_u8(x.high, low);
-    let station = x.station;
+    let core = x.core;
     Play {
-        station,
+        core,
         heard: x.heard,
         text: put_one(text, x.text, c),
         high: 0,
@@ -305,9 +303,9 @@ fn character(x: Play, text: &mut [u8], low: u8) -> Play {
 }
 
 fn again(x: Play, text: &mut [u8], count: u8) -> Play {
-    let station = x.station;
+    let core = x.core;
     Play {
-        station,
+        core,
         heard: x.heard,
         text: put(text, x.text, x.last, count),
         high: 0,
@@ -317,9 +315,9 @@ fn again(x: Play, text: &mut [u8], count: u8) -> Play {
 }
 
 fn with_high(x: Play, high: u8) -> Play {
-    let station = x.station;
+    let core = x.core;
     Play {
-        station,
+        core,
         heard: x.heard,
         text: x.text,
         high,
@@ -329,9 +327,9 @@ fn with_high(x: Play, high: u8) -> Play {
 }
 
 fn level(x: Play, heard: &mut [u8], level: u8, count: u8) -> Play {
-    let station = x.station;
+    let core = x.core;
     Play {
-        station,
+        core,
         heard: put(heard, x.heard, level, count),
         text: x.text,
         high: x.high,
@@ -341,9 +339,9 @@ fn level(x: Play, heard: &mut [u8], level: u8, count: u8) -> Play {
 }
 
 fn with_first(x: Play, first: u8) -> Play {
-    let station = x.station;
+    let core = x.core;
     Play {
-        station,
+        core,
         heard: x.heard,
         text: x.text,
         high: x.high,
@@ -353,42 +351,42 @@ fn with_first(x: Play, first: u8) -> Play {
 }
 
 // A mode's number is that many behind 0.
-fn open_sign(x: Play, sign: u8) -> Play {
+fn open_sign(x: Play, chars: &mut [u8; 256], sign: u8) -> Play {
     match sign {
-        b'0'..=b'~' => open(sign - b'0'),
+        b'0'..=b'~' => open(chars, sign - b'0'),
         _ => x,
     }
 }
 
 // A pair of bytes; one that is none of these changes nothing.
-fn pair(x: Play, heard: &mut [u8], text: &mut [u8], second: u8) -> Play {
+fn pair(x: Play, chars: &mut [u8; 256], heard: &mut [u8], text: &mut [u8], second: u8) -> Play {
     let first = x.first;
     let y = with_first(x, LF);
     match first {
         b'0'..=b'Z' => level(y, heard, first - b'0', count(second)),
-        b'm' => open_sign(y, second),
+        b'm' => open_sign(y, chars, second),
         b'u' => with_high(y, high_digit(second)),
         b'l' => character(y, text, low_digit(second)),
         b'n' => again(y, text, count(second)),
-        b'o' => offer(y, text),
-        b'r' => run_sign(y, heard, second),
+        b'o' => offer(y, chars, text),
+        b'r' => run_sign(y, chars, heard, second),
         _ => y,
     }
 }
 
 // One byte more. LF in place of a first byte is dropped, since the next takes its place.
-fn read_byte(x: Play, heard: &mut [u8], text: &mut [u8], b: u8) -> Play {
+fn read_byte(x: Play, chars: &mut [u8; 256], heard: &mut [u8], text: &mut [u8], b: u8) -> Play {
     if x.first == LF {
         return with_first(x, b);
     }
-    pair(x, heard, text, b)
+    pair(x, chars, heard, text, b)
 }
 
-fn play_all(input: &[u8], heard: &mut [u8], text: &mut [u8]) {
-    let mut x = fresh();
+fn play_all(input: &[u8], chars: &mut [u8; 256], heard: &mut [u8], text: &mut [u8]) {
+    let mut x = fresh(chars);
     let mut i: usize = 0;
     while i < input.len() {
-        x = read_byte(x, heard, text, input[i]);
+        x = read_byte(x, chars, heard, text, input[i]);
         i += 1;
     }
 }
@@ -396,7 +394,8 @@ fn play_all(input: &[u8], heard: &mut [u8], text: &mut [u8]) {
 fn main() {
     let mut input = io::large_buffer();
     let n = io::read_full(STDIN_FILENO, &mut input);
+    let mut chars = [0; 256];
     let mut heard = levels();
     let mut text = levels();
-    play_all(&input[..n], &mut heard, &mut text)
+    play_all(&input[..n], &mut chars, &mut heard, &mut text)
 }

@@ -4,6 +4,7 @@ use lib.Seq.{length-take-le}
 use borrow.Author.Needs.{needs}
 use Rattle.station_calls.proofs.offer_first.Statement.{statement}
 use Rattle.station_calls.proofs.offer_first.Tie as tie
+use Rattle.station.proofs.offer.Reads as offer-reads
 
 offer-requires : tie.Need-offer-requires
 offer-requires c κs = search needs
@@ -22,10 +23,4 @@ returns-2 c = search needs
 
 pub offer-first-spec : {M : Type 1} → statement M
 offer-first-spec =
-    tie.close
-    (tie.spec
-    offer-requires
-    returns
-    slice-aggregate-offer
-    offer-requires-2
-    returns-2)
+    tie.close (tie.spec offer-requires returns slice-aggregate-offer offer-requires-2 returns-2)

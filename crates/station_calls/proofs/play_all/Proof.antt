@@ -1,16 +1,19 @@
 -- `play_all` is safe and ends.
 use Prim.Native.Nat.{_-_, _≤_}
 use mathlib.Core.Path.{_≡_}
-use borrow.Author.Needs.{needs}
+use native.Mathlib.Omega.{arith}
 use lib.ListN.{length}
+use borrow.Author.Needs.{needs}
 use Rattle.station_calls.proofs.play_all.Statement.{statement}
 use Rattle.station_calls.proofs.play_all.Tie as tie
+use Rattle.station_calls.proofs.fresh.Reads as fresh-reads
+use Rattle.station_calls.proofs.read_byte.Reads as read-byte-reads
 
 abbrev Inv-loop : tie.InvT-loop
-Inv-loop input heard₀ text₀ x₀ i₀ heard text x i = (i ≤ length input) × (length heard ≡ length heard₀) × (length text ≡ length text₀)
+Inv-loop input chars₀ heard₀ text₀ x₀ i₀ chars heard text x i = (i ≤ length input) × (length heard ≡ length heard₀) × (length text ≡ length text₀)
 
 abbrev μ-loop : tie.MeasureT-loop
-μ-loop input heard₀ text₀ x₀ i₀ heard text x i = length input - i
+μ-loop input chars₀ heard₀ text₀ x₀ i₀ chars heard text x i = length input - i
 
 fresh-requires : tie.Need-fresh-requires Inv-loop μ-loop
 fresh-requires c κs = search needs
@@ -25,7 +28,7 @@ read-byte-requires : tie.Need-read-byte-requires Inv-loop μ-loop
 read-byte-requires c κs = search needs
 
 add-i : tie.Need-add-i Inv-loop μ-loop
-add-i c = search needs
+add-i c = omega (arith, c .before .before .before .before .before .before .before .before .before .loop-test .taken, c .before .before .before .before .before .before .before .before .before .before .before .before .before .before .before .before .good .0)
 
 loop-less : tie.Need-loop-less Inv-loop μ-loop
 loop-less c = search needs

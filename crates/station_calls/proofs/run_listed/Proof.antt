@@ -4,6 +4,9 @@ use lib.Seq.{length-take-le}
 use borrow.Author.Needs.{needs}
 use Rattle.station_calls.proofs.run_listed.Statement.{statement}
 use Rattle.station_calls.proofs.run_listed.Tie as tie
+use Rattle.station_calls.proofs.print_sent.Reads as print-sent-reads
+use Rattle.station_calls.proofs.print_words.Reads as print-words-reads
+use Rattle.station_calls.proofs.run.Reads as run-reads
 
 returns : tie.Need-returns
 returns c = search needs
