@@ -21,10 +21,8 @@ use Rattle.line.specs.Words.{wordsOf}
 use Rattle.line.proofs.WordLists.{words-append}
 use Rattle.queue.specs.Queue.{waiters, room}
 use Rattle.station.specs.declared.Station.{Station}
-use Rattle.station.specs.declared.Answered.{Answered}
-use Rattle.station.specs.declared.Ran.{Ran}
 use Rattle.station.specs.Station.{alphabetOfStation, queueOf, offeredTo, stationMs, eventOf, stationAfter, eventsBy, sentBy as sentRun, wordsBy as wordsRun}
-use Rattle.station.specs.Entries.{answered, ran, highestLevel, offerAnswer, offerOf, runAnswer, ranOf, sentAfter, wordsAfter}
+use Rattle.station.specs.Entries.{StationAnswered, StationRan, answered, ran, highestLevel, offerAnswer, offerOf, runAnswer, ranOf, sentAfter, wordsAfter}
 use Rattle.station.proofs.Range.{highest-16, accepted, runs}
 use Rattle.station.proofs.Lengths.{sent-length}
 use Rattle.station.proofs.Answers.{refused-offer, refused-run}
@@ -66,7 +64,7 @@ unfolding ranOf
 run-yes s heard sentRoom wordRoom e = rw e refl
 
 run-succeeds : (heard sent words : List ℕ) (s : Station) → runAnswer s heard (length sent) (length words) ≡ 0 → succeeds s (RunCall heard sent words) ≡ true
-run-succeeds heard sent words s z = ap (λ (a : Ran). eqb (a .answer) 0) (run-yes s heard (length sent) (length words) z)
+run-succeeds heard sent words s z = ap (λ (a : StationRan). eqb (a .answer) 0) (run-yes s heard (length sent) (length words) z)
 
 run-succeeds-by : (s : Station) (heard sent words : List ℕ) → succeeds s (RunCall heard sent words) ≡ eqb (runAnswer s heard (length sent) (length words)) 0
 unfolding ranOf
@@ -81,9 +79,9 @@ run-answer s heard sent words e = eqb-true (runAnswer s heard (length sent) (len
 
 -- a refused call leaves the station
 refused-left : (s : Station) (c : Call) → succeeds s c ≡ false → left s c ≡ s
-refused-left s (OfferCall text) e = ap (λ (a : Answered). a .station) (refused-offer s text (eqb-false (offerAnswer s text) 0 (sym (offer-succeeds s text) ∙ e)))
+refused-left s (OfferCall text) e = ap (λ (a : StationAnswered). a .station) (refused-offer s text (eqb-false (offerAnswer s text) 0 (sym (offer-succeeds s text) ∙ e)))
 refused-left s (RunCall heard sent words) e =
-    ap (λ (a : Ran). a .station) (refused-run s heard (length sent) (length words) (eqb-false (runAnswer s heard (length sent) (length words)) 0 (sym (run-succeeds-by s heard sent words) ∙ e)))
+    ap (λ (a : StationRan). a .station) (refused-run s heard (length sent) (length words) (eqb-false (runAnswer s heard (length sent) (length words)) 0 (sym (run-succeeds-by s heard sent words) ∙ e)))
 
 -- of the first n ms, the first n events
 outputs-take : (n : ℕ) (heard : List ℕ) (s : Station) → eventsBy s (take n heard) ≡ take n (eventsBy s heard)
@@ -161,8 +159,8 @@ module _ (mode : Mode) where
   unfolding modelAfter stationReader does stationEvents heardIn OffersChars allAtMost
   offers text s m r z h =
       let y = offer-yes s text z in
-      let e : succeeds s (OfferCall text) ≡ true = ap (λ (a : Answered). eqb (a .answer) 0) y in
-      let l : left s (OfferCall text) ≡ offeredTo s text = ap (λ (a : Answered). a .station) y in
+      let e : succeeds s (OfferCall text) ≡ true = ap (λ (a : StationAnswered). eqb (a .answer) 0) y in
+      let l : left s (OfferCall text) ≡ offeredTo s text = ap (λ (a : StationAnswered). a .station) y in
       record {
         like = rw (e, l) (offer-like mode s m r h text z);
         sent-are = rw e refl;
@@ -180,7 +178,7 @@ module _ (mode : Mode) where
       let g = run-like heard s m r v h in
       let e = run-succeeds heard sent words s z in
       record {
-        like = rw (e, ap (λ (a : Ran). a .station) (run-yes s heard (length sent) (length words) z)) (g .like);
+        like = rw (e, ap (λ (a : StationRan). a .station) (run-yes s heard (length sent) (length words) z)) (g .like);
         sent-are = sent-of heard sent words s z ∙ g .sent-are ∙ ap (λ (l : List Step). sentIn (does mode m l)) (sym (steps-of heard sent words s z));
         chars = rw e (chars-run heard);
         levels = rw (e, heard-run heard) (at-most-more (highestLevel mode) 16 heard (highest-16 mode) v);

@@ -6,9 +6,8 @@ use native.Mathlib.Omega.{arith}
 use lib.ListN.{length, length-append}
 use borrow.Author.Tests.{leb-true}
 use Rattle.station.specs.declared.Station.{Station}
-use Rattle.station.specs.declared.Ran.{Ran}
 use Rattle.station.specs.Station.{stationAfter}
-use Rattle.station.specs.Entries.{runAnswer}
+use Rattle.station.specs.Entries.{StationRan, runAnswer}
 use Rattle.station.proofs.Range.{offer-full, runs, run-full}
 use Rattle.station.proofs.Cuts.{cut, first-runs, second-runs}
 use Rattle.reading.specs.Model.{Step, Ms}
@@ -37,13 +36,13 @@ two xs ys sent words sent′ words′ s full z u v =
     let q = leb-true (length (xs ++ ys)) (length words) (r .words-fit) in
     let x = first-runs s xs ys (length sent) (length words) z (length sent) (length words) (omega arith) (omega arith) in
     let y = second-runs s xs ys (length sent) (length words) z full (length sent′) (length words′) u v in
-    let l = ap (λ (a : Ran). a .station) (run-yes s xs (length sent) (length words) x) in
+    let l = ap (λ (a : StationRan). a .station) (run-yes s xs (length sent) (length words) x) in
     let t = stationAfter s xs in
     let k = cut s xs ys in
     record {
       left-is =
-          ap (λ (t : Station). left t (RunCall ys sent′ words′)) l ∙ ap (λ (a : Ran). a .station) (run-yes t ys (length sent′) (length words′) y)
-          ∙ sym (k .station) ∙ sym (ap (λ (a : Ran). a .station) (run-yes s (xs ++ ys) (length sent) (length words) z));
+          ap (λ (t : Station). left t (RunCall ys sent′ words′)) l ∙ ap (λ (a : StationRan). a .station) (run-yes t ys (length sent′) (length words′) y)
+          ∙ sym (k .station) ∙ sym (ap (λ (a : StationRan). a .station) (run-yes s (xs ++ ys) (length sent) (length words) z));
       words-are =
           words-of (xs ++ ys) sent words s z ∙ k .words
           ∙ sym (λ i. words-of xs sent words s x i ++ (ap (λ (t : Station). wordsFor t (RunCall ys sent′ words′)) l ∙ words-of ys sent′ words′ t y) i);
