@@ -1,3 +1,4 @@
 pub mod Waiters
 pub mod Laws
 pub mod Moves
+pub mod Ranges

@@ -12,6 +12,14 @@ use Rattle.lists.proofs.Lists.{sets-append, sets-front}
 use Rattle.alphabet.specs.declared.Alphabet.{Alphabet}
 use Rattle.queue.specs.Queue.{waits, waiters, allWait, moved}
 
+and-assoc : (x y z : Bool) → ((x && y) && z) ≡ (x && (y && z))
+and-assoc true y z = refl
+and-assoc false y z = refl
+
+and-true : (x : Bool) → (x && true) ≡ x
+and-true true = refl
+and-true false = refl
+
 module _ (a : Alphabet) where
   -- one character after the other
   pub waiters-cons : (c : ℕ) (cs : List ℕ) → waiters a (c ∷ cs) ≡ waiters a (c ∷ []) ++ waiters a cs
@@ -50,6 +58,14 @@ module _ (a : Alphabet) where
   pub wait-end : (cs : List ℕ) (i : ℕ) → length cs ≤ i → allWait a (drop i cs) ≡ true
   unfolding allWait
   wait-end cs i h = rw (drop-of-length-le cs h)
+
+  -- those passed and those left together say it of all
+  module _ (cs : List ℕ) (i : ℕ) (good : Bool) where
+    pub wait-turn : i < length cs → ((good && waits a (getD cs i 0)) && allWait a (drop (i + 1) cs)) ≡ (good && allWait a (drop i cs))
+    wait-turn h = and-assoc good _ _ ∙ ap (λ (b : Bool). good && b) (sym (wait-left cs i h))
+
+    pub wait-all : length cs ≤ i → (good && allWait a (drop i cs)) ≡ allWait a cs → good ≡ allWait a cs
+    wait-all h e = sym (and-true good) ∙ ap (λ (b : Bool). good && b) (sym (wait-end cs i h)) ∙ e
 
   -- characters that are written at a place: what is left of the text, behind what stands there, is the whole
   pub record Putting (text chars₀ : List ℕ) (at : ℕ) (chars : List ℕ) (n i : ℕ) : Type 0 where

@@ -1,49 +1,63 @@
 // Characters that wait to be sent: at most 256, the front one first.
 use alphabet::Alphabet;
-use alphabet::Char;
-use alphabet::Sends;
 ghost use mathlib.Core.Path.{_≡_};
+ghost use mathlib.Core.Bool.{_&&_};
 ghost use mathlib.Core.List.{[], _∷_};
 ghost use Prim.Native.Nat.{_+_, _≤_};
+ghost use lib.Dec.{leb};
 ghost use lib.ListN.{length, take, replicate};
 ghost use lib.Seq.{sets};
-ghost use Rattle.alphabet.specs.Normal.{isCode};
-ghost use Rattle.alphabet.specs.Packing.{sendTable};
+ghost use Rattle.alphabet.specs.declared.Alphabet.the-variants.{Baudot, Dtmf};
 ghost use Rattle.queue.specs.Queue.{waits, waiters, allWait, queue, inRange, offerOf, moved, movedBy};
 
 // The most characters that wait.
 pub const MOST: u16 = 256;
 
-// Is it a code?
-fn is_code(sends: Sends) -> bool
-    ensures { λ r. ⌜ r ≡ isCode sends ⌝ }
+fn between(c: u8, least: u8, most: u8) -> bool
+    ensures { λ r. ⌜ r ≡ (leb least c && leb c most) ⌝ }
 {
-    match sends {
-        Sends::Nothing => false,
-        Sends::Code { shift, code } => true,
-    }
+    (least <= c) & (c <= most)
 }
 
-// Does a character wait when it is offered? One that sends nothing never does.
-fn waits(table: &[u16; 384], a: Alphabet, c: u8) -> bool
-    requires { ⌜ now table ≡ sendTable ⌝ }
+// Does a character wait when it is offered? Those that send something do. They are told by their ranges, so that a loop over
+// characters is compiled to vector instructions.
+fn waits_baudot(c: u8) -> bool
+    ensures { λ r. ⌜ r ≡ waits Baudot c ⌝ }
+{
+    between(c, 0x08, 0x0d) | (c == 0x1a) | between(c, 0x1c, 0x7e)
+}
+
+fn waits_dtmf(c: u8) -> bool
+    ensures { λ r. ⌜ r ≡ waits Dtmf c ⌝ }
+{
+    between(c, 0x08, 0x0c)
+        | (c == 0x1a)
+        | between(c, 0x1c, 0x21)
+        | between(c, 0x25, 0x26)
+        | between(c, 0x28, 0x2e)
+        | between(c, 0x30, 0x5d)
+        | (c == 0x5f)
+        | between(c, 0x61, 0x7f)
+}
+
+fn waits(a: Alphabet, c: u8) -> bool
     ensures { λ r. ⌜ r ≡ waits a c ⌝ }
 {
-    if 127 < c {
-        return false;
+    match a {
+        Alphabet::Baudot => waits_baudot(c),
+        Alphabet::Dtmf => waits_dtmf(c),
+        Alphabet::Edt => c <= 0x7f,
     }
-    is_code(alphabet::table::lookup_in(table, a, Char(c)))
 }
 
 // How many characters of a text wait.
-fn count_waiters(table: &[u16; 384], a: Alphabet, text: &[u8]) -> usize
-    requires { ⌜ now table ≡ sendTable ⌝ }
+fn count_waiters(a: Alphabet, text: &[u8]) -> usize
     ensures { λ r. ⌜ r ≡ length (waiters a (now (text .entry))) ⌝ }
 {
     let mut n: usize = 0;
     let mut i: usize = 0;
     while i < text.len() {
-        if waits(table, a, text[i]) {
+        if waits(a, text[i]) {
             n += 1;
         }
         i += 1;
@@ -52,13 +66,12 @@ fn count_waiters(table: &[u16; 384], a: Alphabet, text: &[u8]) -> usize
 }
 
 // A character, written at a place if it waits; the next place.
-fn put_char(table: &[u16; 384], a: Alphabet, c: u8, chars: &mut [u8], at: usize) -> usize
-    requires { ⌜ now table ≡ sendTable ⌝ }
+fn put_char(a: Alphabet, c: u8, chars: &mut [u8], at: usize) -> usize
     requires { ⌜ at + length (waiters a (c ∷ [])) ≤ length (now chars) ⌝ }
     ensures { λ r. ⌜ r ≡ at + length (waiters a (c ∷ [])) ⌝ }
     ensures { λ r. ⌜ now (chars .exit) ≡ sets (now (chars .entry)) at (waiters a (c ∷ [])) ⌝ }
 {
-    if waits(table, a, c) {
+    if waits(a, c) {
         chars[at] = c;
         return at + 1;
     }
@@ -66,32 +79,51 @@ fn put_char(table: &[u16; 384], a: Alphabet, c: u8, chars: &mut [u8], at: usize)
 }
 
 // The characters of a text that wait, written from a place on.
-fn put_waiters(table: &[u16; 384], a: Alphabet, text: &[u8], chars: &mut [u8], at: usize)
-    requires { ⌜ now table ≡ sendTable ⌝ }
+fn put_waiters(a: Alphabet, text: &[u8], chars: &mut [u8], at: usize)
     requires { ⌜ at + length (waiters a (now text)) ≤ length (now chars) ⌝ }
     ensures { λ r. ⌜ now (chars .exit) ≡ sets (now (chars .entry)) at (waiters a (now (text .entry))) ⌝ }
 {
     let mut n = at;
     let mut i: usize = 0;
     while i < text.len() {
-        n = put_char(table, a, text[i], chars, n);
+        n = put_char(a, text[i], chars, n);
         i += 1;
     }
 }
 
 // Is each a character that waits?
-fn all_wait(table: &[u16; 384], a: Alphabet, chars: &[u8]) -> bool
-    requires { ⌜ now table ≡ sendTable ⌝ }
-    ensures { λ r. ⌜ r ≡ allWait a (now (chars .entry)) ⌝ }
+fn all_baudot(chars: &[u8]) -> bool
+    ensures { λ r. ⌜ r ≡ allWait Baudot (now (chars .entry)) ⌝ }
 {
+    let mut good = true;
     let mut i: usize = 0;
     while i < chars.len() {
-        if !waits(table, a, chars[i]) {
-            return false;
-        }
+        good = good & waits_baudot(chars[i]);
         i += 1;
     }
-    true
+    good
+}
+
+fn all_dtmf(chars: &[u8]) -> bool
+    ensures { λ r. ⌜ r ≡ allWait Dtmf (now (chars .entry)) ⌝ }
+{
+    let mut good = true;
+    let mut i: usize = 0;
+    while i < chars.len() {
+        good = good & waits_dtmf(chars[i]);
+        i += 1;
+    }
+    good
+}
+
+fn all_wait(a: Alphabet, chars: &[u8]) -> bool
+    ensures { λ r. ⌜ r ≡ allWait a (now (chars .entry)) ⌝ }
+{
+    match a {
+        Alphabet::Baudot => all_baudot(chars),
+        Alphabet::Dtmf => all_dtmf(chars),
+        Alphabet::Edt => lists::checks::all_at_most(chars, 127),
+    }
 }
 
 // All but the first move up one place; the last place keeps its character.
@@ -140,12 +172,11 @@ pub fn clear(chars: &mut [u8; 256])
 }
 
 // Are the first so many characters that wait?
-fn first_wait(table: &[u16; 384], a: Alphabet, chars: &[u8], n: usize) -> bool
-    requires { ⌜ now table ≡ sendTable ⌝ }
+fn first_wait(a: Alphabet, chars: &[u8], n: usize) -> bool
     requires { ⌜ n ≤ length (now chars) ⌝ }
     ensures { λ r. ⌜ r ≡ allWait a (take n (now (chars .entry))) ⌝ }
 {
-    all_wait(table, a, &chars[..n])
+    all_wait(a, &chars[..n])
 }
 
 // Question 1 of a queue.
@@ -155,8 +186,7 @@ pub fn in_range(a: Alphabet, waiting: u16, chars: &[u8; 256]) -> bool
     if MOST < waiting {
         return false;
     }
-    let table = alphabet::table::send_table();
-    first_wait(&table, a, chars, waiting as usize)
+    first_wait(a, chars, waiting as usize)
 }
 
 // Whether there was space for an offer, and how many wait then.
@@ -177,13 +207,12 @@ pub fn offer(a: Alphabet, waiting: u16, chars: &mut [u8; 256], text: &[u8]) -> O
     if MOST < waiting {
         return refused;
     }
-    let table = alphabet::table::send_table();
-    let n = count_waiters(&table, a, text);
+    let n = count_waiters(a, text);
     let before = waiting as usize;
     if MOST as usize - before < n {
         return refused;
     }
-    put_waiters(&table, a, text, chars, before);
+    put_waiters(a, text, chars, before);
     Offered {
         accepted: true,
         waiting: (before + n) as u16,

@@ -1,68 +1,50 @@
--- `all_wait` meets its contract. The invariant: what is left says it of all.
-use mathlib.Core.Path.{_≡_, _∙_, refl, sym}
-use Prim.Native.Nat.{_-_}
-use lib.ListN.{length, drop}
-use Rattle.queue.specs.Queue.{allWait}
-use Rattle.queue.proofs.Waiters.{wait-left, wait-end}
+-- `all_wait` meets its contract.
+use mathlib.Core.Path.{_∙_}
+use Rattle.queue.proofs.Ranges.{all-edt}
 use borrow.Author.Needs.{needs}
-use borrow.Author.Tests.{not-true, not-false}
 use Rattle.queue.proofs.all_wait.Statement.{statement}
 use Rattle.queue.proofs.all_wait.Tie as tie
-use Rattle.queue.proofs.waits.Reads as waits-reads
+use Rattle.lists.proofs.checks.all_at_most.Reads as all-at-most-reads
+use Rattle.queue.proofs.all_baudot.Reads as all-baudot-reads
+use Rattle.queue.proofs.all_dtmf.Reads as all-dtmf-reads
 
-abbrev Inv-loop : tie.InvT-loop
-Inv-loop table a chars i₀ i = allWait a (drop i chars) ≡ allWait a chars
+enum-told : tie.Need-enum-told
+enum-told c = search needs
 
-abbrev μ-loop : tie.MeasureT-loop
-μ-loop table a chars i₀ i = length chars - i
+all-baudot-requires : tie.Need-all-baudot-requires
+all-baudot-requires c κs = search needs
 
-loop-holds : tie.Need-loop-holds Inv-loop μ-loop
-loop-holds c = refl
+enum-told-2 : tie.Need-enum-told-2
+enum-told-2 c = search needs
 
-shared-slice-read-waits : tie.Need-shared-slice-read-waits Inv-loop μ-loop
-shared-slice-read-waits c = search needs
+all-dtmf-requires : tie.Need-all-dtmf-requires
+all-dtmf-requires c κs = search needs
 
-waits-requires : tie.Need-waits-requires Inv-loop μ-loop
-waits-requires c κs = search needs
+enum-told-3 : tie.Need-enum-told-3
+enum-told-3 c = search needs
 
-returns : tie.Need-returns Inv-loop μ-loop
-returns c =
-    let l = c .before .before .before .before in
-    let s = l .before .before in
-    let k = wait-left (s .args .a) (s .args .chars .now) (l .loop .i) (c .before .before .before .loop-test .taken) in
-    let e = sym (c .before .waits .ensures) ∙ not-true _ (c .if1 .taken) in
-    sym (sym (l .loop .inv) ∙ k ∙ (rw e refl))
+all-at-most-requires : tie.Need-all-at-most-requires
+all-at-most-requires c κs = search needs
 
-add-i : tie.Need-add-i Inv-loop μ-loop
-add-i c = search needs
+returns : tie.Need-returns
+returns c = simp (c .before .enum-told .given .1) (c .all-baudot .ensures)
 
-loop-less : tie.Need-loop-less Inv-loop μ-loop
-loop-less c = search needs
+returns-2 : tie.Need-returns-2
+returns-2 c = simp (c .before .enum-told2 .given .1) (c .all-dtmf .ensures)
 
-loop-again : tie.Need-loop-again Inv-loop μ-loop
-loop-again c =
-    let l = c .before .before .before .before in
-    let s = l .before .before in
-    let k = wait-left (s .args .a) (s .args .chars .now) (l .loop .i) (c .before .before .before .loop-test .taken) in
-    let e = sym (c .before .waits .ensures) ∙ not-false _ (c .if1 .left) in
-    sym (k ∙ (rw e refl)) ∙ l .loop .inv
-
-returns-2 : tie.Need-returns-2 Inv-loop μ-loop
-returns-2 c =
-    let s = c .before .before .before in
-    sym (wait-end (s .args .a) (s .args .chars .now) (c .before .loop .i) (c .loop-test .left)) ∙ c .before .loop .inv
+returns-3 : tie.Need-returns-3
+returns-3 c = simp (c .before .enum-told3 .given .1) (c .all-at-most .ensures ∙ all-edt _)
 
 pub all-wait-spec : {M : Type 1} → statement M
 all-wait-spec =
     tie.close
     (tie.spec
-    Inv-loop
-    μ-loop
-    loop-holds
-    shared-slice-read-waits
-    waits-requires
+    enum-told
+    all-baudot-requires
+    enum-told-2
+    all-dtmf-requires
+    enum-told-3
+    all-at-most-requires
     returns
-    add-i
-    loop-less
-    loop-again
-    returns-2)
+    returns-2
+    returns-3)

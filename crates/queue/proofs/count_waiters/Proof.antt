@@ -14,10 +14,10 @@ use Rattle.queue.proofs.count_waiters.Tie as tie
 use Rattle.queue.proofs.waits.Reads as waits-reads
 
 abbrev Inv-loop : tie.InvT-loop
-Inv-loop table a text n₀ i₀ n i = (n + length (waiters a (drop i text)) ≡ length (waiters a text)) × (n ≤ i)
+Inv-loop a text n₀ i₀ n i = (n + length (waiters a (drop i text)) ≡ length (waiters a text)) × (n ≤ i)
 
 abbrev μ-loop : tie.MeasureT-loop
-μ-loop table a text n₀ i₀ n i = length text - i
+μ-loop a text n₀ i₀ n i = length text - i
 
 loop-holds : tie.Need-loop-holds Inv-loop μ-loop
 loop-holds c = (omega arith, omega arith)

@@ -7,7 +7,7 @@ use Rattle.queue.proofs.first_wait.Tie as tie
 use Rattle.queue.proofs.all_wait.Reads as all-wait-reads
 
 slice-aggregate-all-wait : tie.Need-slice-aggregate-all-wait
-slice-aggregate-all-wait c = sym (length-take-le (c .before .before .args .n) (c .before .before .args .chars .now) (c .before .before .pre .1))
+slice-aggregate-all-wait c = sym (length-take-le _ _ (c .before .before .pre))
 
 all-wait-requires : tie.Need-all-wait-requires
 all-wait-requires c κs = search needs

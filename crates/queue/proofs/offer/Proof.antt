@@ -8,7 +8,6 @@ use Rattle.queue.specs.Queue.{waiters, room, offered, offerOf}
 use borrow.Author.Needs.{needs}
 use Rattle.queue.proofs.offer.Statement.{statement}
 use Rattle.queue.proofs.offer.Tie as tie
-use Rattle.alphabet.proofs.table.send_table.Reads as send-table-reads
 use Rattle.queue.proofs.count_waiters.Reads as count-waiters-reads
 use Rattle.queue.proofs.put_waiters.Reads as put-waiters-reads
 
@@ -19,9 +18,6 @@ returns c =
     let t = c .if1 .taken in
     let r = lt-leb (s .args .waiting + length (waiters (s .args .a) (s .args .text .now))) 256 (omega arith) in
     (simp r, simp r)
-
-send-table-requires : tie.Need-send-table-requires
-send-table-requires c κs = search needs
 
 count-waiters-requires : tie.Need-count-waiters-requires
 count-waiters-requires c κs = search needs
@@ -35,29 +31,29 @@ sub-if2 c = search needs
 returns-2 : tie.Need-returns-2
 unfolding room offerOf
 returns-2 c =
-    let s = c .before .before .before .before .before .before in
+    let s = c .before .before .before .before in
     let n = c .before .count-waiters .ensures in
     let t = c .if2 .taken in
-    let p = c .before .before .before .before .if1 .left in
+    let p = c .before .before .if1 .left in
     let r = lt-leb (s .args .waiting + length (waiters (s .args .a) (s .args .text .now))) 256 (omega arith) in
     (simp r, simp r)
 
 put-waiters-requires : tie.Need-put-waiters-requires
 put-waiters-requires c κs = search needs
 
-add-t12 : tie.Need-add-t12
-add-t12 c = search needs
+add-t9 : tie.Need-add-t9
+add-t9 c = search needs
 
-cast-t18 : tie.Need-cast-t18
-cast-t18 c = search needs
+cast-t14 : tie.Need-cast-t14
+cast-t14 c = search needs
 
 returns-3 : tie.Need-returns-3
 unfolding room offered offerOf
 returns-3 c =
-    let s = c .before .before .before .before .before .before .before .before .before in
-    let n = c .before .before .before .before .count-waiters .ensures in
-    let t = c .before .before .before .if2 .left in
-    let p = c .before .before .before .before .before .before .before .if1 .left in
+    let s = c .before .before .before .before .before .before in
+    let n = c .before .before .before .count-waiters .ensures in
+    let t = c .before .before .if2 .left in
+    let p = c .before .before .before .before .if1 .left in
     let r = le-leb (s .args .waiting + length (waiters (s .args .a) (s .args .text .now))) 256 (omega arith) in
     (simp r, simp (r, c .put-waiters .ensures, n))
 
@@ -66,12 +62,11 @@ offer-spec =
     tie.close
     (tie.spec
     returns
-    send-table-requires
     count-waiters-requires
     cast-if2
     sub-if2
     returns-2
     put-waiters-requires
-    add-t12
-    cast-t18
+    add-t9
+    cast-t14
     returns-3)

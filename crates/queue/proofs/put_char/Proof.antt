@@ -15,7 +15,7 @@ slice-write-chars : tie.Need-slice-write-chars
 slice-write-chars c =
     let s = c .before .before .before in
     let e = ap length (waiter (s .args .a) (s .args .c) (sym (c .before .waits .ensures) ∙ c .if1 .taken)) in
-    let r = s .pre .1 in
+    let r = s .pre in
     omega arith
 
 add-result : tie.Need-add-result

@@ -8,10 +8,10 @@ use Rattle.queue.proofs.put_waiters.Tie as tie
 use Rattle.queue.proofs.put_char.Reads as put-char-reads
 
 abbrev Inv-loop : tie.InvT-loop
-Inv-loop table a text chars₀ at n₀ i₀ chars n i = Putting a text chars₀ at chars n i
+Inv-loop a text chars₀ at n₀ i₀ chars n i = Putting a text chars₀ at chars n i
 
 abbrev μ-loop : tie.MeasureT-loop
-μ-loop table a text chars₀ at n₀ i₀ chars n i = length text - i
+μ-loop a text chars₀ at n₀ i₀ chars n i = length text - i
 
 loop-holds : tie.Need-loop-holds Inv-loop μ-loop
 loop-holds c = putting-start _ _ _ _
@@ -23,7 +23,7 @@ put-char-requires : tie.Need-put-char-requires Inv-loop μ-loop
 put-char-requires c κs =
     let l = c .before .before .before in
     let s = l .before .before .before in
-    (s .pre .0, putting-room _ _ _ _ _ _ _ (l .loop .inv) (c .before .before .loop-test .taken) (s .pre .1))
+    putting-room _ _ _ _ _ _ _ (l .loop .inv) (c .before .before .loop-test .taken) (s .pre)
 
 add-i : tie.Need-add-i Inv-loop μ-loop
 add-i c = search needs
