@@ -1,15 +1,12 @@
 -- What characters that move up are, place by place.
-use mathlib.Core.Path.{_≡_, _∙_, refl, sym, ap}
-use mathlib.Core.Bool.{Bool, true, false}
+use mathlib.Core.Path.{_≡_, _∙_, refl, sym, ap, subst}
 use mathlib.Core.Logic.{⊎-elim}
 use mathlib.Core.List.{List, [], _∷_}
 use Prim.Native.Nat.{ℕ, zero, suc, _+_, _-_, _<_, _≤_, min}
 use native.Mathlib.Omega.{arith}
 use native.Mathlib.Nat.{eq-or-lt-of-le}
-use lib.Dec.{ltb}
 use lib.ListN.{length, getD, set, drop, length-append, length-drop, length-set, List·getD-append}
 use lib.Seq.{getD-append-add, getD-drop, getD-set-same, getD-set-other, ext-getD}
-use borrow.Author.Tests.{ltb-true, ltb-false}
 use Rattle.queue.specs.Queue.{moved, movedBy}
 
 pub moved-length : (xs : List ℕ) → length (moved xs) ≡ length xs
@@ -55,60 +52,96 @@ moved-by-at (suc n) xs j h =
     ∙ ap (λ (m : ℕ). getD xs m 0) f
 
 module _ (n : ℕ) (xs : List ℕ) where
+  abbrev last : ℕ
+  last = length xs - 1
+
   abbrev from : ℕ → ℕ
-  from j = min (j + n) (length xs - 1)
+  from j = min (j + n) last
+
+  abbrev Place : List ℕ → ℕ → Type 0
+  Place ys j = getD ys j 0 ≡ getD xs (from j) 0
+
+  -- one place more
+  one-more : (ys : List ℕ) (to : ℕ) → ((j : ℕ) → j < to → Place ys j) → Place ys to → (j : ℕ) → j < to + 1 → Place ys j
+  one-more ys to before at j h =
+      ⊎-elim (λ e. subst (Place ys) (sym e) at) (before j) (eq-or-lt-of-le {n = j} {m = to} (omega arith))
 
   -- characters on their way: those before a place have moved up, and the others stand as they were
   pub record Slid (ys : List ℕ) (to : ℕ) : Type 0 where
     pub size : length ys ≡ length xs
-    pub done : (j : ℕ) → j < to → getD ys j 0 ≡ getD xs (from j) 0
+    pub done : (j : ℕ) → j < to → Place ys j
     pub ahead : (j : ℕ) → to ≤ j → getD ys j 0 ≡ getD xs j 0
 
   pub slid-start : Slid xs 0
   slid-start = record { size = refl; done = λ j h. absurd (omega arith); ahead = λ j h. refl }
 
-  module _ (ys : List ℕ) (to : ℕ) (s : Slid ys to) where
-    pub slid-turn : (k : ℕ) → to < length xs - 1 → k ≡ from to → Slid (set ys to (getD ys k 0)) (to + 1)
-    slid-turn k h e =
-        let c = getD ys k 0 in
-        let l = s .size in
-        let here : (j : ℕ) → j ≡ to → getD (set ys to c) j 0 ≡ getD xs (from j) 0 =
-        λ j q. (λ i. getD (set ys to c) (q i) 0) ∙ getD-set-same ys to c 0 (omega arith) ∙ s .ahead k (omega arith) ∙ (λ i. getD xs (e i) 0) ∙ sym (λ i. getD xs (from (q i)) 0) in
-        let before : (j : ℕ) → j < to → getD (set ys to c) j 0 ≡ getD xs (from j) 0 =
-        λ j q. getD-set-other ys to j c 0 (omega arith) ∙ s .done j q in
-        record {
-          size = length-set ys to c ∙ l;
-          done = λ j q. ⊎-elim (here j) (before j) (eq-or-lt-of-le {n = j} {m = to} (omega arith));
-          ahead = λ j q. getD-set-other ys to j c 0 (omega arith) ∙ s .ahead j (omega arith);
-        }
+  pub slid-turn : (ys : List ℕ) (to k : ℕ) → Slid ys to → to < last → k ≡ from to → Slid (set ys to (getD ys k 0)) (to + 1)
+  slid-turn ys to k s h e =
+      let c = getD ys k 0 in
+      let l = s .size in
+      let before : (j : ℕ) → j < to → Place (set ys to c) j = λ j q. getD-set-other ys to j c 0 (omega arith) ∙ s .done j q in
+      let here : Place (set ys to c) to = getD-set-same ys to c 0 (omega arith) ∙ s .ahead k (omega arith) ∙ (λ i. getD xs (e i) 0) in
+      record {
+        size = length-set ys to c ∙ l;
+        done = one-more (set ys to c) to before here;
+        ahead = λ j q. getD-set-other ys to j c 0 (omega arith) ∙ s .ahead j (omega arith);
+      }
 
-    pub slid-end : length xs - 1 ≤ to → ys ≡ movedBy n xs
-    slid-end h =
-        let l = s .size in
-        ext-getD 0 ys (movedBy n xs) (l ∙ sym (moved-by-length n xs)) (λ j q. at j (omega arith) (ltb j to) refl ∙ sym (moved-by-at n xs j (omega arith)))
-      where
-        at : (j : ℕ) → j < length xs → (b : Bool) → ltb j to ≡ b → getD ys j 0 ≡ getD xs (from j) 0
-        at j q true e = s .done j (ltb-true j to e)
-        at j q false e =
-            let p = ltb-false j to e in
-            let f : j ≡ from j = omega arith in
-            s .ahead j p ∙ (λ i. getD xs (f i) 0)
+  -- those before a place have moved up, and the last place has the last character
+  pub record Filled (ys : List ℕ) (to : ℕ) : Type 0 where
+    pub size : length ys ≡ length xs
+    pub done : (j : ℕ) → j < to → Place ys j
+    pub end : getD ys last 0 ≡ getD xs last 0
 
--- the last character, in all the places from one on: whatever moved up before that has then moved up to there
-pub record Filling (n last : ℕ) (ys₀ : List ℕ) (to₀ : ℕ) (ys : List ℕ) (to : ℕ) : Type 0 where
+  pub filled-start : (ys : List ℕ) (to : ℕ) → Slid ys to → to ≤ last → Filled ys to
+  filled-start ys to s h = record { size = s .size; done = s .done; end = s .ahead last h }
+
+  -- the last character at a place and at the one behind it
+  pub filled-turn : (ys : List ℕ) (to c : ℕ) → Filled ys to → to < last → last ≤ to + n → c ≡ getD xs last 0 → Filled (set (set ys to c) (to + 1) c) (to + 1)
+  filled-turn ys to c f h m e =
+      let l = f .size in
+      let zs = set ys to c in
+      let k = length-set ys to c in
+      let g : last ≡ from to = omega arith in
+      let before : (j : ℕ) → j < to → Place (set zs (to + 1) c) j =
+      λ j q. getD-set-other zs (to + 1) j c 0 (omega arith) ∙ getD-set-other ys to j c 0 (omega arith) ∙ f .done j q in
+      let here : Place (set zs (to + 1) c) to =
+      getD-set-other zs (to + 1) to c 0 (omega arith) ∙ getD-set-same ys to c 0 (omega arith) ∙ e ∙ (λ i. getD xs (g i) 0) in
+      let next : to + 1 ≡ last → getD (set zs (to + 1) c) last 0 ≡ getD xs last 0 =
+      λ q. sym (λ i. getD (set zs (to + 1) c) (q i) 0) ∙ getD-set-same zs (to + 1) c 0 (omega arith) ∙ e in
+      let later : to + 1 < last → getD (set zs (to + 1) c) last 0 ≡ getD xs last 0 =
+      λ q. getD-set-other zs (to + 1) last c 0 (omega arith) ∙ getD-set-other ys to last c 0 (omega arith) ∙ f .end in
+      record {
+        size = length-set zs (to + 1) c ∙ k ∙ l;
+        done = one-more (set zs (to + 1) c) to before here;
+        end = ⊎-elim next later (eq-or-lt-of-le {n = to + 1} {m = last} (omega arith));
+      }
+
+  pub filled-end : (ys : List ℕ) (to : ℕ) → Filled ys to → last ≤ to → ys ≡ movedBy n xs
+  filled-end ys to f h =
+      let l = f .size in
+      ext-getD 0 ys (movedBy n xs) (l ∙ sym (moved-by-length n xs)) (λ j q. at j (omega arith) ∙ sym (moved-by-at n xs j (omega arith)))
+    where
+      at : (j : ℕ) → j < length xs → Place ys j
+      at j q =
+          let g : last ≡ from last = omega arith in
+          ⊎-elim (λ e. subst (Place ys) (sym e) (f .end ∙ (λ i. getD xs (g i) 0))) (λ p. f .done j (omega arith)) (eq-or-lt-of-le {n = j} {m = last} (omega arith))
+
+-- the last character in all the places from one on, whatever moved up before it
+pub record Filling (n last c : ℕ) (ys₀ : List ℕ) (to₀ : ℕ) (ys : List ℕ) (to : ℕ) : Type 0 where
   pub size : length ys ≡ length ys₀
   pub past : to₀ ≤ to
-  pub slid : (xs : List ℕ) → last ≡ length xs - 1 → last ≤ to₀ + n → Slid n xs ys₀ to₀ → Slid n xs ys to
+  pub filled : (xs : List ℕ) → last ≡ length xs - 1 → last ≤ to₀ + n → c ≡ getD xs last 0 → Filled n xs ys₀ to₀ → Filled n xs ys to
 
-pub filling-start : (n last : ℕ) (ys₀ : List ℕ) (to₀ : ℕ) → Filling n last ys₀ to₀ ys₀ to₀
-filling-start n last ys₀ to₀ = record { size = refl; past = omega arith; slid = λ xs e h s. s }
+pub filling-start : (n last c : ℕ) (ys₀ : List ℕ) (to₀ : ℕ) → Filling n last c ys₀ to₀ ys₀ to₀
+filling-start n last c ys₀ to₀ = record { size = refl; past = omega arith; filled = λ xs e h g f. f }
 
-pub filling-turn : (n last : ℕ) (ys₀ : List ℕ) (to₀ : ℕ) (ys : List ℕ) (to : ℕ) → Filling n last ys₀ to₀ ys to → to < last
-    → Filling n last ys₀ to₀ (set ys to (getD ys last 0)) (to + 1)
-filling-turn n last ys₀ to₀ ys to f t =
+pub filling-turn : (n last c : ℕ) (ys₀ : List ℕ) (to₀ : ℕ) (ys : List ℕ) (to : ℕ) → Filling n last c ys₀ to₀ ys to → to < last
+    → Filling n last c ys₀ to₀ (set (set ys to c) (to + 1) c) (to + 1)
+filling-turn n last c ys₀ to₀ ys to f t =
     let p = f .past in
     record {
-      size = length-set ys to (getD ys last 0) ∙ f .size;
+      size = length-set (set ys to c) (to + 1) c ∙ length-set ys to c ∙ f .size;
       past = omega arith;
-      slid = λ xs e h s. slid-turn n xs ys to (f .slid xs e h s) last (omega arith) (omega arith);
+      filled = λ xs e h g s. filled-turn n xs ys to c (f .filled xs e h g s) (omega arith) (omega arith) (g ∙ (λ i. getD xs (e i) 0));
     }

@@ -2,15 +2,14 @@
 use mathlib.Core.Path.{_≡_, _∙_, refl, sym, ap}
 use mathlib.Core.Bool.{Bool, true, false, cond, _&&_}
 use mathlib.Core.List.{List, [], _∷_, _++_}
-use Prim.Native.Nat.{ℕ, suc, _+_, _-_, _<_, _≤_}
+use Prim.Native.Nat.{ℕ, suc, _+_, _<_, _≤_}
 use native.Mathlib.Omega.{arith}
-use native.Mathlib.Nat.{add-zero}
 use native.Mathlib.Numerals.{add-one}
-use lib.ListN.{length, getD, set, drop, drop-of-length-le, length-append, length-drop, length-set}
-use lib.Seq.{sets, drop-cons, drop-drop, drop-set-lt, getD-drop, length-sets}
-use Rattle.lists.proofs.Lists.{sets-append, sets-front}
+use lib.ListN.{length, getD, drop, drop-of-length-le, length-append}
+use lib.Seq.{sets, drop-cons, length-sets}
+use Rattle.lists.proofs.Lists.{sets-append}
 use Rattle.alphabet.specs.declared.Alphabet.{Alphabet}
-use Rattle.queue.specs.Queue.{waits, waiters, allWait, moved}
+use Rattle.queue.specs.Queue.{waits, waiters, allWait}
 
 and-assoc : (x y z : Bool) → ((x && y) && z) ≡ (x && (y && z))
 and-assoc true y z = refl
@@ -99,39 +98,3 @@ module _ (a : Alphabet) where
 
     pub putting-end : length text ≤ i → chars ≡ sets chars₀ at (waiters a text)
     putting-end h = ap (λ (v : List ℕ). sets chars n v) (sym (waiters-end text i h)) ∙ p .whole
-
--- characters that move up: those ahead stand as they were, and moving them up gives the whole
-pub record Moving (chars₀ chars : List ℕ) (i : ℕ) : Type 0 where
-  pub size : length chars ≡ length chars₀
-  pub first : 1 ≤ i
-  pub ahead : drop i chars ≡ drop i chars₀
-  pub whole : sets chars (i - 1) (drop i chars₀) ≡ sets chars₀ 0 (drop 1 chars₀)
-
-pub moving-start : (chars₀ : List ℕ) → Moving chars₀ chars₀ 1
-moving-start chars₀ = record { size = refl; first = omega arith; ahead = refl; whole = refl }
-
-module _ (chars₀ chars : List ℕ) (i : ℕ) (m : Moving chars₀ chars i) where
-  same-char : i < length chars → getD chars i 0 ≡ getD chars₀ i 0
-  same-char h =
-      let e = ap (λ (l : List ℕ). getD l 0 0) (m .ahead) in
-      ap (λ (k : ℕ). getD chars k 0) (sym (add-zero i)) ∙ sym (getD-drop i chars 0 0) ∙ e ∙ getD-drop i chars₀ 0 0 ∙ ap (λ (k : ℕ). getD chars₀ k 0) (add-zero i)
-
-  pub moving-turn : i < length chars → Moving chars₀ (set chars (i - 1) (getD chars i 0)) (i + 1)
-  moving-turn h =
-      let f = m .first in
-      let s = m .size in
-      let up : i + 1 - 1 ≡ suc (i - 1) = omega arith in
-      let d : drop i chars₀ ≡ getD chars i 0 ∷ drop (i + 1) chars₀ = drop-cons chars₀ i 0 (omega arith) ∙ sym (λ j. same-char h j ∷ drop (add-one i j) chars₀) in
-      let next : drop (i + 1) chars ≡ drop (i + 1) chars₀ = sym (drop-drop 1 i chars) ∙ ap (drop 1) (m .ahead) ∙ drop-drop 1 i chars₀ in
-      record {
-        size = length-set chars (i - 1) (getD chars i 0) ∙ s;
-        first = omega arith;
-        ahead = drop-set-lt (i + 1) chars (i - 1) (getD chars i 0) (omega arith) ∙ next;
-        whole = ap (λ (k : ℕ). sets (set chars (i - 1) (getD chars i 0)) k (drop (i + 1) chars₀)) up ∙ ap (λ (v : List ℕ). sets chars (i - 1) v) (sym d) ∙ m .whole;
-      }
-
-  pub moving-end : length chars ≤ i → chars ≡ moved chars₀
-  moving-end h =
-      let s = m .size in
-      let n : length (drop 1 chars₀) ≤ length chars₀ = (let e = length-drop 1 chars₀ in omega arith) in
-      ap (λ (v : List ℕ). sets chars (i - 1) v) (sym (drop-of-length-le chars₀ {i = i} (omega arith))) ∙ m .whole ∙ sets-front chars₀ (drop 1 chars₀) n

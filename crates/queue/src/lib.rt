@@ -126,19 +126,8 @@ fn all_wait(a: Alphabet, chars: &[u8]) -> bool
     }
 }
 
-// All but the first move up one place; the last place keeps its character.
-pub fn move_up(chars: &mut [u8])
-    ensures { λ r. ⌜ now (chars .exit) ≡ moved (now (chars .entry)) ⌝ }
-{
-    let mut i: usize = 1;
-    while i < chars.len() {
-        let c = chars[i];
-        chars[i - 1] = c;
-        i += 1;
-    }
-}
-
-// All move up n places in one pass; the last character stays in the places that are left.
+// All move up n places in one pass; the last character stays in the places that are left. It is stored twice in each turn,
+// since of single stores the compiler makes a call of memset.
 pub fn move_up_by(chars: &mut [u8], n: usize)
     ensures { λ r. ⌜ now (chars .exit) ≡ movedBy n (now (chars .entry)) ⌝ }
 {
@@ -157,11 +146,19 @@ pub fn move_up_by(chars: &mut [u8], n: usize)
         from += 1;
         to += 1;
     }
+    let c = chars[last];
     while to < last {
-        let c = chars[last];
         chars[to] = c;
+        chars[to + 1] = c;
         to += 1;
     }
+}
+
+// All but the first move up one place; the last place keeps its character.
+pub fn move_up(chars: &mut [u8])
+    ensures { λ r. ⌜ now (chars .exit) ≡ moved (now (chars .entry)) ⌝ }
+{
+    move_up_by(chars, 1)
 }
 
 // No characters. The compiler makes 16 stores of this, and no call of memset, which it calls from 257 bytes on.
