@@ -5,7 +5,7 @@ ghost use mathlib.Core.Bool.{_&&_};
 ghost use mathlib.Core.List.{[], _∷_};
 ghost use Prim.Native.Nat.{_+_, _≤_};
 ghost use lib.Dec.{leb};
-ghost use lib.ListN.{length, take, replicate};
+ghost use lib.ListN.{length, replicate};
 ghost use lib.Seq.{sets};
 ghost use Rattle.alphabet.specs.declared.Alphabet.the-variants.{Baudot, Dtmf};
 ghost use Rattle.queue.specs.Queue.{waits, waiters, allWait, queue, inRange, offerOf, moved, movedBy};
@@ -168,14 +168,6 @@ pub fn clear(chars: &mut [u8; 256])
     *chars = [0; 256];
 }
 
-// Are the first so many characters that wait?
-fn first_wait(a: Alphabet, chars: &[u8], n: usize) -> bool
-    requires { ⌜ n ≤ length (now chars) ⌝ }
-    ensures { λ r. ⌜ r ≡ allWait a (take n (now (chars .entry))) ⌝ }
-{
-    all_wait(a, &chars[..n])
-}
-
 // Question 1 of a queue.
 pub fn in_range(a: Alphabet, waiting: u16, chars: &[u8; 256]) -> bool
     ensures { λ r. ⌜ r ≡ inRange a (queue waiting (now (chars .entry))) ⌝ }
@@ -183,7 +175,9 @@ pub fn in_range(a: Alphabet, waiting: u16, chars: &[u8; 256]) -> bool
     if MOST < waiting {
         return false;
     }
-    first_wait(a, chars, waiting as usize)
+    let n = waiting as usize;
+    let all = &chars[..];
+    all_wait(a, &all[..n])
 }
 
 // Whether there was space for an offer, and how many wait then.
