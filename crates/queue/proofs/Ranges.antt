@@ -1,5 +1,5 @@
 -- The characters that send something, by their ranges: one computed test over all bytes for each alphabet.
-use mathlib.Core.Path.{_≡_, _∙_, refl}
+use mathlib.Core.Path.{_≡_, refl}
 use mathlib.Core.Bool.{Bool, true, false, not, cond, _&&_, _||_}
 use mathlib.Core.List.{List, [], _∷_}
 use Prim.Native.Nat.{ℕ, _<_}
@@ -7,7 +7,6 @@ use lib.Dec.{T, eqb, leb}
 use Rattle.lists.specs.Lists.{allAtMost}
 use Rattle.lists.specs.Tables.{passes}
 use Rattle.lists.proofs.Tables.{passes-at}
-use Rattle.alphabet.specs.declared.Alphabet.{Alphabet}
 use Rattle.alphabet.specs.declared.Alphabet.the-variants.{Baudot, Dtmf, Edt}
 use Rattle.alphabet.specs.Print.{leftRows, rightRows, rows, bitsFrom, bits, keys}
 use Rattle.alphabet.specs.TableA2.{a2}

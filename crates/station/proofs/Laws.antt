@@ -1,7 +1,7 @@
 -- What the functions of this crate need of the definitions.
 use mathlib.Core.Path.{_≡_, _∙_, refl, sym, ap}
 use mathlib.Core.Bool.{Bool, true, false, cond, _&&_, _||_}
-use mathlib.Core.List.{List, [], _∷_}
+use mathlib.Core.List.{List}
 use Prim.Native.Nat.{ℕ, _+_, _≤_, _<_}
 use lib.Dec.{eqb}
 use native.Mathlib.Numerals.{add-one}
@@ -15,7 +15,7 @@ use Rattle.frames.specs.Samples.{placed, samplesOf, baudotKinds, edtKinds}
 use Rattle.frames.specs.Range.{lastMs}
 use Rattle.line.specs.declared.Reader.{Reader}
 use Rattle.access.specs.declared.Core.{Core}
-use Rattle.queue.specs.Queue.{Queue, QueueOffered, queue, room, offered, offerOf as queueOffer}
+use Rattle.queue.specs.Queue.{Queue, QueueOffered, room, offered, offerOf as queueOffer}
 use Rattle.station.specs.declared.Station.{Station}
 use Rattle.station.specs.Station.{station, alphabetOfStation, queueOf, hasDel, readerOffered, coreWith, offeredTo}
 use Rattle.station.specs.Range.{inRange}

@@ -2,7 +2,7 @@
 use mathlib.Core.Path.{_≡_, _∙_, refl, sym, ap}
 use Prim.Native.Nat.{ℕ, _+_, _-_, _≤_}
 use native.Mathlib.Omega.{arith}
-use lib.ListN.{length, length-set}
+use lib.ListN.{length-set}
 use Rattle.queue.specs.Queue.{movedBy}
 use Rattle.queue.proofs.Moves.{Slid, slid-start, slid-turn, filled-start, filled-end, Filling, filling-start, filling-turn}
 use borrow.Author.Needs.{needs}

@@ -1,5 +1,5 @@
 -- `offer` meets its contract: one law for each answer.
-use mathlib.Core.Path.{_≡_, _∙_, refl, sym, ap}
+use mathlib.Core.Path.{_∙_, refl, sym, ap}
 use borrow.Author.Tests.{not-true, not-false}
 use Rattle.alphabet.specs.Modes.{alphabetOf}
 use Rattle.station.proofs.Answers.{offer-1, offer-3}
