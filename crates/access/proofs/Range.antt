@@ -106,7 +106,7 @@ pub blank-in : (mode : Mode) (part : ℕ) → part ≤ 2 → LineIn mode (onLine
 blank-in mode part p = let h = some-codes (alphabetOf mode) in start-in mode part 0 p (omega arith)
 
 module _ (mode : Mode) (l : OnLine) (s : Sender) (i : LineIn mode l) (j : SenderIn s) where
-  begins-in : (x : Sends) → SendsIn (alphabetOf mode) x → LoadedIn mode (codeBegins (alphabetOf mode) l s x)
+  pub begins-in : (x : Sends) → SendsIn (alphabetOf mode) x → LoadedIn mode (codeBegins (alphabetOf mode) l s x)
   unfolding codeBegins
   begins-in Nothing h = record { line-in = i; sender-in = j }
   begins-in (Code own k) h = go (eqb w 0) refl

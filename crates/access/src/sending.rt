@@ -123,7 +123,7 @@ fn code_at(code: u8) -> OnLine
 }
 
 // The next code: a shift code where one is wanted ahead of the front character, else its own.
-fn code_begins(a: Alphabet, l: OnLine, s: Sender, sends: Sends) -> Loaded
+pub fn code_begins(a: Alphabet, l: OnLine, s: Sender, sends: Sends) -> Loaded
     requires { ⌜ SenderIn s ⌝ }
     requires { ⌜ SendsIn a sends ⌝ }
     ensures { λ r. ⌜ r ≡ codeBegins a l s sends ⌝ }

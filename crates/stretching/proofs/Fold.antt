@@ -27,15 +27,15 @@ use Rattle.stretching.proofs.Laws.{at-most-take}
 use Rattle.stretching.proofs.Joining.{between-length}
 
 module _ (s : Station) where
-  after-none : stationAfter s [] ≡ s
+  pub after-none : stationAfter s [] ≡ s
   unfolding stateAfter
   after-none = refl
 
-  sent-none : sentBy s [] ≡ []
+  pub sent-none : sentBy s [] ≡ []
   unfolding outputs
   sent-none = refl
 
-  words-none : wordsBy s [] ≡ []
+  pub words-none : wordsBy s [] ≡ []
   unfolding outputs wordsOf
   words-none = refl
 

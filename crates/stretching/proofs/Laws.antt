@@ -70,7 +70,7 @@ walk f levels (x ∷ xs) h =
 
 -- ---- sending is settled as it was
 
-begun-same : (may : Bool) (l : OnLine) → (may && not (inBurst l)) ≡ false → begun may l ≡ l
+pub begun-same : (may : Bool) (l : OnLine) → (may && not (inBurst l)) ≡ false → begun may l ≡ l
 unfolding begun
 begun-same may l e = rw e refl
 

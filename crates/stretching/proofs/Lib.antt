@@ -4,3 +4,4 @@ pub mod Filling
 pub mod Elements
 pub mod Joining
 pub mod Fold
+pub mod Coding

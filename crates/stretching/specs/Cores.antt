@@ -4,6 +4,7 @@ use mathlib.Core.Bool.{false, cond}
 use mathlib.Core.List.{List}
 use lib.Dec.{ltb}
 use Rattle.lists.specs.Steps.{stateAfter}
+use Rattle.baudot.specs.declared.Sender.{Sender}
 use Rattle.frames.specs.Frames.{hunting}
 use Rattle.keys.specs.Keys.{needs}
 use Rattle.line.specs.declared.Reader.{Reader}
@@ -53,6 +54,11 @@ sentFor c n =
     (c .sender)
     (deafReader (c .reader) n)
     (c .mode)
+
+-- After whole codes: so many characters are taken, a sender, what is on the line, and the ms that went.
+unfoldable pub codedCore : Core → ℕ → Sender → OnLine → ℕ → Core
+codedCore c taken sender line n =
+    core (c .waiting - taken) (silenceFor (c .silence) n) (burstLeft (c .inhibited) n) line sender (deafReader (c .reader) n) (c .mode)
 
 unfoldable pub deafFor : Core → ℕ → Core
 deafFor c n =

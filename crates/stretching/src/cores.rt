@@ -3,6 +3,7 @@ use access::Core;
 use access::Loaded;
 use access::OnLine;
 use access::sending;
+use baudot::Sender;
 use frames::Frame;
 use keys::Keys;
 use line::Reader;
@@ -10,7 +11,7 @@ ghost use mathlib.Core.Path.{_≡_};
 ghost use Prim.Native.Nat.{_+_, _-_, _≤_};
 ghost use Rattle.access.specs.Line.{onLine, isOver};
 ghost use Rattle.access.specs.Core.{modeIn};
-ghost use Rattle.stretching.specs.Cores.{silenceFor, silenceOver, deafReader, loadedCore, sentFor, deafFor, listened};
+ghost use Rattle.stretching.specs.Cores.{silenceFor, silenceOver, deafReader, loadedCore, sentFor, codedCore, deafFor, listened};
 
 // The silence after n ms without signal.
 pub fn silence_for(silence: u16, n: usize) -> u16
@@ -121,6 +122,25 @@ pub fn sent_for(c: Core, n: usize, over: bool) -> Core
         silence: silence_for(c.silence, n),
         inhibited: access::INHIBITED,
         line: sending::ended(over, c.waiting, line),
+        sender,
+        reader: deaf_reader(reader, n),
+        mode: c.mode,
+    }
+}
+
+// A core after n ms of whole codes, which took so many characters.
+pub fn coded(c: Core, taken: usize, sender: Sender, line: OnLine, n: usize) -> Core
+    requires { ⌜ 1 ≤ n ⌝ }
+    requires { ⌜ taken ≤ c .waiting ⌝ }
+    requires { ⌜ c .silence ≤ 300 ⌝ }
+    ensures { λ r. ⌜ r ≡ codedCore c taken sender line n ⌝ }
+{
+    let reader = c.reader;
+    Core {
+        waiting: c.waiting - taken as u16,
+        silence: silence_for(c.silence, n),
+        inhibited: access::INHIBITED,
+        line,
         sender,
         reader: deaf_reader(reader, n),
         mode: c.mode,

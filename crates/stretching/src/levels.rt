@@ -151,6 +151,16 @@ fn put_code(mode: Mode, code: u8, at: usize, sent: &mut [u8], from: usize, to: u
     put_keys(code, at, sent, from, to);
 }
 
+// All ms of a code, written from a place on.
+pub fn put_whole(mode: Mode, code: u8, sent: &mut [u8], from: usize)
+    requires { ⌜ code < codes (alphabetOf mode) ⌝ }
+    requires { ⌜ from + length (signal mode code) ≤ length (now sent) ⌝ }
+    ensures { λ r. ⌜ now (sent .exit) ≡ sets (now (sent .entry)) from (signal mode code) ⌝ }
+{
+    let ms = signal::duration(mode, LineCode(code)) as usize;
+    put_code(mode, code, 0, sent, from, from + ms);
+}
+
 // The next ms of a part, written from a place to another.
 pub fn put(mode: Mode, l: OnLine, sent: &mut [u8], from: usize, to: usize)
     requires { ⌜ LineIn mode l ⌝ }

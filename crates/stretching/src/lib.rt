@@ -13,6 +13,7 @@ ghost use Rattle.station.specs.Range.{inRange};
 ghost use Rattle.station.specs.Entries.{highestLevel};
 ghost use Rattle.stretching.specs.Stretches.{Stretches};
 
+pub mod bursts;
 pub mod cores;
 pub mod levels;
 pub mod stretches;
@@ -40,7 +41,7 @@ fn may_send(c: Core) -> bool
     access::may_begin(c.waiting, c.silence)
 }
 
-// The next stretch: the ms of a part; inhibited ms; ms that the receiver hears.
+// The next stretch: whole codes; the ms of a part; inhibited ms; ms that the receiver hears.
 fn stretch(
     c: Core,
     chars: &mut [u8],
@@ -59,6 +60,9 @@ fn stretch(
     ensures { λ x. ⌜ Stretches (now (heard .entry)) c (now (chars .entry)) (now (sent .entry)) (now (words .entry)) i n x (now (chars .exit)) (now (sent .exit)) (now (words .exit)) ⌝ }
 {
     if may_send(c) {
+        if bursts::follows(c, heard.len() - i) {
+            return bursts::codes(c, chars, heard, i, sent, n);
+        }
         return stretches::begin(c, chars, heard, i, sent, words, n);
     }
     if c.inhibited != 0 {
