@@ -102,7 +102,7 @@ static void next_stretch(struct spoiler *s)
         for (i = 0; i < sizeof text; i++) {
             text[i] = (uint8_t)(' ' + below(&s->random, 95));
         }
-        s->stranger = cq_station_open(s->mode).station;
+        cq_station_open(&s->stranger, s->mode);
         cq_station_offer(&s->stranger, text, sizeof text);
         stranger_runs(s, 1 + below(&s->random, STRANGER_MS)); /* its burst is heard from somewhere on */
     }
@@ -286,7 +286,7 @@ static void sit_down(struct side *side, const char *name, uint8_t mode, uint32_t
 {
     memset(side, 0, sizeof *side);
     side->name = name;
-    side->station = cq_station_open(mode).station;
+    cq_station_open(&side->station, mode);
     side->spoiler.random.state = seed;
     side->spoiler.mode = mode;
     side->typed.verb = "types";

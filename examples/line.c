@@ -111,10 +111,9 @@ static void send_ms(cq_station *station, struct burst *burst)
 /* The burst of a text. Characters are offered as soon as there is space for them, so there is one burst. */
 static void send_text(const struct mode *mode, const uint8_t *text, size_t length, struct burst *burst)
 {
-    cq_opened opened = cq_station_open(mode->number);
-    cq_station *station = &opened.station;
+    cq_station fresh, *station = &fresh;
     size_t offered = 0;
-    ran_well(opened.answer);
+    ran_well(cq_station_open(station, mode->number));
     burst->ms = burst->pieces = 0;
     do {
         while (offered < length && cq_station_offer(station, text + offered, 1) == CQ_OK) {
@@ -250,14 +249,14 @@ static void do_read(const struct mode *mode)
     unsigned long at, level, ms;
     size_t i;
     struct read read = {0, 0, 0, NULL};
-    cq_opened opened = cq_station_open(mode->number);
-    ran_well(opened.answer);
+    cq_station station;
+    ran_well(cq_station_open(&station, mode->number));
     for (at = 1; fgets(line, sizeof line, stdin) != NULL; at++) {
         if (strlen(line) == sizeof line - 1 && line[sizeof line - 2] != '\n') {
             stop("line %lu is longer than %d characters", at, (int)sizeof line - 2);
         }
         if (run_length(mode, line, at, &level, &ms)) {
-            hear_run(&opened.station, (uint8_t)level, ms, &read);
+            hear_run(&station, (uint8_t)level, ms, &read);
         }
     }
     printf("faults: %lu\ntext: ", read.faults);

@@ -8,8 +8,7 @@
  * elements. The engine uses no heap, keeps nothing between calls and calls nothing back. Several threads
  * may call it at the same time, each with its own slice to be written and its own state.
  *
- * Link libcuyrapaq.a (x86-64, System V calling convention). Of the C library it calls memcpy, memmove and
- * memset alone.
+ * Link libcuyrapaq.a (x86-64, System V calling convention). It calls nothing of the C library.
  */
 #ifndef CUYRAPAQ_H
 #define CUYRAPAQ_H
@@ -25,7 +24,7 @@ extern "C" {
  * The version of the interface. MAJOR: a struct, an entry's contract or a refusal's meaning changed;
  * MINOR: entries were added; PATCH: the contracts are the same.
  */
-#define CQ_VERSION_MAJOR 1
+#define CQ_VERSION_MAJOR 2
 #define CQ_VERSION_MINOR 0
 #define CQ_VERSION_PATCH 0
 #define CQ_VERSION (CQ_VERSION_MAJOR * 10000L + CQ_VERSION_MINOR * 100L + CQ_VERSION_PATCH)
@@ -308,12 +307,6 @@ typedef struct cq_station {
     uint8_t chars[CQ_STATION_WAITING_MAX]; /* those waiting, the front one first; each sends something */
 } cq_station;
 
-/* What cq_station_open gives back. */
-typedef struct cq_opened {
-    cq_station station;
-    uint8_t answer; /* CQ_OK or CQ_REFUSED_MODE */
-} cq_opened;
-
 /* What cq_station_run gives back. */
 typedef struct cq_station_ran {
     uint8_t answer; /* CQ_OK or a refusal */
@@ -321,12 +314,17 @@ typedef struct cq_station_ran {
 } cq_station_ran;
 
 /*
- * A fresh station of a mode: nothing waits, the line is free, the sender is fresh and the reader hunts in
+ * Opens a station of a mode: nothing waits, the line is free, the sender is fresh and the reader hunts in
  * letters.
  *
- * CQ_REFUSED_MODE (2): the mode is not 1 to 4. The station given back is then a fresh one of mode 1.
+ * station  where the station goes; what stood there does not matter
+ * mode     1 to 4
+ *
+ * CQ_OK: the station is a fresh one of the mode.
+ *
+ * CQ_REFUSED_MODE (2): the mode is not 1 to 4. The station is then a fresh one of mode 1.
  */
-cq_opened cq_station_open(uint8_t mode);
+uint8_t cq_station_open(cq_station *station, uint8_t mode);
 
 /*
  * Offers a text to be sent.
@@ -391,8 +389,6 @@ static_assert(sizeof(cq_core) == 20, "cq_core has 20 bytes");
 static_assert(offsetof(cq_core, mode) == 19, "mode stands at byte 19");
 static_assert(sizeof(cq_station) == 276, "cq_station has 276 bytes");
 static_assert(offsetof(cq_station, chars) == 20, "chars stand from byte 20 on");
-static_assert(sizeof(cq_opened) == 278, "cq_opened has 278 bytes");
-static_assert(offsetof(cq_opened, answer) == 276, "answer stands at byte 276");
 static_assert(sizeof(cq_station_ran) == 16, "cq_station_ran has 16 bytes");
 static_assert(offsetof(cq_station_ran, words) == 8, "words stands at byte 8");
 #else
@@ -407,8 +403,6 @@ typedef char cq_check_core[sizeof(cq_core) == 20 ? 1 : -1];
 typedef char cq_check_core_mode[offsetof(cq_core, mode) == 19 ? 1 : -1];
 typedef char cq_check_station[sizeof(cq_station) == 276 ? 1 : -1];
 typedef char cq_check_station_chars[offsetof(cq_station, chars) == 20 ? 1 : -1];
-typedef char cq_check_opened[sizeof(cq_opened) == 278 ? 1 : -1];
-typedef char cq_check_opened_answer[offsetof(cq_opened, answer) == 276 ? 1 : -1];
 typedef char cq_check_station_ran[sizeof(cq_station_ran) == 16 ? 1 : -1];
 typedef char cq_check_station_ran_words[offsetof(cq_station_ran, words) == 8 ? 1 : -1];
 #endif

@@ -146,8 +146,6 @@ static void layout(void)
     check(offsetof(cq_core, mode) == 19, "mode", "cq_core");
     check(sizeof(cq_station) == 276, "size", "cq_station");
     check(offsetof(cq_station, core) == 0 && offsetof(cq_station, chars) == 20, "fields", "cq_station");
-    check(sizeof(cq_opened) == 278, "size", "cq_opened");
-    check(offsetof(cq_opened, station) == 0 && offsetof(cq_opened, answer) == 276, "fields", "cq_opened");
     check(sizeof(cq_station_ran) == 16, "size", "cq_station_ran");
     check(offsetof(cq_station_ran, answer) == 0 && offsetof(cq_station_ran, words) == 8, "fields", "cq_station_ran");
     check(CQ_MODE_BAUDOT_45 == 1 && CQ_MODE_BAUDOT_50 == 2 && CQ_MODE_DTMF == 3 && CQ_MODE_EDT == 4,
@@ -495,9 +493,11 @@ static int same_station(const cq_station *a, const cq_station *b)
 
 static cq_station opened(uint8_t mode)
 {
-    cq_opened o = cq_station_open(mode);
-    check(o.answer == CQ_OK && o.station.core.mode == mode && o.station.core.waiting == 0, "a fresh station", "open");
-    return o.station;
+    cq_station station;
+    memset(&station, 0xA5, sizeof station);
+    check(cq_station_open(&station, mode) == CQ_OK, "an opening is not refused", "open");
+    check(station.core.mode == mode && station.core.waiting == 0, "a fresh station", "open");
+    return station;
 }
 
 /* Offers a text that is taken; `waiting` wait then. */
@@ -629,10 +629,9 @@ static void station_refusals(void)
     uint8_t mode, numbers[] = {0, 5, 255};
     size_t i;
     for (i = 0; i < sizeof numbers; i++) {
-        cq_opened o = cq_station_open(numbers[i]);
-        cq_station first = opened(CQ_MODE_BAUDOT_45);
-        check(o.answer == CQ_REFUSED_MODE, "a mode that is none", "open");
-        check(same_station(&o.station, &first), "a fresh station of mode 1", "open");
+        cq_station station = opened(CQ_MODE_EDT), first = opened(CQ_MODE_BAUDOT_45);
+        check(cq_station_open(&station, numbers[i]) == CQ_REFUSED_MODE, "a mode that is none", "open");
+        check(same_station(&station, &first), "a fresh station of mode 1", "open");
     }
     for (mode = CQ_MODE_BAUDOT_45; mode <= CQ_MODE_EDT; mode++) {
         cq_station station = opened(mode), bad;

@@ -221,9 +221,8 @@ static cq_station *stations[STATIONS];
 static void open_station(cq_station *station)
 {
     uint8_t mode = (uint8_t)(one_in(10) ? below(256) : 1 + below(4));
-    cq_opened opened = cq_station_open(mode);
-    check(succeeds(opened.answer) == (mode >= 1 && mode <= 4), "answer of an opening");
-    *station = opened.station;
+    uint8_t answer = cq_station_open(station, mode);
+    check(succeeds(answer) == (mode >= 1 && mode <= 4), "answer of an opening");
 }
 
 static void offer(cq_station *station)

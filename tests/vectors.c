@@ -89,8 +89,9 @@ static void sends(size_t cut)
     static const uint8_t quiet[CQ_STATION_MS_MAX];
     static uint8_t sent[CQ_STATION_MS_MAX];
     static uint32_t words[CQ_STATION_MS_MAX];
-    cq_station station = cq_station_open(mode).station;
+    cq_station station;
     size_t ms, length;
+    cq_station_open(&station, mode);
     for (ms = 0; ms < vector.ms; ms += length) {
         cq_station_ran ran;
         offer_all(&station, ms);
@@ -109,8 +110,9 @@ static void reads(size_t cut)
 {
     static uint8_t sent[CQ_STATION_MS_MAX];
     static uint32_t words[CQ_STATION_MS_MAX];
-    cq_station station = cq_station_open(mode).station;
+    cq_station station;
     size_t i, ms, length, at = 0;
+    cq_station_open(&station, mode);
     for (ms = 0; ms < vector.ms; ms += length) {
         cq_station_ran ran;
         length = least(cut, vector.ms - ms);
@@ -297,8 +299,9 @@ static void begin_case(int sends_text, const char *name)
 
 static void mode_field(char *at)
 {
+    cq_station station;
     mode = (uint8_t)number(&at, 10, ' ');
-    if (cq_station_open(mode).answer != CQ_OK) {
+    if (cq_station_open(&station, mode) != CQ_OK) {
         bad_line("unknown mode");
     }
 }

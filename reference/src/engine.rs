@@ -6,6 +6,7 @@ use reference::calling::State;
 use reference::demand3::Entries;
 use reference::mode::Mode;
 use reference::station::{Ran, MOST_WAITING};
+use std::mem::MaybeUninit;
 
 const _: &str = env!("CQ_LIB_DIR", "set CQ_LIB_DIR to the folder of libcuyrapaq.a");
 
@@ -73,12 +74,6 @@ pub struct Station {
 const _: () = assert!(size_of::<Core>() == 20 && size_of::<Station>() == 276);
 
 #[repr(C)]
-struct Opened {
-    station: Station,
-    answer: u8,
-}
-
-#[repr(C)]
 struct StationRan {
     answer: u8,
     words: usize,
@@ -87,7 +82,7 @@ struct StationRan {
 // First, since it may hold the other entries too.
 #[link(name = "cuyrapaq", kind = "static")]
 extern "C" {
-    fn cq_station_open(mode: u8) -> Opened;
+    fn cq_station_open(station: *mut Station, mode: u8) -> u8;
 
     fn cq_station_offer(station: *mut Station, text: *const u8, text_length: usize) -> u8;
 
@@ -160,9 +155,12 @@ pub fn calling_run(state: &mut State, tones: &[u8], sent: &mut [u8]) -> u8 {
 
 impl Station {
     pub fn open(mode: u8) -> (u8, Station) {
-        // Safety: it takes a number.
-        let opened = unsafe { cq_station_open(mode) };
-        (opened.answer, opened.station)
+        let mut station = MaybeUninit::uninit();
+        // Safety: the pointer leads to space for a station, and every opening fills it.
+        unsafe {
+            let answer = cq_station_open(station.as_mut_ptr(), mode);
+            (answer, station.assume_init())
+        }
     }
 }
 
