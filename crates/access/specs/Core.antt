@@ -91,5 +91,4 @@ stepped c l heard = record {
   core = coreFrom c l heard;
   sent = levelOn (modeIn c) (l .line);
   event = eventMs (modeIn c) (isInhibited (inBurst (l .line)) (c .inhibited)) (c .reader) heard;
-  takes = l .takes;
 }

@@ -42,12 +42,11 @@ pub struct Core {
     pub mode: u8,
 }
 
-// A core after a ms; what was sent in it, what it ended in, and whether the front character was taken.
+// A core after a ms, what was sent in it, and what it ended in.
 pub struct Stepped {
     pub core: Core,
     pub sent: u8,
     pub event: Event,
-    pub takes: bool,
 }
 
 // The ms without signal that make the line free.
@@ -196,6 +195,5 @@ pub fn step(c: Core, l: Loaded, heard: u8) -> Stepped
         core: core_from(c, l, heard, reader),
         sent,
         event,
-        takes: l.takes,
     }
 }

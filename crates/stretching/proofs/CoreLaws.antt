@@ -1,13 +1,13 @@
 -- What the functions on cores need of the definitions.
 use mathlib.Core.Path.{_≡_, _∙_, refl, sym, ap}
-use mathlib.Core.Bool.{Bool, true, false, cond}
+use mathlib.Core.Bool.{Bool, true, false, cond, not, _||_, false≢true}
 use mathlib.Core.List.{List, [], _∷_}
 use Prim.Native.Nat.{ℕ, zero, suc, _+_, _-_, _≤_, _<_}
 use native.Mathlib.Omega.{arith}
-use lib.Dec.{ltb}
+use lib.Dec.{eqb, ltb}
 use lib.ListN.{length, getD, take, length-replicate}
 use lib.Seq.{take-suc, take-all}
-use borrow.Author.Tests.{ne-eqb, lt-ltb, le-ltb, le-leb, ltb-true, ltb-false}
+use borrow.Author.Tests.{eqb-true, ne-eqb, lt-ltb, le-ltb, le-leb, ltb-true, ltb-false}
 use Rattle.lists.specs.Steps.{stateAfter}
 use Rattle.lists.proofs.Steps.{after-append}
 use Rattle.alphabet.specs.declared.Mode.{Mode}
@@ -22,6 +22,7 @@ use Rattle.frames.specs.Frames.{hunting}
 use Rattle.keys.specs.Keys.{needs}
 use Rattle.line.specs.declared.Reader.{Reader}
 use Rattle.line.specs.Reader.{reader}
+use Rattle.access.specs.declared.Core.{Core}
 use Rattle.access.specs.declared.OnLine.{OnLine}
 use Rattle.access.specs.Rules.{mayBegin, isSilent}
 use Rattle.access.specs.Line.{isCode, inBurst, partMs, isOver}
@@ -132,6 +133,14 @@ not-free waiting silence e n = go (ltb silence 300) refl
         let z : _≡_ {A = Bool} true false = sym (rw (lt-ltb 0 waiting (omega arith), le-leb 300 silence (ltb-false silence 300 f)) refl) ∙ e in
         let y : _≡_ {A = ℕ} 0 1 = cc in
         absurd (omega arith)
+
+-- in no burst, and none may begin
+pub sends-not : (c : Core) → (inBurst (c .line) || mayBegin (c .waiting) (c .silence)) ≡ false → (c .line .part ≡ 0) × (mayBegin (c .waiting) (c .silence) ≡ false)
+sends-not c = go (eqb (c .line .part) 0) refl
+  where
+    go : (b : Bool) → eqb (c .line .part) 0 ≡ b → (not b || mayBegin (c .waiting) (c .silence)) ≡ false → (c .line .part ≡ 0) × (mayBegin (c .waiting) (c .silence) ≡ false)
+    go true e f = (eqb-true (c .line .part) 0 e, f)
+    go false e f = absurd (false≢true (sym f))
 
 -- ---- readers
 

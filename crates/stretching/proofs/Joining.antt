@@ -66,7 +66,7 @@ loaded-sends c given i h l e m d ed =
 module _ (heard : List ℕ) (c : Core) (chars sent words₀ : List ℕ) (i n : ℕ) where
   -- one ms
   module _ (q : Stepped) (h : i < length heard) (e : q ≡ stepped c (settled c (getD chars 0 0)) (getD heard i 0)) where
-    pub step-stretch : (chars' : List ℕ) → chars' ≡ charsAfter (q .takes) chars
+    pub step-stretch : (chars' : List ℕ) → chars' ≡ charsAfter (settled c (getD chars 0 0) .takes) chars
         → (sent' : List ℕ) → sent' ≡ set sent i (q .sent)
         → (n' : ℕ) → n' ≡ n + length (wordOf (q .event))
         → (words' : List ℕ) → words' ≡ sets words₀ n (wordOf (q .event))
@@ -79,7 +79,7 @@ module _ (heard : List ℕ) (c : Core) (chars sent words₀ : List ℕ) (i n : �
         record {
           low = omega arith;
           high = omega arith;
-          after = (λ j. station (q .core) (ec j)) ∙ ap (λ (p : Stepped). station (p .core) (charsAfter (p .takes) chars)) e ∙ sym (ap (stationAfter s) o);
+          after = (λ j. station (q .core) (ec j)) ∙ ap (λ (p : Stepped). station (p .core) (charsAfter (settled c (getD chars 0 0) .takes) chars)) e ∙ sym (ap (stationAfter s) o);
           sent = es ∙ ap (λ (p : Stepped). set sent i (p .sent)) e ∙ sym (ap (λ (xs : List ℕ). sets sent i (sentBy s xs)) o);
           place = en ∙ sym (ap (λ (ws : List ℕ). n + length ws) w);
           words = ew ∙ sym (ap (sets words₀ n) w);

@@ -1,12 +1,13 @@
 // The ms of a run, in stretches.
 use access::Core;
 ghost use mathlib.Core.Path.{_≡_};
-ghost use mathlib.Core.Bool.{true, false};
+ghost use mathlib.Core.Bool.{true, _||_};
 ghost use Prim.Native.Nat.{_+_, _≤_, _<_};
 ghost use lib.ListN.{length};
 ghost use lib.Seq.{sets};
 ghost use Rattle.lists.specs.Lists.{allAtMost};
 ghost use Rattle.access.specs.Rules.{mayBegin};
+ghost use Rattle.access.specs.Line.{inBurst};
 ghost use Rattle.access.specs.Core.{modeIn};
 ghost use Rattle.station.specs.Station.{station, stationAfter, sentBy, wordsBy};
 ghost use Rattle.station.specs.Range.{inRange};
@@ -33,7 +34,7 @@ pub struct Stretched {
 
 // In a burst, or may one begin?
 fn may_send(c: Core) -> bool
-    ensures { λ r. ⌜ (r ≡ false → (c .line .part ≡ 0) × (mayBegin (c .waiting) (c .silence) ≡ false)) ⌝ }
+    ensures { λ r. ⌜ r ≡ (inBurst (c .line) || mayBegin (c .waiting) (c .silence)) ⌝ }
 {
     if c.line.part != 0 {
         return true;

@@ -65,7 +65,7 @@ fn step(
     ensures { λ x. ⌜ Stretches (now (heard .entry)) c (now (chars .entry)) (now (sent .entry)) (now (words .entry)) i n x (now (chars .exit)) (now (sent .exit)) (now (words .exit)) ⌝ }
 {
     let x = access::step(c, l, heard[i]);
-    if x.takes {
+    if l.takes {
         queue::move_up(chars);
     }
     sent[i] = x.sent;

@@ -13,6 +13,7 @@ use Rattle.access.specs.Line.{isOver}
 use Rattle.access.specs.Core.{modeIn}
 use Rattle.station.specs.Station.{station}
 use Rattle.station.proofs.Range.{station-in, front-in}
+use Rattle.stretching.proofs.CoreLaws.{sends-not}
 use Rattle.stretching.proofs.stretch.Statement.{statement}
 use Rattle.stretching.proofs.stretch.Tie as tie
 
@@ -72,7 +73,7 @@ wait-requires c κs =
     let p = t .pre in
     let s = station-in (station (t .args .c) (t .args .chars .now)) (p .0) in
     let i = c .before .if3 .taken in
-    let m = c .before .before .before .before .may-send .ensures (c .before .before .before .if1 .left) in
+    let m = sends-not (t .args .c) (sym (c .before .before .before .before .may-send .ensures) ∙ c .before .before .before .if1 .left) in
     (s .core-in, (m .0, (m .1, (omega arith, (p .1 .1 .1 .0, p .1 .1 .1 .1 .0)))))
 
 same-length-6 : tie.Need-same-length-6
@@ -86,7 +87,7 @@ listen-requires c κs =
     let t = c .before .before .before .before .before .before .before .before .before .before in
     let p = t .pre in
     let s = station-in (station (t .args .c) (t .args .chars .now)) (p .0) in
-    let m = c .before .before .before .before .before .may-send .ensures (c .before .before .before .before .if1 .left) in
+    let m = sends-not (t .args .c) (sym (c .before .before .before .before .before .may-send .ensures) ∙ c .before .before .before .before .if1 .left) in
     (s .core-in, (m .0, (m .1, (c .before .before .if3 .left, p .1 .1))))
 
 same-length-7 : tie.Need-same-length-7

@@ -6,7 +6,7 @@ use mathlib.Core.List.{List}
 use Prim.Native.Nat.{ℕ}
 use lib.ListN.{length, getD}
 use Rattle.access.specs.declared.Loaded.{Loaded}
-use Rattle.access.specs.Core.{modeIn, stepped}
+use Rattle.access.specs.Core.{modeIn, settled, stepped}
 use Rattle.access.proofs.Range.{LoadedIn, settled-in}
 use Rattle.station.specs.Station.{charsAfter}
 use Rattle.stretching.proofs.Joining.{step-stretch}
@@ -35,10 +35,11 @@ put-word-requires c κs = search needs
 add-t22 : tie.Need-add-t22
 add-t22 c = let h = c .before .before .before .before .before .before .before .before .before .before .before .before .pre .1 .1 .1 .1 .0 in search needs
 
-chars-are : (c : tie.Joined1) → c .if1 .chars ≡ charsAfter (c .before .step .result .takes) (c .before .before .before .before .before .before .before .args .chars .now)
+chars-are : (c : tie.Joined1) → c .if1 .chars ≡ charsAfter (settled (c .before .before .before .before .before .before .before .args .c) (getD (c .before .before .before .before .before .before .before .args .chars .now) 0 0) .takes) (c .before .before .before .before .before .before .before .args .chars .now)
 chars-are c =
     let given : Bool → List ℕ = λ (b : Bool). charsAfter b (c .before .before .before .before .before .before .before .args .chars .now) in
     ⊎-elim (λ w. w .5 ∙ w .2 .ensures ∙ sym (ap given (w .0 .taken))) (λ w. w .1 ∙ sym (ap given (w .0 .left))) (c .if1 .came)
+    ∙ ap (λ (l : Loaded). given (l .takes)) (c .before .before .before .before .before .before .before .pre .1 .1 .1 .0)
 
 same-length : tie.Need-same-length
 same-length c = ⊎-elim (λ w. ap length (w .5) ∙ w .2 .kept .0) (λ w. ap length (w .1)) (c .before .before .before .before .before .if1 .came)
