@@ -1,5 +1,4 @@
 // The entries of a station.
-use station::Answered;
 use station::Station;
 ghost use mathlib.Core.Path.{_≡_};
 ghost use lib.ListN.{length};
@@ -12,12 +11,14 @@ pub struct StationRan {
     pub words: usize,
 }
 
-// A fresh station of a mode, 1 to 4; refusal 2 gives one of mode 1.
+// The station that the host lends is made a fresh one of a mode, 1 to 4; refusal 2 makes it one of mode 1.
 #[no_mangle]
-pub extern "C" fn cq_station_open(mode: u8) -> Answered
-    ensures { λ r. ⌜ r ≡ openOf mode ⌝ }
+pub extern "C" fn cq_station_open(station: &mut Station, mode: u8) -> u8
+    ensures { λ r. ⌜ (r ≡ openOf mode .answer) × (now (station .exit) ≡ openOf mode .station) ⌝ }
 {
-    station::open(mode)
+    let r = station::open(&mut station.chars, mode);
+    station.core = r.core;
+    r.answer
 }
 
 // An offer to the station that the host lends: 0 or the number of the refusal.
@@ -26,8 +27,9 @@ pub extern "C" fn cq_station_offer(station: &mut Station, text: &[u8]) -> u8
     ensures { λ r. ⌜ (r ≡ offerOf (now (station .entry)) (now (text .entry)) .answer)
         × (now (station .exit) ≡ offerOf (now (station .entry)) (now (text .entry)) .station) ⌝ }
 {
-    let r = station::offer(*station, text);
-    *station = r.station;
+    let c = station.core;
+    let r = station::offer(c, &mut station.chars, text);
+    station.core = r.core;
     r.answer
 }
 
@@ -47,8 +49,9 @@ pub extern "C" fn cq_station_run(
         × ((now (sent .exit) ≡ sentAfter (now (station .entry)) (now (heard .entry)) (length (now (words .entry))) (now (sent .entry)))
         × (now (words .exit) ≡ wordsAfter (now (station .entry)) (now (heard .entry)) (length (now (sent .entry))) (now (words .entry))))) ⌝ }
 {
-    let r = running::run(*station, heard, sent, words);
-    *station = r.station;
+    let c = station.core;
+    let r = running::run(c, &mut station.chars, heard, sent, words);
+    station.core = r.core;
     StationRan {
         answer: r.answer,
         words: r.words,
