@@ -148,6 +148,10 @@ chars-join : (taken : ℕ) (takes : Bool) (chars : List ℕ) → movedBy (cond t
 chars-join taken true chars = moved-one taken chars
 chars-join taken false chars = refl
 
+pub chars-once : (takes : Bool) (chars : List ℕ) → movedBy (cond takes (0 + 1) 0) chars ≡ charsAfter takes chars
+unfolding movedBy
+chars-once takes chars = chars-join 0 takes chars
+
 no-length : (l : List ℕ) → length l ≡ 0 → l ≡ []
 no-length [] e = refl
 no-length (x ∷ l) e = absurd (omega arith)

@@ -8,7 +8,9 @@ use lib.Dec.{eqb, ltb}
 use lib.ListN.{length, getD, take, length-replicate}
 use lib.Seq.{take-suc, take-all}
 use borrow.Author.Tests.{eqb-true, ne-eqb, lt-ltb, le-ltb, le-leb, ltb-true, ltb-false}
+use Rattle.lists.specs.Lists.{allAtMost}
 use Rattle.lists.specs.Steps.{stateAfter}
+use Rattle.lists.proofs.Lists.{at-most-head, at-most-tail}
 use Rattle.lists.proofs.Steps.{after-append}
 use Rattle.alphabet.specs.declared.Mode.{Mode}
 use Rattle.alphabet.specs.declared.Mode.the-variants.{Baudot45, Baudot50, Dtmf, Edt}
@@ -68,6 +70,17 @@ silence-shift s n h = go (ltb s 300) refl
     go : (b : Bool) → ltb s 300 ≡ b → silenceFor (cond b (s + 1) s) n ≡ silenceFor s (n + 1)
     go true e = let z : s + 1 + n ≡ s + (n + 1) = omega arith in ap (λ (m : ℕ). cond (ltb m 300) m 300) z
     go false e = let l = ltb-false s 300 e in silence-full s n (omega arith) ∙ sym (silence-full s (n + 1) (omega arith))
+
+-- all of them quiet
+pub over-quiet : (s : ℕ) (xs : List ℕ) → s ≤ 300 → allAtMost 0 xs ≡ true → silenceFor s (length xs) ≡ silenceOver s xs
+unfolding stateAfter
+over-quiet s [] h e = silence-none s h
+over-quiet s (x ∷ xs) h e =
+    let m = at-most-head 0 x xs e in
+    let z : x ≡ 0 = omega arith in
+    let n : length (x ∷ xs) ≡ length xs + 1 = omega arith in
+    ap (silenceFor s) n ∙ sym (silence-shift s (length xs) h) ∙ over-quiet (silenceAfter true s) xs (after-in true s h) (at-most-tail 0 x xs e)
+    ∙ sym (ap (λ (y : ℕ). silenceOver (silenceNext s y) xs) z)
 
 -- the last ms of a list
 over-last : (s : ℕ) (xs : List ℕ) (j : ℕ) → j < length xs → silenceOver s (take (suc j) xs) ≡ silenceNext (silenceOver s (take j xs)) (getD xs j 0)

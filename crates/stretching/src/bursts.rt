@@ -56,7 +56,7 @@ pub fn follows(c: Core, room: usize) -> bool
 }
 
 // How many are taken.
-fn taken_after(takes: bool, taken: usize) -> usize
+pub fn taken_after(takes: bool, taken: usize) -> usize
     requires { ⌜ taken ≤ 256 ⌝ }
     ensures { λ r. ⌜ r ≡ cond takes (taken + 1) taken ⌝ }
 {

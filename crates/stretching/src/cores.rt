@@ -25,7 +25,7 @@ pub fn silence_for(silence: u16, n: usize) -> u16
 }
 
 // The silence after some ms that the receiver hears: the quiet ms at their end, and the silence before if all are quiet.
-pub fn silence_over(silence: u16, heard: &[u8]) -> u16
+fn tail_silence(silence: u16, heard: &[u8]) -> u16
     requires { ⌜ silence ≤ 300 ⌝ }
     ensures { λ r. ⌜ r ≡ silenceOver silence (now (heard .entry)) ⌝ }
 {
@@ -42,6 +42,17 @@ pub fn silence_over(silence: u16, heard: &[u8]) -> u16
         n += 1;
     }
     silence_for(silence, n)
+}
+
+// The same, told at once where all are quiet.
+pub fn silence_over(silence: u16, heard: &[u8]) -> u16
+    requires { ⌜ silence ≤ 300 ⌝ }
+    ensures { λ r. ⌜ r ≡ silenceOver silence (now (heard .entry)) ⌝ }
+{
+    if lists::checks::all_at_most(heard, 0) {
+        return silence_for(silence, heard.len());
+    }
+    tail_silence(silence, heard)
 }
 
 // The quiet ms that a reader of keys still needs, after n quiet ms.

@@ -1,5 +1,6 @@
 // The stretches of a run.
 use crate::Stretched;
+use crate::bursts;
 use crate::cores;
 use crate::levels;
 use access::Core;
@@ -65,9 +66,7 @@ fn step(
     ensures { λ x. ⌜ Stretches (now (heard .entry)) c (now (chars .entry)) (now (sent .entry)) (now (words .entry)) i n x (now (chars .exit)) (now (sent .exit)) (now (words .exit)) ⌝ }
 {
     let x = access::step(c, l, heard[i]);
-    if l.takes {
-        queue::move_up(chars);
-    }
+    queue::move_up_by(chars, bursts::taken_after(l.takes, 0));
     sent[i] = x.sent;
     let event = x.event;
     let words_end = line::words::put_word(words, n, event);
@@ -133,9 +132,7 @@ pub fn begin(
     if ms <= line.at {
         return step(c, l, chars, heard, i, sent, words, n);
     }
-    if l.takes {
-        queue::move_up(chars);
-    }
+    queue::move_up_by(chars, bursts::taken_after(l.takes, 0));
     let core = cores::loaded(c, l);
     send(core, mode, (ms - line.at) as usize, heard, i, sent, n)
 }

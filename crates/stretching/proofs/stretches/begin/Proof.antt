@@ -1,15 +1,13 @@
 -- `begin` meets its contract.
-use mathlib.Core.Path.{_≡_, _∙_, sym, ap}
-use mathlib.Core.Bool.{Bool}
-use mathlib.Core.Logic.{⊎-elim}
-use mathlib.Core.List.{List}
+use mathlib.Core.Path.{_∙_, ap}
 use Prim.Native.Nat.{ℕ, _<_}
 use native.Mathlib.Omega.{arith}
 use lib.ListN.{length}
 use Rattle.alphabet.specs.declared.Mode.{Mode}
 use Rattle.access.specs.Line.{partMs}
 use Rattle.access.specs.Core.{modeIn}
-use Rattle.station.specs.Station.{charsAfter}
+use Rattle.queue.specs.Queue.{movedBy}
+use Rattle.stretching.proofs.Coding.{chars-once, moved-by-length}
 use Rattle.stretching.proofs.Joining.{loaded-sends, begin-stretch}
 use borrow.Author.Needs.{needs}
 use Rattle.stretching.proofs.stretches.begin.Statement.{statement}
@@ -45,12 +43,6 @@ same-length-3 c = search needs
 returns : tie.Need-returns
 returns c = c .before .before .before .before .before .before .step .ensures
 
-move-up-requires : tie.Need-move-up-requires
-move-up-requires c κs = search needs
-
-loaded-requires : tie.Need-loaded-requires
-loaded-requires c κs = search needs
-
 -- ms of what is on the line are left
 more : (c : tie.Else1) → c .before .before .before .before .before .settle .result .line .at < length (partMs (modeIn (c .before .before .before .before .before .before .before .before .before .before .before .args .c)) (c .before .before .before .before .before .settle .result .line))
 more c =
@@ -58,10 +50,14 @@ more c =
     let h = c .if1 .left in
     omega arith
 
-chars-are : (c : tie.Joined2) → c .if2 .chars ≡ charsAfter (c .before .before .before .before .before .before .settle .result .takes) (c .before .before .before .before .before .before .before .before .before .before .before .before .args .chars .now)
-chars-are c =
-    let given : Bool → List ℕ = λ (b : Bool). charsAfter b (c .before .before .before .before .before .before .before .before .before .before .before .before .args .chars .now) in
-    ⊎-elim (λ w. w .5 ∙ w .2 .ensures ∙ sym (ap given (w .0 .taken))) (λ w. w .1 ∙ sym (ap given (w .0 .left))) (c .if2 .came)
+taken-after-requires : tie.Need-taken-after-requires
+taken-after-requires c κs = omega arith
+
+move-up-by-requires : tie.Need-move-up-by-requires
+move-up-by-requires c κs = search needs
+
+loaded-requires : tie.Need-loaded-requires
+loaded-requires c κs = search needs
 
 sub-send : tie.Need-sub-send
 sub-send c = search needs
@@ -71,22 +67,24 @@ cast-send c = search needs
 
 send-requires : tie.Need-send-requires
 send-requires c κs =
-    let p = c .before .before .before .before .before .before .before .before .before .before .before .before .before .before .before .pre in
+    let p = c .before .before .before .before .before .before .before .before .before .before .before .before .before .before .before .before .before .before .before .pre in
     let h = p .1 .1 .1 in
-    let s = loaded-sends _ _ (p .0) (p .1 .1 .0) _ (c .before .before .before .before .before .before .before .before .before .settle .ensures) (more (c .before .before .before .before)) _ (c .before .before .loaded .ensures) in
-    let m = c .before .before .before .before .before .before .part-ms .ensures ∙ ap (λ (d : Mode). length (partMs d (c .before .before .before .before .before .before .before .before .before .settle .result .line))) (c .before .before .before .before .before .before .before .of .ensures) in
-    let g = c .before .before .before .before .if1 .left in
+    let s = loaded-sends _ _ (p .0) (p .1 .1 .0) _ (c .before .before .before .before .before .before .before .before .before .before .before .before .before .settle .ensures) (more (c .before .before .before .before .before .before .before .before)) _ (c .before .before .loaded .ensures) in
+    let m = c .before .before .before .before .before .before .before .before .before .before .part-ms .ensures ∙ ap (λ (d : Mode). length (partMs d (c .before .before .before .before .before .before .before .before .before .before .before .before .before .settle .result .line))) (c .before .before .before .before .before .before .before .before .before .before .before .of .ensures) in
+    let g = c .before .before .before .before .before .before .before .before .if1 .left in
     let left = s .left in
-    (s .core-in, (c .before .before .before .before .before .before .before .of .ensures ∙ s .mode-is, (omega arith, (omega arith, (h .0, h .1 .0)))))
+    (s .core-in, (c .before .before .before .before .before .before .before .before .before .before .before .of .ensures ∙ s .mode-is, (omega arith, (omega arith, (h .0, h .1 .0)))))
 
 same-length-4 : tie.Need-same-length-4
-same-length-4 c = ⊎-elim (λ w. ap length (w .5) ∙ w .2 .kept .0) (λ w. ap length (w .1)) (c .before .before .before .before .before .before .if2 .came)
+same-length-4 c = ap length (c .before .before .before .before .before .before .before .before .move-up-by .ensures) ∙ moved-by-length _ _
 
 same-length-5 : tie.Need-same-length-5
 same-length-5 c = search needs
 
 returns-2 : tie.Need-returns-2
-returns-2 c = begin-stretch _ _ _ _ _ _ _ _ (c .before .before .before .before .before .before .before .before .before .before .before .before .settle .ensures) (more (c .before .before .before .before .before .before .before)) _ (c .before .before .before .before .before .loaded .ensures) _ (chars-are (c .before .before .before .before .before .before)) _ _ _ _ (c .before .before .send .ensures _ _)
+returns-2 c =
+    let e = c .before .before .before .before .before .before .before .before .move-up-by .ensures ∙ ap (λ (m : ℕ). movedBy m (c .before .before .before .before .before .before .before .before .before .before .before .before .before .before .before .before .before .before .before .before .before .before .args .chars .now)) (c .before .before .before .before .before .before .before .before .before .taken-after .ensures) ∙ chars-once (c .before .before .before .before .before .before .before .before .before .before .before .before .before .before .before .before .settle .result .takes) (c .before .before .before .before .before .before .before .before .before .before .before .before .before .before .before .before .before .before .before .before .before .before .args .chars .now) in
+    begin-stretch _ _ _ _ _ _ _ _ (c .before .before .before .before .before .before .before .before .before .before .before .before .before .before .before .before .settle .ensures) (more (c .before .before .before .before .before .before .before .before .before .before .before)) _ (c .before .before .before .before .before .loaded .ensures) _ e _ _ _ _ (c .before .before .send .ensures _ _)
 
 pub begin-spec : {M : Type 1} → statement M
 begin-spec =
@@ -101,7 +99,8 @@ begin-spec =
     same-length-2
     same-length-3
     returns
-    move-up-requires
+    taken-after-requires
+    move-up-by-requires
     loaded-requires
     sub-send
     cast-send
