@@ -16,12 +16,12 @@ use Rattle.alphabet.specs.declared.Mode.the-variants.{Baudot45, Baudot50, Dtmf,
 use Rattle.alphabet.specs.Dtmf.{prefixes, keysOf}
 use Rattle.signal.specs.Signal.{levelOf, digits, held, baudotSignal, sum, edtElements, edtSignal, heldKeys, keysSignal, signal}
 
-digits-length : (n k : ℕ) → length (digits n k) ≡ n
+pub digits-length : (n k : ℕ) → length (digits n k) ≡ n
 unfolding digits
 digits-length zero k = refl
 digits-length (suc n) k = ap suc (digits-length n (k / 2))
 
-held-length : (e : ℕ) (ds : List ℕ) → length (held e ds) ≡ e * length ds
+pub held-length : (e : ℕ) (ds : List ℕ) → length (held e ds) ≡ e * length ds
 unfolding held
 held-length e [] = sym (mul-zero e)
 held-length e (d ∷ ds) =

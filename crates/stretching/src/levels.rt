@@ -5,29 +5,96 @@ use alphabet::LineCode;
 use alphabet::Mode;
 ghost use mathlib.Core.Path.{_≡_};
 ghost use mathlib.Core.Bool.{true};
-ghost use Prim.Native.Nat.{_+_, _-_, _/_, _%_, _^_, _≤_, _<_};
+ghost use Prim.Native.Nat.{_+_, _-_, _*_, _/_, _%_, _^_, _≤_, _<_};
 ghost use lib.ListN.{length, replicate};
 ghost use lib.Seq.{sets};
 ghost use Rattle.lists.specs.Tables.{tabulate};
 ghost use Rattle.alphabet.specs.Modes.{alphabetOf};
 ghost use Rattle.alphabet.specs.Packing.{codes};
-ghost use Rattle.signal.specs.Signal.{levelOf, signal};
+ghost use Rattle.signal.specs.Signal.{levelOf, digits, held, baudotSignal, signal};
 ghost use Rattle.access.specs.Line.{inBurst, partMs};
 ghost use Rattle.access.specs.Range.{LineIn};
 ghost use Rattle.alphabet.specs.declared.Mode.the-variants as mode;
 ghost use Rattle.stretching.specs.Levels.{evenMs, elementAt, elementEnd, frameOf, Run, Framed, codeLevel, partLevel};
 
-// A level, written from a place to another.
+const MARK: u8 = 1;
+
+const SPACE: u8 = 2;
+
+// So many ms of a level, written from a place on. The compiler makes a few stores of it where the number is a constant.
+fn fill_ms(sent: &mut [u8], from: usize, n: usize, level: u8)
+    requires { ⌜ from + n ≤ length (now sent) ⌝ }
+    ensures { λ r. ⌜ now (sent .exit) ≡ sets (now (sent .entry)) from (replicate n level) ⌝ }
+{
+    let mut k: usize = 0;
+    while k < n {
+        sent[from + k] = level;
+        k += 1;
+    }
+}
+
+// A level, written by n ms at the front and n at the end, which meet or overlap.
+fn fill_ends(sent: &mut [u8], from: usize, to: usize, n: usize, level: u8)
+    requires { ⌜ from + n ≤ to ⌝ }
+    requires { ⌜ to ≤ from + 2 * n ⌝ }
+    requires { ⌜ to ≤ length (now sent) ⌝ }
+    ensures { λ r. ⌜ now (sent .exit) ≡ sets (now (sent .entry)) from (replicate (to - from) level) ⌝ }
+{
+    fill_ms(sent, from, n, level);
+    fill_ms(sent, to - n, n, level);
+}
+
+// At most 64 ms of a level.
+fn fill_few(sent: &mut [u8], from: usize, to: usize, level: u8)
+    requires { ⌜ from < to ⌝ }
+    requires { ⌜ to ≤ from + 64 ⌝ }
+    requires { ⌜ to ≤ length (now sent) ⌝ }
+    ensures { λ r. ⌜ now (sent .exit) ≡ sets (now (sent .entry)) from (replicate (to - from) level) ⌝ }
+{
+    let n = to - from;
+    if 32 <= n {
+        fill_ends(sent, from, to, 32, level);
+        return;
+    }
+    if 16 <= n {
+        fill_ends(sent, from, to, 16, level);
+        return;
+    }
+    if 8 <= n {
+        fill_ends(sent, from, to, 8, level);
+        return;
+    }
+    if 4 <= n {
+        fill_ends(sent, from, to, 4, level);
+        return;
+    }
+    if 2 <= n {
+        fill_ends(sent, from, to, 2, level);
+        return;
+    }
+    fill_ends(sent, from, to, 1, level);
+}
+
+// A level, written from a place to another, by chunks of 64 ms. They overlap, since the compiler makes a call of memset
+// of a loop over neighbouring bytes.
 pub fn fill(sent: &mut [u8], from: usize, to: usize, level: u8)
     requires { ⌜ from ≤ to ⌝ }
     requires { ⌜ to ≤ length (now sent) ⌝ }
     ensures { λ r. ⌜ now (sent .exit) ≡ sets (now (sent .entry)) from (replicate (to - from) level) ⌝ }
 {
-    let mut i = from;
-    while i < to {
-        sent[i] = level;
-        i += 1;
+    if from == to {
+        return;
     }
+    if to - from <= 64 {
+        fill_few(sent, from, to, level);
+        return;
+    }
+    let mut i = from;
+    while 64 < to - i {
+        fill_ms(sent, i, 64, level);
+        i += 63;
+    }
+    fill_ms(sent, to - 64, 64, level);
 }
 
 // How many ms of a DTMF code from one on have its level.
@@ -151,16 +218,6 @@ fn put_code(mode: Mode, code: u8, at: usize, sent: &mut [u8], from: usize, to: u
     put_keys(code, at, sent, from, to);
 }
 
-// All ms of a code, written from a place on.
-pub fn put_whole(mode: Mode, code: u8, sent: &mut [u8], from: usize)
-    requires { ⌜ code < codes (alphabetOf mode) ⌝ }
-    requires { ⌜ from + length (signal mode code) ≤ length (now sent) ⌝ }
-    ensures { λ r. ⌜ now (sent .exit) ≡ sets (now (sent .entry)) from (signal mode code) ⌝ }
-{
-    let ms = signal::duration(mode, LineCode(code)) as usize;
-    put_code(mode, code, 0, sent, from, from + ms);
-}
-
 // The next ms of a part, written from a place to another.
 pub fn put(mode: Mode, l: OnLine, sent: &mut [u8], from: usize, to: usize)
     requires { ⌜ LineIn mode l ⌝ }
@@ -171,8 +228,81 @@ pub fn put(mode: Mode, l: OnLine, sent: &mut [u8], from: usize, to: usize)
     ensures { λ r. ⌜ now (sent .exit) ≡ sets (now (sent .entry)) from (tabulate (partLevel mode l) (to - from) 0) ⌝ }
 {
     if l.part == 1 {
-        fill(sent, from, to, 1);
+        fill(sent, from, to, MARK);
         return;
     }
     put_code(mode, l.code, l.at as usize, sent, from, to);
+}
+
+// The elements of a code's lowest digits, the lowest first.
+fn put_elements(code: u8, count: usize, ms: usize, sent: &mut [u8], from: usize)
+    requires { ⌜ from + length (held ms (digits count code)) ≤ length (now sent) ⌝ }
+    ensures { λ r. ⌜ now (sent .exit) ≡ sets (now (sent .entry)) from (held ms (digits count code)) ⌝ }
+{
+    let mut rest = code as u16;
+    let mut left = count;
+    let mut i = from;
+    while 0 < left {
+        fill_ms(sent, i, ms, signal::frame_level(rest, 0));
+        rest = rest / 2;
+        left -= 1;
+        i += ms;
+    }
+}
+
+// A Baudot code: start, five elements, stop.
+fn put_baudot(element: usize, code: u8, sent: &mut [u8], from: usize)
+    requires { ⌜ from + length (baudotSignal element code) ≤ length (now sent) ⌝ }
+    ensures { λ r. ⌜ now (sent .exit) ≡ sets (now (sent .entry)) from (baudotSignal element code) ⌝ }
+{
+    fill_ms(sent, from, element, SPACE);
+    put_elements(code, 5, element, sent, from + element);
+    fill_ms(sent, from + 6 * element, 3 * element / 2, MARK);
+}
+
+// A DTMF code, key by key.
+fn put_dtmf(code: u8, sent: &mut [u8], from: usize)
+    requires { ⌜ from + length (signal mode.Dtmf code) ≤ length (now sent) ⌝ }
+    ensures { λ r. ⌜ now (sent .exit) ≡ sets (now (sent .entry)) from (signal mode.Dtmf code) ⌝ }
+{
+    let end = from + signal::duration(Mode::Dtmf, LineCode(code)) as usize;
+    let mut i = from;
+    let mut k: u8 = 0;
+    while i < end {
+        fill_ms(sent, i, 70, alphabet::dtmf::key(LineCode(code), k));
+        fill_ms(sent, i + 70, 50, 0);
+        i += 120;
+        k += 1;
+    }
+}
+
+// An EDT code: start, seven elements, parity, two stops. The first element has 10 ms, each other 9.
+fn put_edt(code: u8, sent: &mut [u8], from: usize)
+    requires { ⌜ code < codes (alphabetOf mode.Edt) ⌝ }
+    requires { ⌜ from + length (signal mode.Edt code) ≤ length (now sent) ⌝ }
+    ensures { λ r. ⌜ now (sent .exit) ≡ sets (now (sent .entry)) from (signal mode.Edt code) ⌝ }
+{
+    fill_ms(sent, from, 10, SPACE);
+    put_elements(code, 7, 9, sent, from + 10);
+    fill_ms(
+        sent,
+        from + 73,
+        9,
+        signal::frame_level(signal::parity(code) as u16, 0),
+    );
+    fill_ms(sent, from + 82, 18, MARK);
+}
+
+// All ms of a code, written from a place on.
+pub fn put_whole(mode: Mode, code: u8, sent: &mut [u8], from: usize)
+    requires { ⌜ code < codes (alphabetOf mode) ⌝ }
+    requires { ⌜ from + length (signal mode code) ≤ length (now sent) ⌝ }
+    ensures { λ r. ⌜ now (sent .exit) ≡ sets (now (sent .entry)) from (signal mode code) ⌝ }
+{
+    match mode {
+        Mode::Baudot45 => put_baudot(Mode::BAUDOT_45_ELEMENT as usize, code, sent, from),
+        Mode::Baudot50 => put_baudot(Mode::BAUDOT_50_ELEMENT as usize, code, sent, from),
+        Mode::Dtmf => put_dtmf(code, sent, from),
+        Mode::Edt => put_edt(code, sent, from),
+    }
 }

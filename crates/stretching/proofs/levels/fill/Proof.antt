@@ -1,8 +1,11 @@
--- `fill` meets its contract. The invariant: what is left, and the slice as written so far.
-use Prim.Native.Nat.{_-_}
+-- `fill` meets its contract. The invariant: what is written.
+use mathlib.Core.Path.{_≡_, ap}
+use Prim.Native.Nat.{ℕ, _-_}
 use native.Mathlib.Omega.{arith}
 use borrow.Author.Needs.{needs}
-use Rattle.stretching.proofs.Filling.{Filling, filling-start, filling-turn, filling-end}
+use lib.ListN.{replicate}
+use lib.Seq.{sets}
+use Rattle.stretching.proofs.Filling.{Filled, Filling, filling-start, filling-turn, filling-end}
 use Rattle.stretching.proofs.levels.fill.Statement.{statement}
 use Rattle.stretching.proofs.levels.fill.Tie as tie
 
@@ -12,11 +15,32 @@ Inv-loop sent₀ from to level i₀ sent i = Filling sent₀ from to level sent 
 abbrev μ-loop : tie.MeasureT-loop
 μ-loop sent₀ from to level i₀ sent i = to - i
 
-loop-holds : tie.Need-loop-holds Inv-loop μ-loop
-loop-holds c = filling-start _ _ _ _ (c .pre .0)
+returns : tie.Need-returns Inv-loop μ-loop
+returns c =
+    let s = c .before .before .args in
+    let e : 0 ≡ s .to - s .from = omega arith in
+    ap (λ (k : ℕ). sets (s .sent .now) (s .from) (replicate k (s .level))) e
 
-slice-write-sent : tie.Need-slice-write-sent Inv-loop μ-loop
-slice-write-sent c = let s = c .before .loop .inv .size in let p = c .before .before .pre .1 in omega arith
+sub-if2 : tie.Need-sub-if2 Inv-loop μ-loop
+sub-if2 c = search needs
+
+fill-few-requires : tie.Need-fill-few-requires Inv-loop μ-loop
+fill-few-requires c κs = search needs
+
+same-length : tie.Need-same-length Inv-loop μ-loop
+same-length c = search needs
+
+returns-2 : tie.Need-returns-2 Inv-loop μ-loop
+returns-2 c = search needs
+
+loop-holds : tie.Need-loop-holds Inv-loop μ-loop
+loop-holds c = filling-start _ _ _ _ (search needs)
+
+sub-loop : tie.Need-sub-loop Inv-loop μ-loop
+sub-loop c = search needs
+
+fill-ms-requires : tie.Need-fill-ms-requires Inv-loop μ-loop
+fill-ms-requires c κs = let s = c .before .before .loop .inv .filled .size in omega arith
 
 add-i : tie.Need-add-i Inv-loop μ-loop
 add-i c = search needs
@@ -25,13 +49,23 @@ loop-less : tie.Need-loop-less Inv-loop μ-loop
 loop-less c = search needs
 
 loop-again : tie.Need-loop-again Inv-loop μ-loop
-loop-again c = filling-turn _ _ _ _ _ _ (c .before .loop .inv) (c .loop-test .taken)
+loop-again c = filling-turn _ _ _ _ _ _ (c .before .before .before .before .before .loop .inv) 64 _ (search needs) (c .before .before .before .before .loop-test .taken) (c .before .before .fill-ms .ensures)
 
-same-length : tie.Need-same-length Inv-loop μ-loop
-same-length c = c .before .loop .inv .size
+sub-fill-ms : tie.Need-sub-fill-ms Inv-loop μ-loop
+sub-fill-ms c = search needs
 
-returns : tie.Need-returns Inv-loop μ-loop
-returns c = filling-end _ _ _ _ _ _ (c .before .loop .inv) (c .loop-test .left)
+fill-ms-requires-2 : tie.Need-fill-ms-requires-2 Inv-loop μ-loop
+fill-ms-requires-2 c κs = let s = c .before .before .loop .inv .filled .size in omega arith
+
+done : (c : tie.After-slice-known4 Inv-loop μ-loop)
+    → let s = c .before .before .before .before .before .before .before .before .before .args in Filled (s .sent .now) (s .from) (s .level) (c .before .before .fill-ms2 .last .0) (s .to - s .from)
+done c = filling-end _ _ _ _ _ _ (c .before .before .before .before .before .loop .inv) 64 _ (omega arith) (c .before .before .before .before .loop-test .left) (c .before .before .fill-ms2 .ensures)
+
+same-length-2 : tie.Need-same-length-2 Inv-loop μ-loop
+same-length-2 c = done c .size
+
+returns-3 : tie.Need-returns-3 Inv-loop μ-loop
+returns-3 c = done c .slice
 
 pub fill-spec : {M : Type 1} → statement M
 fill-spec =
@@ -39,10 +73,18 @@ fill-spec =
     (tie.spec
     Inv-loop
     μ-loop
+    returns
+    sub-if2
+    fill-few-requires
+    same-length
+    returns-2
     loop-holds
-    slice-write-sent
+    sub-loop
+    fill-ms-requires
     add-i
     loop-less
     loop-again
-    same-length
-    returns)
+    sub-fill-ms
+    fill-ms-requires-2
+    same-length-2
+    returns-3)
