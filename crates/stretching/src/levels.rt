@@ -234,7 +234,7 @@ pub fn put(mode: Mode, l: OnLine, sent: &mut [u8], from: usize, to: usize)
     put_code(mode, l.code, l.at as usize, sent, from, to);
 }
 
-// The elements of a code's lowest digits, the lowest first.
+// The elements of a code's lowest digits, the lowest first, each of so many ms.
 fn put_elements(code: u8, count: usize, ms: usize, sent: &mut [u8], from: usize)
     requires { ⌜ from + length (held ms (digits count code)) ≤ length (now sent) ⌝ }
     ensures { λ r. ⌜ now (sent .exit) ≡ sets (now (sent .entry)) from (held ms (digits count code)) ⌝ }
