@@ -1,6 +1,7 @@
 -- `step` meets its contract.
 use mathlib.Core.Path.{_≡_, _∙_, refl, sym, ap, subst}
-use Prim.Native.Nat.{ℕ}
+use Prim.Native.Nat.{ℕ, _+_, _≤_, _<_}
+use native.Mathlib.Omega.{arith}
 use lib.ListN.{length, getD}
 use Rattle.access.specs.declared.Loaded.{Loaded}
 use Rattle.access.specs.Core.{modeIn, stepped}
@@ -35,7 +36,11 @@ put-word-requires : tie.Need-put-word-requires
 put-word-requires c κs = c .before .before .before .before .before .before .before .before .before .before .before .before .pre .1 .1 .1 .1 .1 .1
 
 add-t18 : tie.Need-add-t18
-add-t18 c = let h = c .before .before .before .before .before .before .before .before .before .before .before .before .before .before .before .before .pre .1 .1 .1 .1 .0 in search needs
+add-t18 c =
+    let s = c .before .before .before .before .before .before .before .before .before .before .before .before .before .before .before .before in
+    let h = s .pre .1 .1 .1 .1 .0 in
+    let f : s .args .i + 1 ≤ length (s .args .heard .now) = omega arith in
+    search (needs, f)
 
 same-length : tie.Need-same-length
 same-length c = ap length (c .before .before .before .before .before .before .before .move-up-by .ensures) ∙ moved-by-length _ _
