@@ -5,3 +5,4 @@ pub mod Elements
 pub mod Joining
 pub mod Fold
 pub mod Coding
+pub mod Resting

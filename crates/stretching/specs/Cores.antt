@@ -1,8 +1,8 @@
 -- A core after some ms that go alike.
 use Prim.Native.Nat.{ℕ, zero, suc, _+_, _-_}
-use mathlib.Core.Bool.{false, cond}
+use mathlib.Core.Bool.{Bool, false, cond, _&&_}
 use mathlib.Core.List.{List}
-use lib.Dec.{ltb}
+use lib.Dec.{eqb, ltb}
 use Rattle.lists.specs.Steps.{stateAfter}
 use Rattle.baudot.specs.declared.Sender.{Sender}
 use Rattle.frames.specs.Frames.{hunting}
@@ -25,6 +25,11 @@ silenceNext silence heard = silenceAfter (isSilent false heard) silence
 
 abbrev pub silenceOver : ℕ → List ℕ → ℕ
 silenceOver silence heard = stateAfter silenceNext silence heard
+
+-- A reader at rest: hunting, with no key heard and no quiet needed.
+unfoldable pub atRest : Reader → Bool
+atRest r =
+    eqb (r .frame .place) 0 && eqb (r .frame .digits) 0 && eqb (r .keys .key) 0 && eqb (r .keys .ms) 0 && eqb (r .keys .needed) 0
 
 -- A reader after n inhibited ms.
 unfoldable pub deafReader : Reader → ℕ → Reader

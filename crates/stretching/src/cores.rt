@@ -8,10 +8,12 @@ use frames::Frame;
 use keys::Keys;
 use line::Reader;
 ghost use mathlib.Core.Path.{_≡_};
+ghost use mathlib.Core.Bool.{_&&_};
 ghost use Prim.Native.Nat.{_+_, _-_, _≤_};
+ghost use Rattle.lists.specs.Lists.{allAtMost};
 ghost use Rattle.access.specs.Line.{onLine, isOver};
 ghost use Rattle.access.specs.Core.{modeIn};
-ghost use Rattle.stretching.specs.Cores.{silenceFor, silenceOver, deafReader, loadedCore, sentFor, codedCore, deafFor, listened};
+ghost use Rattle.stretching.specs.Cores.{silenceFor, silenceOver, atRest, deafReader, loadedCore, sentFor, codedCore, deafFor, listened};
 
 // The silence after n ms without signal.
 pub fn silence_for(silence: u16, n: usize) -> u16
@@ -25,7 +27,7 @@ pub fn silence_for(silence: u16, n: usize) -> u16
 }
 
 // The silence after some ms that the receiver hears: the quiet ms at their end, and the silence before if all are quiet.
-fn tail_silence(silence: u16, heard: &[u8]) -> u16
+pub fn silence_over(silence: u16, heard: &[u8]) -> u16
     requires { ⌜ silence ≤ 300 ⌝ }
     ensures { λ r. ⌜ r ≡ silenceOver silence (now (heard .entry)) ⌝ }
 {
@@ -44,15 +46,49 @@ fn tail_silence(silence: u16, heard: &[u8]) -> u16
     silence_for(silence, n)
 }
 
-// The same, told at once where all are quiet.
-pub fn silence_over(silence: u16, heard: &[u8]) -> u16
-    requires { ⌜ silence ≤ 300 ⌝ }
-    ensures { λ r. ⌜ r ≡ silenceOver silence (now (heard .entry)) ⌝ }
+// Are all ms quiet? The last one is asked first.
+fn all_quiet(heard: &[u8]) -> bool
+    ensures { λ r. ⌜ r ≡ allAtMost 0 (now (heard .entry)) ⌝ }
 {
-    if lists::checks::all_at_most(heard, 0) {
-        return silence_for(silence, heard.len());
+    let n = heard.len();
+    if n == 0 {
+        return true;
     }
-    tail_silence(silence, heard)
+    if heard[n - 1] != 0 {
+        return false;
+    }
+    lists::checks::all_at_most(heard, 0)
+}
+
+// Is a reader at rest?
+fn at_rest(r: Reader) -> bool
+    ensures { λ q. ⌜ q ≡ atRest r ⌝ }
+{
+    let f = r.frame;
+    if f.place != 0 {
+        return false;
+    }
+    if f.digits != 0 {
+        return false;
+    }
+    let k = r.keys;
+    if k.key != 0 {
+        return false;
+    }
+    if k.ms != 0 {
+        return false;
+    }
+    k.needed == 0
+}
+
+// Does a reader at rest hear quiet ms alone?
+pub fn rests(r: Reader, heard: &[u8]) -> bool
+    ensures { λ q. ⌜ q ≡ (atRest r && allAtMost 0 (now (heard .entry))) ⌝ }
+{
+    if !at_rest(r) {
+        return false;
+    }
+    all_quiet(heard)
 }
 
 // The quiet ms that a reader of keys still needs, after n quiet ms.

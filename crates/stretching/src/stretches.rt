@@ -179,6 +179,14 @@ pub fn listen(
     let to = free_end(c.waiting, c.silence, i, heard.len());
     levels::fill(sent, i, to, 0);
     let before = c.reader;
+    if cores::rests(before, &heard[i..to]) {
+        let silence = cores::silence_for(c.silence, to - i);
+        return Stretched {
+            core: cores::listened(c, silence, before),
+            at: to,
+            words: n,
+        };
+    }
     let h = hearing::hear_all(Mode::of(c.mode), before, &heard[i..to], words, n);
     let silence = cores::silence_over(c.silence, &heard[i..to]);
     let reader = h.reader;
