@@ -2,7 +2,8 @@
 use mathlib.Core.Path.{_≡_, _∙_, refl, sym, ap}
 use mathlib.Core.Bool.{Bool, true, false, cond}
 use mathlib.Core.List.{List}
-use Prim.Native.Nat.{ℕ, suc, _+_, _-_, _≤_, _<_}
+use Prim.Native.Nat.{ℕ, zero, suc, _+_, _-_, _≤_, _<_}
+use native.Mathlib.Nat.{add-zero}
 use native.Mathlib.Omega.{arith}
 use lib.Dec.{eqb}
 use lib.ListN.{length, getD, drop}
@@ -17,7 +18,8 @@ use Rattle.line.specs.Reader.{reader, ends, withKey, prefixAfter, keyEvent, hea
 use Rattle.line.specs.Range.{ReaderIn}
 use Rattle.line.specs.Words.{readerAfter, words}
 use Rattle.hearing.specs.Runs.{Until, Through, UpTo}
-use Rattle.hearing.specs.Skipping.{Skips, msNext}
+use Rattle.hearing.specs.Skipping.{Skips, msNext, keyAfter, msAfter}
+use Rattle.hearing.proofs.Rows.{next-40, after-most}
 use Rattle.hearing.proofs.Passing.{skip-one, skip-chain, skip-none, skip-to}
 
 abbrev readerWith : Reader → Keys → Reader
@@ -108,7 +110,7 @@ module _ (heard : List ℕ) (levels : allAtMost 16 heard ≡ true) (r : Reader) 
       let same : readerWith r (keysAt (r .keys .key) (r .keys .ms) 0) ≡ r = λ j. readerWith r (keysAt (r .keys .key) (r .keys .ms) (sym n j)) in
       record { few = h .keys-in .ms-in; skips = rw same (skip-none Dtmf heard levels r i h l) }
 
-  pub counting-turn : (key ms to : ℕ) → Counting heard r i key ms to → to < length heard → (n : ℕ) → n ≡ msNext key ms (getD heard to 0) → (n ≡ 40 → ⊥)
+  counting-turn : (key ms to : ℕ) → Counting heard r i key ms to → to < length heard → (n : ℕ) → n ≡ msNext key ms (getD heard to 0) → (n ≡ 40 → ⊥)
       → Counting heard r i (getD heard to 0) n (to + 1)
   counting-turn key ms to c l n e f =
       let x = getD heard to 0 in
@@ -117,3 +119,32 @@ module _ (heard : List ℕ) (levels : allAtMost 16 heard ≡ true) (r : Reader) 
       let g : msNext key ms x ≡ 40 → ⊥ = rw e at f in
       let o = skip-one Dtmf heard levels q p to (c .skips .in-range) l (none-counts q x (keysAt x (msNext key ms x) 0) (next-step key ms x g)) in
       rw e (record { few = next-in key ms x (c .few) g; skips = skip-chain Dtmf heard levels r q i to (c .skips) _ o })
+
+  -- some ms in which no key can count
+  counting-many : (key ms to : ℕ) → Counting heard r i key ms to → (k : ℕ) → ms + k < 40 → to + k ≤ length heard
+      → Counting heard r i (keyAfter heard to key k) (msAfter heard to key ms k) (to + k)
+  unfolding keyAfter msAfter
+  counting-many key ms to c zero f l = rw add-zero c
+  counting-many key ms to c (suc k) f l =
+      let m = after-most heard to key ms (suc k) in
+      let z : to + k + 1 ≡ to + suc k = omega arith in
+      let d = counting-many key ms to c k (omega arith) (omega arith) in
+      rw z at (counting-turn _ _ (to + k) d (omega arith) (msAfter heard to key ms (suc k)) refl (λ (e : msAfter heard to key ms (suc k) ≡ 40). omega arith))
+
+  module _ (key ms to last : ℕ) (c : Counting heard r i key ms to) (a : to ≤ last) (l : last < length heard) (f : ms + (last - to) < 40) where
+    before-last : Counting heard r i (keyAfter heard to key (last - to)) (msAfter heard to key ms (last - to)) last
+    before-last =
+        let z : to + (last - to) ≡ last = omega arith in
+        rw z at (counting-many key ms to c (last - to) f (omega arith))
+
+    next-last : msAfter heard to key ms (suc (last - to)) ≡ msNext (keyAfter heard to key (last - to)) (msAfter heard to key ms (last - to)) (getD heard last 0)
+    unfolding msAfter
+    next-last = let z : to + (last - to) ≡ last = omega arith in rw z refl
+
+    pub counting-row : (n : ℕ) → n ≡ msAfter heard to key ms (suc (last - to)) → (n ≡ 40 → ⊥) → Counting heard r i (getD heard last 0) n (last + 1)
+    counting-row n e g = counting-turn _ _ last before-last l n (e ∙ next-last) g
+
+    pub counting-40 : (n : ℕ) → n ≡ msAfter heard to key ms (suc (last - to)) → n ≡ 40 → Counting heard r i (getD heard last 0) 39 last
+    counting-40 n e g =
+        let q = next-40 _ _ _ (sym (e ∙ next-last) ∙ g) in
+        rw (q .0, q .1) at before-last

@@ -1,4 +1,7 @@
 pub mod Fold
 pub mod Searching
+pub mod Numbered
 pub mod Passing
+pub mod Framing
+pub mod Rows
 pub mod Keying

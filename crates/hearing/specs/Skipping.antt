@@ -1,15 +1,15 @@
 -- Ms that end in nothing: what is left behind them ends in what was left before them.
-use Prim.Native.Nat.{ℕ, _+_, _*_, _/_, _≤_}
+use Prim.Native.Nat.{ℕ, zero, suc, _+_, _≤_, _<_}
 use mathlib.Core.Path.{_≡_}
 use mathlib.Core.Bool.{cond}
 use mathlib.Core.List.{List}
 use lib.Dec.{eqb}
-use lib.ListN.{length, drop}
+use lib.ListN.{length, getD, drop}
 use Rattle.alphabet.specs.declared.Mode.{Mode}
-use Rattle.alphabet.specs.declared.Mode.the-variants.{Baudot45, Baudot50, Dtmf, Edt}
-use Rattle.signal.specs.Signal.{quiet}
+use Rattle.signal.specs.Signal.{quiet, space}
+use Rattle.frames.specs.declared.Frame.{Frame}
 use Rattle.line.specs.declared.Reader.{Reader}
-use Rattle.line.specs.Reader.{hearFrame, hear}
+use Rattle.line.specs.Reader.{reader, hearFrame, hear}
 use Rattle.line.specs.Range.{ReaderIn}
 use Rattle.line.specs.Words.{readerAfter, words}
 use Rattle.hearing.specs.declared.Skipped.{Skipped}
@@ -25,13 +25,36 @@ pub record Skips (mode : Mode) (heard : List ℕ) (r : Reader) (i : ℕ) (s : Sk
 pub record Framed (mode : Mode) : Type 0 where
   pub hears : (r : Reader) (x : ℕ) → hear mode r x ≡ hearFrame mode r x
 
--- The ms of a frame's first sample from a ms on.
-unfoldable pub nextSample : Mode → ℕ → ℕ
-nextSample Baudot45 m = 22 * ((m + 10) / 22) + 11
-nextSample Baudot50 m = 20 * ((m + 9) / 20) + 10
-nextSample Dtmf m = m
-nextSample Edt m = (100 * ((11 * m + 49) / 100) + 50) / 11
+-- A frame at a place, and a reader with a frame.
+abbrev pub frameAt : ℕ → ℕ → Frame
+frameAt place digits = record { place = place; digits = digits }
+
+abbrev pub readerAt : Reader → Frame → Reader
+readerAt r f = reader f (r .keys) (r .shift) (r .prefix)
+
+-- Ms that end in nothing, and take any reader from a frame to another.
+pub record Passes (mode : Mode) (heard : List ℕ) (f : Frame) (i : ℕ) (g : Frame) (to : ℕ) : Type 0 where
+  pub skips : (r : Reader) → ReaderIn mode (readerAt r f) → Skips mode heard (readerAt r f) i (record { reader = readerAt r g; to = to })
+
+-- The place after a ms that is hunted or waited in.
+unfoldable pub placeAfter : ℕ → ℕ → ℕ
+placeAfter place heard = cond (eqb heard space) (cond (eqb place 0) 2 1) 0
+
+-- Up to a place, each ms leaves the reader hunting or waiting.
+pub record Stays (heard : List ℕ) (place i to : ℕ) : Type 0 where
+  pub low : i ≤ to
+  pub high : to ≤ length heard
+  pub stays : (k : ℕ) → i ≤ k → k < to → placeAfter place (getD heard k 0) ≡ place
 
 -- The ms in a row of what is heard, if no quiet is needed: 0 for quiet.
 unfoldable pub msNext : ℕ → ℕ → ℕ → ℕ
 msNext key ms heard = cond (eqb heard quiet) 0 (cond (eqb heard key) (ms + 1) 1)
+
+-- The key heard after some ms from a place on, and its ms in a row.
+unfoldable pub keyAfter : List ℕ → ℕ → ℕ → ℕ → ℕ
+keyAfter heard to key zero = key
+keyAfter heard to key (suc k) = getD heard (to + k) 0
+
+unfoldable pub msAfter : List ℕ → ℕ → ℕ → ℕ → ℕ → ℕ
+msAfter heard to key ms zero = ms
+msAfter heard to key ms (suc k) = msNext (keyAfter heard to key k) (msAfter heard to key ms k) (getD heard (to + k) 0)

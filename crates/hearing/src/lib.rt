@@ -12,6 +12,7 @@ ghost use Rattle.line.specs.Words.{readerAfter, words as wordsHeard};
 ghost use Rattle.hearing.specs.Skipping.{Skips};
 
 pub mod runs;
+pub mod samples;
 pub mod skipping;
 
 // A reader after some ms, and the place behind their words.

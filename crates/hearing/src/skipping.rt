@@ -1,69 +1,153 @@
 // Ms that end in nothing.
 use crate::Skipped;
 use crate::runs;
+use crate::samples;
+use crate::samples::Effect;
 use alphabet::Mode;
 use frames::Frame;
 use keys::Keys;
 use line::Reader;
 ghost use mathlib.Core.Path.{_≡_};
 ghost use mathlib.Core.Bool.{true};
-ghost use Prim.Native.Nat.{_+_, _≤_, _<_};
+ghost use Prim.Native.Nat.{suc, _+_, _-_, _≤_, _<_};
 ghost use lib.ListN.{length};
 ghost use Rattle.lists.specs.Lists.{allAtMost};
 ghost use Rattle.alphabet.specs.declared.Mode.the-variants as mode;
+ghost use Rattle.frames.specs.Range.{FrameOf};
 ghost use Rattle.line.specs.Range.{ReaderIn};
-ghost use Rattle.hearing.specs.Skipping.{nextSample, msNext, Framed, Skips};
+ghost use Rattle.hearing.specs.Skipping.{frameAt, readerAt, placeAfter, msAfter, Framed, Skips, Passes, Stays};
 
-// The ms of a frame's first sample from a ms on.
-fn next_sample(mode: Mode, m: usize) -> usize
-    requires { ⌜ m < 256 ⌝ }
-    ensures { λ r. ⌜ r ≡ nextSample mode m ⌝ }
-{
-    match mode {
-        Mode::Baudot45 => 22 * ((m + 10) / 22) + 11,
-        Mode::Baudot50 => 20 * ((m + 9) / 20) + 10,
-        Mode::Dtmf => m,
-        Mode::Edt => (100 * ((11 * m + 49) / 100) + 50) / 11,
-    }
+// A reader of frames before a ms, and whether it may pass more.
+struct Passed {
+    place: usize,
+    digits: usize,
+    to: usize,
+    on: bool,
 }
 
-// A reader with a frame some ms further.
-fn further(r: Reader, n: usize) -> Reader
-    requires { ⌜ r .frame .place + n ≤ 255 ⌝ }
-    ensures { λ q. ⌜ q ≡ record { frame = record { place = r .frame .place + n; digits = r .frame .digits }; keys = r .keys; shift = r .shift; prefix = r .prefix } ⌝ }
-{
-    let f = r.frame;
-    let keys = r.keys;
-    Reader {
-        frame: Frame {
-            place: f.place + n as u8,
-            digits: f.digits,
-        },
-        keys,
-        shift: r.shift,
-        prefix: r.prefix,
-    }
-}
-
-// In a frame: up to its next sample.
-fn skip_to_sample(mode: Mode, r: Reader, heard: &[u8], i: usize) -> Skipped
+// In a frame, from sample to sample: up to one that may find something, or past a start that is not space.
+fn pass_samples(mode: Mode, heard: &[u8], place: usize, digits: usize, i: usize) -> Passed
     requires { ⌜ Framed mode ⌝ }
-    requires { ⌜ ReaderIn mode r ⌝ }
-    requires { ⌜ 2 ≤ r .frame .place ⌝ }
+    requires { ⌜ FrameOf mode (frameAt place digits) ⌝ }
+    requires { ⌜ 2 ≤ place ⌝ }
     requires { ⌜ allAtMost 16 (now heard) ≡ true ⌝ }
-    requires { ⌜ i ≤ length (now heard) ⌝ }
-    ensures { λ s. ⌜ Skips mode (now (heard .entry)) r i s ⌝ }
+    requires { ⌜ i < length (now heard) ⌝ }
+    ensures { λ p. ⌜ Passes mode (now (heard .entry)) (frameAt place digits) i (frameAt (p .place) (p .digits)) (p .to) ⌝ }
+    ensures { λ p. ⌜ (p .on ≡ true → i < p .to) ⌝ }
 {
-    let f = r.frame;
-    let m = f.place as usize - 1;
-    let to = runs::up_to(i, next_sample(mode, m) - m, heard.len());
+    let m = place - 1;
+    let mut j = samples::number_at(mode, m);
+    let mut s = samples::sample_ms(mode, j);
+    let mut at = i + (s - m);
+    let mut d = digits;
+    while at < heard.len() {
+        let e = samples::effect_of(mode, j, d, heard[at]);
+        let Effect::On(after) = e else {
+            let Effect::Hunts = e else {
+                return Passed {
+                    place: s + 1,
+                    digits: d,
+                    to: at,
+                    on: false,
+                };
+            };
+            return Passed {
+                place: 0,
+                digits: 0,
+                to: at + 1,
+                on: true,
+            };
+        };
+        d = after;
+        j += 1;
+        let next = samples::sample_ms(mode, j);
+        at += next - s;
+        s = next;
+    }
+    Passed {
+        place: s + 1 - (at - heard.len()),
+        digits: d,
+        to: heard.len(),
+        on: false,
+    }
+}
+
+// The place after a ms that is hunted or waited in.
+fn place_after(place: usize, heard: u8) -> usize
+    ensures { λ r. ⌜ r ≡ placeAfter place heard ⌝ }
+{
+    if heard != 2 {
+        return 0;
+    }
+    if place == 0 {
+        return 2;
+    }
+    1
+}
+
+// Hunting: up to a space; waiting: past the space.
+fn pass_alike(heard: &[u8], place: usize, i: usize) -> usize
+    requires { ⌜ place ≤ 1 ⌝ }
+    requires { ⌜ i ≤ length (now heard) ⌝ }
+    ensures { λ r. ⌜ Stays (now (heard .entry)) place i r ⌝ }
+{
+    if place == 0 {
+        return runs::until(heard, i, heard.len(), 2);
+    }
+    runs::through(heard, i, heard.len(), 2)
+}
+
+// Hunting, waiting, or in a frame.
+fn pass(mode: Mode, heard: &[u8], place: usize, digits: usize, i: usize) -> Passed
+    requires { ⌜ Framed mode ⌝ }
+    requires { ⌜ FrameOf mode (frameAt place digits) ⌝ }
+    requires { ⌜ allAtMost 16 (now heard) ≡ true ⌝ }
+    requires { ⌜ i < length (now heard) ⌝ }
+    ensures { λ p. ⌜ Passes mode (now (heard .entry)) (frameAt place digits) i (frameAt (p .place) (p .digits)) (p .to) ⌝ }
+    ensures { λ p. ⌜ (p .on ≡ true → i < p .to) ⌝ }
+{
+    if 1 < place {
+        return pass_samples(mode, heard, place, digits, i);
+    }
+    let at = pass_alike(heard, place, i);
+    if at == heard.len() {
+        return Passed {
+            place,
+            digits: 0,
+            to: at,
+            on: false,
+        };
+    }
+    Passed {
+        place: place_after(place, heard[at]),
+        digits: 0,
+        to: at + 1,
+        on: true,
+    }
+}
+
+// A reader with a frame at a place, before a ms.
+fn framed(r: Reader, place: usize, digits: usize, to: usize) -> Skipped
+    requires { ⌜ place < 256 ⌝ }
+    requires { ⌜ digits < 256 ⌝ }
+    ensures { λ s. ⌜ s ≡ record { reader = readerAt r (frameAt place digits); to = to } ⌝ }
+{
+    let keys = r.keys;
     Skipped {
-        reader: further(r, to - i),
+        reader: Reader {
+            frame: Frame {
+                place: place as u8,
+                digits: digits as u8,
+            },
+            keys,
+            shift: r.shift,
+            prefix: r.prefix,
+        },
         to,
     }
 }
 
-// Baudot and EDT. Hunting: up to a space; waiting: past the space; in a frame: up to its next sample.
+// Baudot and EDT: up to a ms that may find something.
 pub fn skip_frame(mode: Mode, r: Reader, heard: &[u8], i: usize) -> Skipped
     requires { ⌜ Framed mode ⌝ }
     requires { ⌜ ReaderIn mode r ⌝ }
@@ -72,22 +156,19 @@ pub fn skip_frame(mode: Mode, r: Reader, heard: &[u8], i: usize) -> Skipped
     ensures { λ s. ⌜ Skips mode (now (heard .entry)) r i s ⌝ }
 {
     let f = r.frame;
-    if 1 < f.place {
-        return skip_to_sample(mode, r, heard, i);
+    let mut place = f.place as usize;
+    let mut digits = f.digits as usize;
+    let mut to = i;
+    while to < heard.len() {
+        let p = pass(mode, heard, place, digits, to);
+        if !p.on {
+            return framed(r, p.place, p.digits, p.to);
+        }
+        place = p.place;
+        digits = p.digits;
+        to = p.to;
     }
-    if f.digits != 0 {
-        return Skipped { reader: r, to: i };
-    }
-    if f.place == 0 {
-        return Skipped {
-            reader: r,
-            to: runs::until(heard, i, heard.len(), 2),
-        };
-    }
-    Skipped {
-        reader: r,
-        to: runs::through(heard, i, heard.len(), 2),
-    }
+    framed(r, place, digits, to)
 }
 
 // A reader with other keys.
@@ -103,18 +184,26 @@ fn with_keys(r: Reader, keys: Keys) -> Reader
     }
 }
 
-// The ms in a row of what is heard, if no quiet is needed: 0 for quiet.
-fn ms_next(key: u8, ms: usize, heard: u8) -> usize
-    requires { ⌜ ms < 40 ⌝ }
-    ensures { λ r. ⌜ r ≡ msNext key ms heard ⌝ }
+// The ms in a row of what is heard on the last ms, if no key counts before it: 0 for quiet.
+fn ms_after(heard: &[u8], to: usize, key: u8, ms: usize, last: usize) -> usize
+    requires { ⌜ to ≤ last ⌝ }
+    requires { ⌜ last < length (now heard) ⌝ }
+    requires { ⌜ ms + (last - to) < 40 ⌝ }
+    ensures { λ r. ⌜ r ≡ msAfter (now (heard .entry)) to key ms (suc (last - to)) ⌝ }
 {
-    if heard == 0 {
+    let x = heard[last];
+    if x == 0 {
         return 0;
     }
-    if heard == key {
-        return ms + 1;
+    let from = runs::back(heard, to, last, x);
+    let n = last + 1 - from;
+    if to < from {
+        return n;
     }
-    1
+    if x != key {
+        return n;
+    }
+    ms + n
 }
 
 // A reader with a key and its ms in a row, before a ms.
@@ -133,7 +222,7 @@ fn counted(r: Reader, key: u8, ms: usize, to: usize) -> Skipped
     }
 }
 
-// DTMF, while no quiet is needed: up to the ms in which a key counts.
+// DTMF, while no quiet is needed: up to the ms in which a key counts. Each turn goes to the first ms in which one can.
 fn skip_key(r: Reader, heard: &[u8], i: usize) -> Skipped
     requires { ⌜ ReaderIn mode.Dtmf r ⌝ }
     requires { ⌜ r .keys .needed ≡ 0 ⌝ }
@@ -146,14 +235,14 @@ fn skip_key(r: Reader, heard: &[u8], i: usize) -> Skipped
     let mut ms = k.ms as usize;
     let mut to = i;
     while to < heard.len() {
-        let x = heard[to];
-        let n = ms_next(key, ms, x);
+        let last = runs::up_to(to, 39 - ms, heard.len() - 1);
+        let n = ms_after(heard, to, key, ms, last);
         if n == 40 {
-            return counted(r, key, ms, to);
+            return counted(r, heard[last], 39, last);
         }
-        key = x;
+        key = heard[last];
         ms = n;
-        to += 1;
+        to = last + 1;
     }
     counted(r, key, ms, to)
 }
