@@ -66,25 +66,34 @@ module _ (n : ℕ) (xs : List ℕ) where
   one-more ys to before at j h =
       ⊎-elim (λ e. subst (Place ys) (sym e) at) (before j) (eq-or-lt-of-le {n = j} {m = to} (omega arith))
 
-  -- characters on their way: those before a place have moved up, and the others stand as they were
+  -- characters on their way: those before a place have moved up; the last one, and those that still move, stand as they were
   pub record Slid (ys : List ℕ) (to : ℕ) : Type 0 where
     pub size : length ys ≡ length xs
     pub done : (j : ℕ) → j < to → Place ys j
-    pub ahead : (j : ℕ) → to ≤ j → getD ys j 0 ≡ getD xs j 0
+    pub ahead : (j : ℕ) → to + n ≤ j → getD ys j 0 ≡ getD xs j 0
+    pub end : getD ys last 0 ≡ getD xs last 0
 
   pub slid-start : Slid xs 0
-  slid-start = record { size = refl; done = λ j h. absurd (omega arith); ahead = λ j h. refl }
+  slid-start = record { size = refl; done = λ j h. absurd (omega arith); ahead = λ j h. refl; end = refl }
 
-  pub slid-turn : (ys : List ℕ) (to k : ℕ) → Slid ys to → to < last → k ≡ from to → Slid (set ys to (getD ys k 0)) (to + 1)
-  slid-turn ys to k s h e =
+  -- a character at a place and at the one behind it, which has moved up already
+  pub slid-turn : 1 ≤ n → (ys : List ℕ) (to k : ℕ) → Slid ys to → k < last → k ≡ to + n
+      → Slid (set (set ys to (getD ys k 0)) (to + 1) (getD ys k 0)) (to + 1)
+  slid-turn o ys to k s h e =
       let c = getD ys k 0 in
       let l = s .size in
-      let before : (j : ℕ) → j < to → Place (set ys to c) j = λ j q. getD-set-other ys to j c 0 (omega arith) ∙ s .done j q in
-      let here : Place (set ys to c) to = getD-set-same ys to c 0 (omega arith) ∙ s .ahead k (omega arith) ∙ (λ i. getD xs (e i) 0) in
+      let zs = set ys to c in
+      let m = length-set ys to c in
+      let f : k ≡ from to = omega arith in
+      let before : (j : ℕ) → j < to → Place (set zs (to + 1) c) j =
+      λ j q. getD-set-other zs (to + 1) j c 0 (omega arith) ∙ getD-set-other ys to j c 0 (omega arith) ∙ s .done j q in
+      let here : Place (set zs (to + 1) c) to =
+      getD-set-other zs (to + 1) to c 0 (omega arith) ∙ getD-set-same ys to c 0 (omega arith) ∙ s .ahead k (omega arith) ∙ (λ i. getD xs (f i) 0) in
       record {
-        size = length-set ys to c ∙ l;
-        done = one-more (set ys to c) to before here;
-        ahead = λ j q. getD-set-other ys to j c 0 (omega arith) ∙ s .ahead j (omega arith);
+        size = length-set zs (to + 1) c ∙ m ∙ l;
+        done = one-more (set zs (to + 1) c) to before here;
+        ahead = λ j q. getD-set-other zs (to + 1) j c 0 (omega arith) ∙ getD-set-other ys to j c 0 (omega arith) ∙ s .ahead j (omega arith);
+        end = getD-set-other zs (to + 1) last c 0 (omega arith) ∙ getD-set-other ys to last c 0 (omega arith) ∙ s .end;
       }
 
   -- those before a place have moved up, and the last place has the last character
@@ -93,8 +102,8 @@ module _ (n : ℕ) (xs : List ℕ) where
     pub done : (j : ℕ) → j < to → Place ys j
     pub end : getD ys last 0 ≡ getD xs last 0
 
-  pub filled-start : (ys : List ℕ) (to : ℕ) → Slid ys to → to ≤ last → Filled ys to
-  filled-start ys to s h = record { size = s .size; done = s .done; end = s .ahead last h }
+  pub filled-start : (ys : List ℕ) (to : ℕ) → Slid ys to → Filled ys to
+  filled-start ys to s = record { size = s .size; done = s .done; end = s .end }
 
   -- the last character at a place and at the one behind it
   pub filled-turn : (ys : List ℕ) (to c : ℕ) → Filled ys to → to < last → last ≤ to + n → c ≡ getD xs last 0 → Filled (set (set ys to c) (to + 1) c) (to + 1)

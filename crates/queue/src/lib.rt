@@ -19,8 +19,8 @@ fn between(c: u8, least: u8, most: u8) -> bool
     (least <= c) & (c <= most)
 }
 
-// Does a character wait when it is offered? Those that send something do. The test is by ranges and has no branch, so that a
-// loop over characters is compiled to vector instructions.
+// Does a character wait when it is offered? Those that send something do. They are told by their ranges, so that a loop over
+// characters is compiled to vector instructions.
 fn waits_baudot(c: u8) -> bool
     ensures { λ r. ⌜ r ≡ waits Baudot c ⌝ }
 {
@@ -91,7 +91,7 @@ fn put_waiters(a: Alphabet, text: &[u8], chars: &mut [u8], at: usize)
     }
 }
 
-// Is each a character that waits? Every one is looked at: see above.
+// Is each a character that waits?
 fn all_baudot(chars: &[u8]) -> bool
     ensures { λ r. ⌜ r ≡ allWait Baudot (now (chars .entry)) ⌝ }
 {
@@ -126,8 +126,8 @@ fn all_wait(a: Alphabet, chars: &[u8]) -> bool
     }
 }
 
-// All move up n places in one pass; the last character stays in the places that are left. It is stored twice in each turn,
-// since of single stores the compiler makes a call of memset.
+// All move up n places in one pass; the last character stays in the places that are left. Each is stored twice, since of
+// single stores the compiler makes calls of memmove and memset.
 pub fn move_up_by(chars: &mut [u8], n: usize)
     ensures { λ r. ⌜ now (chars .exit) ≡ movedBy n (now (chars .entry)) ⌝ }
 {
@@ -143,6 +143,7 @@ pub fn move_up_by(chars: &mut [u8], n: usize)
     while from < last {
         let c = chars[from];
         chars[to] = c;
+        chars[to + 1] = c;
         from += 1;
         to += 1;
     }
@@ -154,14 +155,7 @@ pub fn move_up_by(chars: &mut [u8], n: usize)
     }
 }
 
-// All but the first move up one place; the last place keeps its character.
-pub fn move_up(chars: &mut [u8])
-    ensures { λ r. ⌜ now (chars .exit) ≡ moved (now (chars .entry)) ⌝ }
-{
-    move_up_by(chars, 1)
-}
-
-// The characters of a fresh station. The compiler makes 16 stores of this; from 257 bytes on it would call memset.
+// No characters. The compiler makes 16 stores of this, and no call of memset, which it calls from 257 bytes on.
 pub fn clear(chars: &mut [u8; 256])
     ensures { λ r. ⌜ now (chars .exit) ≡ replicate 256 0 ⌝ }
 {

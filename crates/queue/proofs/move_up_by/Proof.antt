@@ -10,7 +10,7 @@ use Rattle.queue.proofs.move_up_by.Statement.{statement}
 use Rattle.queue.proofs.move_up_by.Tie as tie
 
 abbrev Inv-loop : tie.InvT-loop
-Inv-loop chars₀ n last to₀ from₀ chars to from = Slid n chars₀ chars to × (from ≡ to + n) × (to ≤ last)
+Inv-loop chars₀ n last to₀ from₀ chars to from = Slid n chars₀ chars to × ((from ≡ to + n) × ((to ≤ last) × (1 ≤ n)))
 
 abbrev μ-loop : tie.MeasureT-loop
 μ-loop chars₀ n last to₀ from₀ chars to from = last - from
@@ -26,13 +26,13 @@ unfolding movedBy
 returns c = ap (λ (k : ℕ). movedBy k (c .before .args .chars .now)) (sym (c .if1 .taken))
 
 returns-2 : tie.Need-returns-2 Inv-loop μ-loop Inv-loop2 μ-loop2
-returns-2 c = filled-end _ _ _ 0 (filled-start _ _ _ _ (slid-start _ _) (omega arith)) (omega arith)
+returns-2 c = filled-end _ _ _ 0 (filled-start _ _ _ _ (slid-start _ _)) (omega arith)
 
 sub-last : tie.Need-sub-last Inv-loop μ-loop Inv-loop2 μ-loop2
 sub-last c = search needs
 
 loop-holds : tie.Need-loop-holds Inv-loop μ-loop Inv-loop2 μ-loop2
-loop-holds c = (slid-start _ _, omega arith, omega arith)
+loop-holds c = let n = c .before .if1 .left in (slid-start _ _, (omega arith, (omega arith, omega (arith, n))))
 
 slice-read-c : tie.Need-slice-read-c Inv-loop μ-loop Inv-loop2 μ-loop2
 slice-read-c c =
@@ -46,7 +46,20 @@ slice-write-chars c =
     let v = c .before .before .loop .inv in
     let s = v .0 .size in
     let t = c .before .loop-test .taken in
-    omega (arith, v .1)
+    let e = v .1 .0 in
+    omega arith
+
+add-chars : tie.Need-add-chars Inv-loop μ-loop Inv-loop2 μ-loop2
+add-chars c = search needs
+
+slice-write-chars-2 : tie.Need-slice-write-chars-2 Inv-loop μ-loop Inv-loop2 μ-loop2
+slice-write-chars-2 c =
+    let v = c .before .before .loop .inv in
+    let s = v .0 .size in
+    let t = c .before .loop-test .taken in
+    let e = v .1 .0 in
+    let o = v .1 .1 .1 in
+    simp length-set (omega arith)
 
 add-from : tie.Need-add-from Inv-loop μ-loop Inv-loop2 μ-loop2
 add-from c = search needs
@@ -61,8 +74,9 @@ loop-again : tie.Need-loop-again Inv-loop μ-loop Inv-loop2 μ-loop2
 loop-again c =
     let l = c .before .before .loop in
     let t = c .before .loop-test .taken in
-    let e = l .inv .1 in
-    (slid-turn _ _ _ _ _ (l .inv .0) (omega arith) (omega arith), omega arith, omega arith)
+    let e = l .inv .1 .0 in
+    let o = l .inv .1 .1 .1 in
+    (slid-turn _ _ o _ _ _ (l .inv .0) (omega arith) e, (omega arith, (omega arith, o)))
 
 slice-read-c-2 : tie.Need-slice-read-c-2 Inv-loop μ-loop Inv-loop2 μ-loop2
 slice-read-c-2 c =
@@ -72,17 +86,17 @@ slice-read-c-2 c =
 loop2-holds : tie.Need-loop2-holds Inv-loop μ-loop Inv-loop2 μ-loop2
 loop2-holds c = filling-start _ _ _ _ _
 
-slice-write-chars-2 : tie.Need-slice-write-chars-2 Inv-loop μ-loop Inv-loop2 μ-loop2
-slice-write-chars-2 c =
+slice-write-chars-3 : tie.Need-slice-write-chars-3 Inv-loop μ-loop Inv-loop2 μ-loop2
+slice-write-chars-3 c =
     let f = c .before .loop2 .inv .size in
     let e = c .before .before .before .before .loop .inv .0 .size in
     omega (arith, c .loop2-test .taken)
 
-add-chars : tie.Need-add-chars Inv-loop μ-loop Inv-loop2 μ-loop2
-add-chars c = search needs
+add-chars-2 : tie.Need-add-chars-2 Inv-loop μ-loop Inv-loop2 μ-loop2
+add-chars-2 c = search needs
 
-slice-write-chars-3 : tie.Need-slice-write-chars-3 Inv-loop μ-loop Inv-loop2 μ-loop2
-slice-write-chars-3 c =
+slice-write-chars-4 : tie.Need-slice-write-chars-4 Inv-loop μ-loop Inv-loop2 μ-loop2
+slice-write-chars-4 c =
     let f = c .before .loop2 .inv .size in
     let e = c .before .before .before .before .loop .inv .0 .size in
     let t = c .loop2-test .taken in
@@ -104,8 +118,8 @@ returns-3 : tie.Need-returns-3 Inv-loop μ-loop Inv-loop2 μ-loop2
 returns-3 c =
     let v = c .before .before .before .before .loop .inv in
     let h = c .before .before .before .loop-test .left in
-    let b = v .1 in
-    filled-end _ _ _ _ (c .before .loop2 .inv .filled _ refl (omega arith) (v .0 .ahead _ (v .2)) (filled-start _ _ _ _ (v .0) (v .2))) (c .loop2-test .left)
+    let b = v .1 .0 in
+    filled-end _ _ _ _ (c .before .loop2 .inv .filled _ refl (omega arith) (v .0 .end) (filled-start _ _ _ _ (v .0))) (c .loop2-test .left)
 
 pub move-up-by-spec : {M : Type 1} → statement M
 move-up-by-spec =
@@ -121,15 +135,17 @@ move-up-by-spec =
     loop-holds
     slice-read-c
     slice-write-chars
+    add-chars
+    slice-write-chars-2
     add-from
     add-to
     loop-less
     loop-again
     slice-read-c-2
     loop2-holds
-    slice-write-chars-2
-    add-chars
     slice-write-chars-3
+    add-chars-2
+    slice-write-chars-4
     add-to-2
     loop2-less
     loop2-again
