@@ -77,13 +77,6 @@ module _ (heard : List ℕ) (levels : allAtMost 16 heard ≡ true) (r : Reader) 
       (λ (k : ℕ) (g : k < to - i). none-counts (readerWith r (f k)) (getD heard (i + k) 0) (f (suc k)) (s k g)) in
       rw p (record { low = a .low; high = a .high; in-range = a .in-range; reader = a .reader ∙ ap (λ (x : Reader). readerAfter Dtmf x (drop i heard)) same; words = a .words ∙ ap (λ (x : Reader). words Dtmf x (drop i heard)) same })
 
-  pub ready-skips : r .keys .key ≡ 0 → r .keys .ms ≡ 0 → r .keys .needed ≡ 0 → (to : ℕ) → Through heard i (length heard) 0 to
-      → Skips Dtmf heard r i (record { reader = r; to = to })
-  ready-skips a b c to t =
-      let e : keysAt 0 0 0 ≡ r .keys = λ j. keysAt (sym a j) (sym b j) (sym c j) in
-      keys-skip (λ (k : ℕ). r .keys) refl to (t .low) (t .high)
-      (λ (k : ℕ) (g : k < to - i). quiet-step (r .keys) (getD heard (i + k) 0) c (t .same (i + k) (omega arith) (omega arith)) ∙ ap (λ (x : Keys). counts x 0) e) r refl
-
   pub still-skips : r .keys .key ≡ 0 → r .keys .ms ≡ 0 → r .keys .needed ≡ 40 → (to : ℕ) → Until heard i (length heard) 0 to
       → Skips Dtmf heard r i (record { reader = r; to = to })
   still-skips a b c to t =

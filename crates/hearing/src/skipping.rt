@@ -277,7 +277,7 @@ fn skip_needed(r: Reader, heard: &[u8], i: usize) -> Skipped
     }
 }
 
-// DTMF. With no key heard and no quiet needed: quiet ms.
+// DTMF. With no quiet needed: up to the ms in which a key counts; else quiet ms, or those that are not.
 pub fn skip_keys(r: Reader, heard: &[u8], i: usize) -> Skipped
     requires { ⌜ ReaderIn mode.Dtmf r ⌝ }
     requires { ⌜ allAtMost 16 (now heard) ≡ true ⌝ }
@@ -285,20 +285,14 @@ pub fn skip_keys(r: Reader, heard: &[u8], i: usize) -> Skipped
     ensures { λ s. ⌜ Skips mode.Dtmf (now (heard .entry)) r i s ⌝ }
 {
     let k = r.keys;
-    if k.key != 0 {
-        if k.needed != 0 {
-            return Skipped { reader: r, to: i };
-        }
+    if k.needed == 0 {
         return skip_key(r, heard, i);
+    }
+    if k.key != 0 {
+        return Skipped { reader: r, to: i };
     }
     if k.ms != 0 {
         return Skipped { reader: r, to: i };
     }
-    if k.needed != 0 {
-        return skip_needed(r, heard, i);
-    }
-    Skipped {
-        reader: r,
-        to: runs::through(heard, i, heard.len(), 0),
-    }
+    skip_needed(r, heard, i)
 }

@@ -19,8 +19,8 @@ fn between(c: u8, least: u8, most: u8) -> bool
     (least <= c) & (c <= most)
 }
 
-// Does a character wait when it is offered? Those that send something do. They are told by their ranges, so that a loop over
-// characters is compiled to vector instructions.
+// Does a character wait when it is offered? Those that send something do. The test is by ranges and has no branch, so that a
+// loop over characters is compiled to vector instructions.
 fn waits_baudot(c: u8) -> bool
     ensures { λ r. ⌜ r ≡ waits Baudot c ⌝ }
 {
@@ -91,7 +91,7 @@ fn put_waiters(a: Alphabet, text: &[u8], chars: &mut [u8], at: usize)
     }
 }
 
-// Is each a character that waits?
+// Is each a character that waits? Every one is looked at: see above.
 fn all_baudot(chars: &[u8]) -> bool
     ensures { λ r. ⌜ r ≡ allWait Baudot (now (chars .entry)) ⌝ }
 {
@@ -155,7 +155,7 @@ pub fn move_up_by(chars: &mut [u8], n: usize)
     }
 }
 
-// No characters. The compiler makes 16 stores of this, and no call of memset, which it calls from 257 bytes on.
+// The characters of a fresh station. The compiler makes 16 stores of this; from 257 bytes on it would call memset.
 pub fn clear(chars: &mut [u8; 256])
     ensures { λ r. ⌜ now (chars .exit) ≡ replicate 256 0 ⌝ }
 {
