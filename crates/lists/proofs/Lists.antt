@@ -76,13 +76,27 @@ pub at-most-behind : (m : ℕ) (xs ys : List ℕ) → allAtMost m (xs ++ ys) ≡
 at-most-behind m [] ys e = e
 at-most-behind m (x ∷ xs) ys e = at-most-behind m xs ys (at-most-tail m x (xs ++ ys) e)
 
--- a loop that looks at every number: ok says it of those passed
-module _ (m : ℕ) (xs : List ℕ) (i : ℕ) (ok : Bool) (h : i < length xs) where
-  pub at-most-bad : m < getD xs i 0 → (false && allAtMost m (drop (i + 1) xs)) ≡ (ok && allAtMost m (drop i xs))
-  at-most-bad g = sym (and-false ok) ∙ ap (λ (b : Bool). ok && b) (sym (at-most-left m xs i h ∙ (simp (lt-leb (getD xs i 0) m g))))
+-- a loop that looks at every number: the largest of those passed
+module _ (m : ℕ) (xs : List ℕ) (i largest : ℕ) (h : i < length xs) where
+  abbrev x : ℕ
+  x = getD xs i 0
 
-  pub at-most-good : getD xs i 0 ≤ m → (ok && allAtMost m (drop (i + 1) xs)) ≡ (ok && allAtMost m (drop i xs))
-  at-most-good g = ap (λ (b : Bool). ok && b) (sym (at-most-left m xs i h ∙ (simp (le-leb (getD xs i 0) m g))))
+  abbrev rest : Bool
+  rest = allAtMost m (drop (i + 1) xs)
+
+  pub at-most-larger : largest < x → (leb x m && rest) ≡ (leb largest m && allAtMost m (drop i xs))
+  at-most-larger g = go (leb x m) refl ∙ ap (λ (b : Bool). leb largest m && b) (sym (at-most-left m xs i h))
+    where
+      go : (b : Bool) → leb x m ≡ b → (leb x m && rest) ≡ (leb largest m && (leb x m && rest))
+      go true e = let l = leb-true x m e in rw (le-leb largest m (omega arith)) refl
+      go false e = rw (e, and-false) refl
+
+  pub at-most-others : x ≤ largest → (leb largest m && rest) ≡ (leb largest m && allAtMost m (drop i xs))
+  at-most-others g = go (leb largest m) refl ∙ ap (λ (b : Bool). leb largest m && b) (sym (at-most-left m xs i h))
+    where
+      go : (b : Bool) → leb largest m ≡ b → (leb largest m && rest) ≡ (leb largest m && (leb x m && rest))
+      go true e = let l = leb-true largest m e in rw (le-leb x m (omega arith)) refl
+      go false e = rw e refl
 
 pub at-most-all : (m : ℕ) (xs : List ℕ) (i : ℕ) (ok : Bool) → length xs ≤ i → (ok && allAtMost m (drop i xs)) ≡ allAtMost m xs → ok ≡ allAtMost m xs
 at-most-all m xs i ok h e = sym (and-true ok) ∙ ap (λ (b : Bool). ok && b) (sym (at-most-end m xs i h)) ∙ e

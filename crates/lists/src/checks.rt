@@ -6,13 +6,14 @@ ghost use Rattle.lists.specs.Lists.{allAtMost};
 pub fn all_at_most(xs: &[u8], m: u8) -> bool
     ensures { λ r. ⌜ r ≡ allAtMost m (now (xs .entry)) ⌝ }
 {
-    let mut ok = true;
+    let mut largest: u8 = 0;
     let mut i: usize = 0;
     while i < xs.len() {
-        if m < xs[i] {
-            ok = false;
+        let x = xs[i];
+        if largest < x {
+            largest = x;
         }
         i += 1;
     }
-    ok
+    largest <= m
 }
