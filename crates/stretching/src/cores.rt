@@ -183,10 +183,11 @@ pub fn coded(c: Core, taken: usize, sender: Sender, line: OnLine, n: usize) -> C
     ensures { λ r. ⌜ r ≡ codedCore c taken sender line n ⌝ }
 {
     let reader = c.reader;
+    let inhibited = access::INHIBITED;
     Core {
         waiting: c.waiting - taken as u16,
         silence: silence_for(c.silence, n),
-        inhibited: access::INHIBITED,
+        inhibited,
         line,
         sender,
         reader: deaf_reader(reader, n),

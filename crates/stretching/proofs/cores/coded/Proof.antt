@@ -7,11 +7,11 @@ use borrow.Author.Needs.{needs}
 use Rattle.stretching.proofs.cores.coded.Statement.{statement}
 use Rattle.stretching.proofs.cores.coded.Tie as tie
 
-cast-t7 : tie.Need-cast-t7
-cast-t7 c = search needs
+cast-t8 : tie.Need-cast-t8
+cast-t8 c = search needs
 
-sub-t8 : tie.Need-sub-t8
-sub-t8 c = search needs
+sub-t9 : tie.Need-sub-t9
+sub-t9 c = search needs
 
 silence-for-requires : tie.Need-silence-for-requires
 silence-for-requires c κs = search needs
@@ -27,4 +27,4 @@ returns c =
     λ j. core (s .waiting - t .args .taken) (c .before .silence-for .ensures j) (burst-some (s .inhibited) (t .args .n) (t .pre .0) j) (t .args .line) (t .args .sender) (c .deaf-reader .ensures j) (s .mode)
 
 pub coded-spec : {M : Type 1} → statement M
-coded-spec = tie.close (tie.spec cast-t7 sub-t8 silence-for-requires deaf-reader-requires returns)
+coded-spec = tie.close (tie.spec cast-t8 sub-t9 silence-for-requires deaf-reader-requires returns)
