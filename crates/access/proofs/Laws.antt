@@ -1,10 +1,10 @@
 -- What the functions of this crate need of the definitions.
-use mathlib.Core.Path.{_≡_, _∙_, refl, sym, ap}
-use mathlib.Core.Bool.{Bool, true, false, cond, _&&_}
+use mathlib.Core.Path.{_≡_, _∙_, refl, ap}
+use mathlib.Core.Bool.{Bool, true, false, _&&_}
 use mathlib.Core.List.{List, [], _∷_}
-use Prim.Native.Nat.{ℕ, zero, suc, _+_, _*_, _≤_, _<_}
+use Prim.Native.Nat.{ℕ, zero, suc, _+_, _≤_, _<_}
 use native.Mathlib.Omega.{arith}
-use lib.Dec.{eqb, ltb}
+use lib.Dec.{eqb}
 use lib.ListN.{length, getD, length-replicate, getD-replicate}
 use borrow.Author.Tests.{eqb-true, eqb-false, ne-eqb, lt-ltb, le-ltb}
 use Rattle.alphabet.specs.declared.Alphabet.{Alphabet}
@@ -19,7 +19,7 @@ use Rattle.signal.specs.Signal.{signal, preamble}
 use Rattle.signal.specs.Packing.{longest}
 use Rattle.signal.proofs.Lengths.{baudot-165, baudot-150, edt-100, dtmf-120, four-keys}
 use Rattle.baudot.specs.declared.Sender.{Sender}
-use Rattle.baudot.specs.Sending.{sender, shiftCode, shifted}
+use Rattle.baudot.specs.Sending.{sender, shiftCode}
 use Rattle.access.specs.declared.OnLine.{OnLine}
 use Rattle.access.specs.Rules.{mayEnd}
 use Rattle.access.specs.Line.{onLine, idle, isCode, partMs, isOver, shiftWanted, senderAfterOwn, loaded, codeBegins, nextCode, levelOn, oneGone, closed}
@@ -121,10 +121,6 @@ module _ (mode : Mode) (l : OnLine) where
   pub stays-left : (waiting : ℕ) → isOver mode l ≡ false → closed mode waiting l ≡ l
   unfolding closed
   stays-left waiting e = rw e refl
-
-  pub stays-over : (waiting : ℕ) → mayEnd (isCode l) waiting ≡ false → closed mode waiting l ≡ l
-  unfolding closed
-  stays-over waiting e = rw (e, and-false) refl
 
   pub ends : (waiting : ℕ) → isOver mode l ≡ true → mayEnd (isCode l) waiting ≡ true → closed mode waiting l ≡ idle
   unfolding closed

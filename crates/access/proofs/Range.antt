@@ -27,7 +27,7 @@ use Rattle.access.specs.declared.Loaded.{Loaded}
 use Rattle.access.specs.Rules.{mayBegin, isInhibited, isSilent, mayEnd}
 use Rattle.access.specs.Line.{onLine, idle, inBurst, isCode, partMs, isOver, begun, shiftWanted, senderAfterOwn, loaded, codeBegins, nextCode, oneGone, closed}
 use Rattle.access.specs.Core.{silenceAfter, modeIn, settled, waitingAfter, coreFrom, coreAfter}
-use Rattle.access.specs.Range.{LineIn, SenderIn, SendsIn, CodeIn, CoreIn}
+use Rattle.access.specs.Range.{LineIn, SenderIn, SendsIn, CoreIn}
 
 pub record LoadedIn (mode : Mode) (x : Loaded) : Type 0 where
   pub line-in : LineIn mode (x .line)

@@ -12,7 +12,7 @@ ghost use Prim.Native.Nat.{_≤_, _<_};
 ghost use lib.ListN.{length};
 ghost use Rattle.baudot.specs.Sending.{wanted};
 ghost use Rattle.access.specs.Rules.{mayEnd};
-ghost use Rattle.access.specs.Line.{inBurst, isCode, partMs, isOver, begun, shiftWanted, senderAfterOwn, codeBegins, nextCode, levelOn, oneGone, ended, closed};
+ghost use Rattle.access.specs.Line.{partMs, isOver, begun, shiftWanted, senderAfterOwn, codeBegins, nextCode, levelOn, oneGone, ended, closed};
 ghost use Rattle.access.specs.Range.{LineIn, SenderIn, SendsIn};
 
 const IDLE: u8 = 0;

@@ -31,10 +31,6 @@ unfolding hear prefixAfter keyEvent
 none-counts r x k e = ap (withKey r) e
 
 module _ (k : Keys) (x : ℕ) where
-  quiet-step : k .needed ≡ 0 → x ≡ 0 → keyStep k x ≡ counts (keysAt 0 0 0) 0
-  unfolding keyStep
-  quiet-step n e = rw (n, e) refl
-
   still-step : k .needed ≡ 40 → (x ≡ 0 → ⊥) → keyStep k x ≡ counts (needs 40) 0
   unfolding keyStep
   still-step n e = rw (n, ne-eqb x 0 e) refl

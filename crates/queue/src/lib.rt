@@ -8,7 +8,7 @@ ghost use lib.Dec.{leb};
 ghost use lib.ListN.{length, replicate};
 ghost use lib.Seq.{sets};
 ghost use Rattle.alphabet.specs.declared.Alphabet.the-variants.{Baudot, Dtmf};
-ghost use Rattle.queue.specs.Queue.{waits, waiters, allWait, queue, inRange, offerOf, moved, movedBy};
+ghost use Rattle.queue.specs.Queue.{waits, waiters, allWait, queue, inRange, offerOf, movedBy};
 
 // The most characters that wait.
 pub const MOST: u16 = 256;

@@ -8,13 +8,13 @@ use native.Mathlib.Nat.{mul-zero, mul-suc, add-comm}
 use lib.Dec.{T, eqb, leb, ltb, eqb→eq}
 use borrow.Author.Tests.{leb-true}
 use lib.ListN.{length, getD, replicate, length-replicate, length-append}
-use Rattle.lists.specs.Tables.{tabulate, passes}
+use Rattle.lists.specs.Tables.{passes}
 use Rattle.lists.proofs.Tables.{is-true, tabulate-length, both-left, both-right, passes-at}
 use Rattle.alphabet.specs.Print.{keys}
 use Rattle.alphabet.specs.declared.Mode.{Mode}
 use Rattle.alphabet.specs.declared.Mode.the-variants.{Baudot45, Baudot50, Dtmf, Edt}
 use Rattle.alphabet.specs.Dtmf.{prefixes, keysOf}
-use Rattle.signal.specs.Signal.{levelOf, digits, held, baudotSignal, sum, edtElements, edtSignal, heldKeys, keysSignal, signal}
+use Rattle.signal.specs.Signal.{levelOf, digits, held, baudotSignal, edtElements, edtSignal, heldKeys, keysSignal, signal}
 
 pub digits-length : (n k : ℕ) → length (digits n k) ≡ n
 unfolding digits

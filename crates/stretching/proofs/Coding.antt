@@ -2,10 +2,10 @@
 use mathlib.Core.Path.{_≡_, _∙_, refl, sym, ap, subst}
 use mathlib.Core.Bool.{Bool, true, false, cond, not, _&&_, and-false, false≢true}
 use mathlib.Core.List.{List, [], _∷_, _++_}
-use Prim.Native.Nat.{ℕ, zero, suc, _+_, _-_, _/_, _≤_, _<_}
+use Prim.Native.Nat.{ℕ, zero, suc, _+_, _-_, _/_, _≤_, _<_, min}
 use native.Mathlib.Omega.{arith}
 use lib.Dec.{eqb, leb, ltb}
-use lib.ListN.{length, getD, take, drop, length-append, length-drop, drop-of-length-le}
+use lib.ListN.{length, getD, take, drop, drop-of-length-le}
 use lib.Seq.{sets, length-sets, drop-cons, drop-drop, take-add}
 use borrow.Author.Tests.{leb-true, ltb-true, ltb-false, lt-ltb, le-leb, ne-eqb, eq-eqb, eqb-true, eqb-false}
 use Rattle.lists.specs.Tables.{tabulate}
@@ -20,26 +20,25 @@ use Rattle.alphabet.specs.Normal.{sends, isCode}
 use Rattle.alphabet.specs.Packing.{codes}
 use Rattle.baudot.specs.declared.Sender.{Sender}
 use Rattle.signal.specs.Signal.{signal}
-use Rattle.signal.specs.Packing.{longest}
 use Rattle.signal.proofs.Lengths.{baudot-165, baudot-150, edt-100, dtmf-120, keyCount, key-count}
 use Rattle.line.specs.declared.Reader.{Reader}
 use Rattle.access.specs.declared.Core.{Core}
 use Rattle.access.specs.declared.OnLine.{OnLine}
 use Rattle.access.specs.declared.Loaded.{Loaded}
 use Rattle.access.specs.Rules.{mayBegin, mayEnd}
-use Rattle.access.specs.Line.{onLine, inBurst, partMs, isOver, begun, shiftWanted, codeBegins, nextCode, ended, closed}
+use Rattle.access.specs.Line.{onLine, inBurst, partMs, isOver, shiftWanted, codeBegins, nextCode, ended, closed}
 use Rattle.access.specs.Core.{core, modeIn, settled, waitingAfter}
 use Rattle.access.specs.Range.{SenderIn, SendsIn}
 use Rattle.access.proofs.Laws.{code-ms, code-next}
 use Rattle.access.proofs.Range.{LoadedIn, blank-in, sends-in, begins-in}
+use Rattle.queue.proofs.Moves.{moved-by-at}
 use Rattle.queue.specs.Queue.{waits, allWait, waitingOf, moved, movedBy, inRange as queueIn}
 use Rattle.station.specs.declared.Station.{Station}
-use Rattle.station.specs.Station.{station, charsAfter, queueOf, alphabetOfStation, stationAfter, sentBy, wordsBy}
+use Rattle.station.specs.Station.{station, charsAfter, queueOf, stationAfter, sentBy, wordsBy}
 use Rattle.station.specs.Range.{inRange}
 use Rattle.station.proofs.Range.{station-in, char-in}
 use Rattle.station.proofs.Cuts.{cut}
 use Rattle.station.proofs.Lengths.{sent-length}
-use Rattle.stretching.specs.declared.Stretched.{Stretched}
 use Rattle.stretching.specs.Cores.{silenceFor, deafReader, burstLeft, further, loadedCore, sentFor, codedCore}
 use Rattle.stretching.specs.Stretches.{between, Stretches}
 use Rattle.stretching.proofs.CoreLaws.{silence-full, silence-none, deaf-some, burst-some, few-codes}
@@ -54,39 +53,8 @@ moved-one : (k : ℕ) (chars : List ℕ) → movedBy (k + 1) chars ≡ moved (mo
 unfolding movedBy
 moved-one k chars = let e : k + 1 ≡ suc k = omega arith in ap (λ (m : ℕ). movedBy m chars) e
 
-getD-left : (xs ys : List ℕ) (j : ℕ) → j < length xs → getD (xs ++ ys) j 0 ≡ getD xs j 0
-getD-left [] ys j h = absurd (omega arith)
-getD-left (x ∷ xs) ys zero h = refl
-getD-left (x ∷ xs) ys (suc j) h = getD-left xs ys j (omega arith)
-
-moved-at : (xs : List ℕ) (j : ℕ) → j + 1 < length xs → getD (moved xs) j 0 ≡ getD xs (j + 1) 0
-moved-at [] j h = absurd (omega arith)
-moved-at (x ∷ xs) j h =
-    let e : j + 1 ≡ suc j = omega arith in
-    getD-left xs _ j (omega arith) ∙ sym (ap (λ (m : ℕ). getD (x ∷ xs) m 0) e)
-
-moved-length : (xs : List ℕ) → length (moved xs) ≡ length xs
-moved-length xs =
-    let a = length-append (drop 1 xs) (drop (length (drop 1 xs)) xs) in
-    let b = length-drop 1 xs in
-    let c = length-drop (length (drop 1 xs)) xs in
-    omega arith
-
-pub moved-by-length : (k : ℕ) (chars : List ℕ) → length (movedBy k chars) ≡ length chars
-unfolding movedBy
-moved-by-length zero chars = refl
-moved-by-length (suc k) chars = moved-length (movedBy k chars) ∙ moved-by-length k chars
-
-moved-by-at : (k : ℕ) (chars : List ℕ) (j : ℕ) → j + k < length chars → getD (movedBy k chars) j 0 ≡ getD chars (j + k) 0
-unfolding movedBy
-moved-by-at zero chars j h = let e : j + 0 ≡ j = omega arith in sym (ap (λ (m : ℕ). getD chars m 0) e)
-moved-by-at (suc k) chars j h =
-    let l = moved-by-length k chars in
-    let e : j + 1 + k ≡ j + suc k = omega arith in
-    moved-at (movedBy k chars) j (omega arith) ∙ moved-by-at k chars (j + 1) (omega arith) ∙ ap (λ (m : ℕ). getD chars m 0) e
-
 pub moved-front : (k : ℕ) (chars : List ℕ) → k < length chars → getD (movedBy k chars) 0 0 ≡ getD chars k 0
-moved-front k chars h = let e : 0 + k ≡ k = omega arith in moved-by-at k chars 0 (omega arith) ∙ ap (λ (m : ℕ). getD chars m 0) e
+moved-front k chars h = let e : min (0 + k) (length chars - 1) ≡ k = omega arith in moved-by-at k chars 0 (omega arith) ∙ ap (λ (m : ℕ). getD chars m 0) e
 
 -- each of those that wait is a character that waits
 wait-at : (a : Alphabet) (n : ℕ) (cs : List ℕ) (k : ℕ) → k < n → k < length cs → allWait a (take n cs) ≡ true → waits a (getD cs k 0) ≡ true

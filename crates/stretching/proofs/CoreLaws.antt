@@ -27,7 +27,7 @@ use Rattle.line.specs.Reader.{reader}
 use Rattle.access.specs.declared.Core.{Core}
 use Rattle.access.specs.declared.OnLine.{OnLine}
 use Rattle.access.specs.Rules.{mayBegin, isSilent}
-use Rattle.access.specs.Line.{isCode, inBurst, partMs, isOver}
+use Rattle.access.specs.Line.{isCode, inBurst, partMs}
 use Rattle.access.specs.Core.{silenceAfter}
 use Rattle.access.specs.Range.{LineIn}
 use Rattle.access.proofs.Laws.{within}

@@ -60,10 +60,10 @@ fn stretch(
     requires { ⌜ n + length (now heard) ≤ length (now words) + i ⌝ }
     ensures { λ x. ⌜ Stretches (now (heard .entry)) c (now (chars .entry)) (now (sent .entry)) (now (words .entry)) i n x (now (chars .exit)) (now (sent .exit)) (now (words .exit)) ⌝ }
 {
+    if bursts::follows(c, heard.len() - i) {
+        return bursts::codes(c, chars, heard, i, sent, n);
+    }
     if may_send(c) {
-        if bursts::follows(c, heard.len() - i) {
-            return bursts::codes(c, chars, heard, i, sent, n);
-        }
         return stretches::begin(c, chars, heard, i, sent, words, n);
     }
     if c.inhibited != 0 {

@@ -17,9 +17,6 @@ use Rattle.stretching.proofs.CoreLaws.{sends-not}
 use Rattle.stretching.proofs.stretch.Statement.{statement}
 use Rattle.stretching.proofs.stretch.Tie as tie
 
-may-send-requires : tie.Need-may-send-requires
-may-send-requires c κs = search needs
-
 sub-follows : tie.Need-sub-follows
 sub-follows c = search needs
 
@@ -28,12 +25,12 @@ follows-requires c κs = search needs
 
 codes-requires : tie.Need-codes-requires
 codes-requires c κs =
-    let t = c .before .before .before .before .before .before .before .before .before .before in
+    let t = c .before .before .before .before .before .before .before .before in
     let p = t .pre in
     let over = isOver (modeIn (t .args .c)) (t .args .c .line) in
     let wait = ltb 0 (t .args .c .waiting) in
     let room = leb (longest (modeIn (t .args .c))) (length (t .args .heard .now) - t .args .i) in
-    let e : (over && (wait && room)) ≡ true = sym (c .before .before .before .follows .ensures) ∙ c .before .before .if2 .taken in
+    let e : (over && (wait && room)) ≡ true = sym (c .before .before .before .follows .ensures) ∙ c .before .before .if1 .taken in
     let w = ltb-true 0 (t .args .c .waiting) (and-left wait room (and-right over (wait && room) e)) in
     let r = leb-true (longest (modeIn (t .args .c))) (length (t .args .heard .now) - t .args .i) (and-right wait room (and-right over (wait && room) e)) in
     let h = p .1 .1 .1 .0 in
@@ -47,6 +44,9 @@ same-length-2 c = search needs
 
 returns : tie.Need-returns
 returns c = c .before .before .before .before .codes .ensures _
+
+may-send-requires : tie.Need-may-send-requires
+may-send-requires c κs = search needs
 
 begin-requires : tie.Need-begin-requires
 begin-requires c κs =
@@ -69,11 +69,11 @@ returns-2 c = c .before .before .before .before .before .before .begin .ensures
 
 wait-requires : tie.Need-wait-requires
 wait-requires c κs =
-    let t = c .before .before .before .before .before .before .before .before .before in
+    let t = c .before .before .before .before .before .before .before .before .before .before .before in
     let p = t .pre in
     let s = station-in (station (t .args .c) (t .args .chars .now)) (p .0) in
     let i = c .before .if3 .taken in
-    let m = sends-not (t .args .c) (sym (c .before .before .before .before .may-send .ensures) ∙ c .before .before .before .if1 .left) in
+    let m = sends-not (t .args .c) (sym (c .before .before .before .before .may-send .ensures) ∙ c .before .before .before .if2 .left) in
     (s .core-in, (m .0, (m .1, (omega arith, (p .1 .1 .1 .0, p .1 .1 .1 .1 .0)))))
 
 same-length-6 : tie.Need-same-length-6
@@ -84,10 +84,10 @@ returns-3 c = c .before .before .wait .ensures _ _
 
 listen-requires : tie.Need-listen-requires
 listen-requires c κs =
-    let t = c .before .before .before .before .before .before .before .before .before .before in
+    let t = c .before .before .before .before .before .before .before .before .before .before .before .before in
     let p = t .pre in
     let s = station-in (station (t .args .c) (t .args .chars .now)) (p .0) in
-    let m = sends-not (t .args .c) (sym (c .before .before .before .before .before .may-send .ensures) ∙ c .before .before .before .before .if1 .left) in
+    let m = sends-not (t .args .c) (sym (c .before .before .before .before .before .may-send .ensures) ∙ c .before .before .before .before .if2 .left) in
     (s .core-in, (m .0, (m .1, (c .before .before .if3 .left, p .1 .1))))
 
 same-length-7 : tie.Need-same-length-7
@@ -103,13 +103,13 @@ pub stretch-spec : {M : Type 1} → statement M
 stretch-spec =
     tie.close
     (tie.spec
-    may-send-requires
     sub-follows
     follows-requires
     codes-requires
     same-length
     same-length-2
     returns
+    may-send-requires
     begin-requires
     same-length-3
     same-length-4

@@ -1,5 +1,5 @@
 -- `codes` meets its contract.
-use mathlib.Core.Path.{_≡_, _∙_, refl, sym, ap, subst}
+use mathlib.Core.Path.{_≡_, _∙_, sym, ap, subst}
 use Prim.Native.Nat.{ℕ, _+_, _-_, _≤_, _<_}
 use native.Mathlib.Omega.{arith}
 use lib.ListN.{length, getD}
@@ -21,7 +21,8 @@ use Rattle.access.proofs.Range.{sends-in}
 use Rattle.station.specs.Station.{station}
 use Rattle.station.proofs.Range.{station-in}
 use Rattle.stretching.proofs.CoreLaws.{few-codes}
-use Rattle.stretching.proofs.Coding.{Coded, Goes, goes, Begins, coded-start, char-in-range, q-begins, some-ms, coded-turn, goes-far, coded-stretch, moved-by-length}
+use Rattle.queue.proofs.Moves.{moved-by-length}
+use Rattle.stretching.proofs.Coding.{Coded, Goes, goes, Begins, coded-start, char-in-range, q-begins, some-ms, coded-turn, goes-far, coded-stretch}
 use borrow.Author.Needs.{needs}
 use Rattle.stretching.proofs.bursts.codes.Statement.{statement}
 use Rattle.stretching.proofs.bursts.codes.Tie as tie

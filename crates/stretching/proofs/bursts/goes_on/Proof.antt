@@ -1,5 +1,5 @@
 -- `goes_on` meets its contract.
-use mathlib.Core.Path.{sym, ap, refl}
+use mathlib.Core.Path.{sym, ap}
 use mathlib.Core.Bool.{Bool, _&&_}
 use native.Mathlib.Omega.{arith}
 use lib.Dec.{leb}

@@ -7,7 +7,8 @@ use Rattle.alphabet.specs.declared.Mode.{Mode}
 use Rattle.access.specs.Line.{partMs}
 use Rattle.access.specs.Core.{modeIn}
 use Rattle.queue.specs.Queue.{movedBy}
-use Rattle.stretching.proofs.Coding.{chars-once, moved-by-length}
+use Rattle.queue.proofs.Moves.{moved-by-length}
+use Rattle.stretching.proofs.Coding.{chars-once}
 use Rattle.stretching.proofs.Joining.{loaded-sends, begin-stretch}
 use borrow.Author.Needs.{needs}
 use Rattle.stretching.proofs.stretches.begin.Statement.{statement}

@@ -1,8 +1,8 @@
 -- `listen` meets its contract.
-use mathlib.Core.Path.{_≡_, _∙_, refl, sym, ap}
+use mathlib.Core.Path.{_≡_, _∙_, sym, ap}
 use mathlib.Core.Bool.{true, _&&_}
 use mathlib.Core.List.{List}
-use Prim.Native.Nat.{ℕ, _+_, _-_}
+use Prim.Native.Nat.{ℕ, _-_}
 use native.Mathlib.Omega.{arith}
 use lib.ListN.{length}
 use lib.Seq.{sets}
@@ -12,7 +12,7 @@ use Rattle.access.specs.Core.{modeIn}
 use Rattle.stretching.specs.Cores.{silenceFor, atRest}
 use Rattle.stretching.specs.Stretches.{between}
 use Rattle.stretching.proofs.CoreLaws.{over-quiet}
-use Rattle.stretching.proofs.Resting.{Rests, rests}
+use Rattle.stretching.proofs.Resting.{rests}
 use Rattle.stretching.proofs.Joining.{between-length, listen-stretch}
 use Rattle.stretching.proofs.Laws.{at-most-take}
 use borrow.Author.Needs.{needs}

@@ -1,6 +1,6 @@
 -- `step` meets its contract.
-use mathlib.Core.Path.{_≡_, _∙_, refl, sym, ap, subst}
-use Prim.Native.Nat.{ℕ, _+_, _≤_, _<_}
+use mathlib.Core.Path.{_∙_, refl, sym, ap, subst}
+use Prim.Native.Nat.{ℕ, _+_, _≤_}
 use native.Mathlib.Omega.{arith}
 use lib.ListN.{length, getD}
 use Rattle.access.specs.declared.Loaded.{Loaded}
@@ -8,7 +8,8 @@ use Rattle.access.specs.Core.{modeIn, stepped}
 use Rattle.access.proofs.Range.{LoadedIn, settled-in}
 use Rattle.station.specs.Station.{charsAfter}
 use Rattle.queue.specs.Queue.{movedBy}
-use Rattle.stretching.proofs.Coding.{chars-once, moved-by-length}
+use Rattle.queue.proofs.Moves.{moved-by-length}
+use Rattle.stretching.proofs.Coding.{chars-once}
 use Rattle.stretching.proofs.Joining.{step-stretch}
 use borrow.Author.Needs.{needs}
 use Rattle.stretching.proofs.stretches.step.Statement.{statement}
