@@ -51,6 +51,26 @@ moved-by-at (suc n) xs j h =
     ∙ moved-by-at n xs k (omega arith)
     ∙ ap (λ (m : ℕ). getD xs m 0) f
 
+-- those taken, and then some more
+pub moved-by-more : (m n : ℕ) (xs : List ℕ) → movedBy n (movedBy m xs) ≡ movedBy (m + n) xs
+unfolding movedBy
+moved-by-more m zero xs = let e : m ≡ m + 0 = omega arith in ap (λ (k : ℕ). movedBy k xs) e
+moved-by-more m (suc n) xs = let e : suc (m + n) ≡ m + suc n = omega arith in ap moved (moved-by-more m n xs) ∙ ap (λ (k : ℕ). movedBy k xs) e
+
+-- the character in front after n are taken
+pub front-none : (n : ℕ) (xs : List ℕ) → length xs ≡ 0 → getD (movedBy n xs) 0 0 ≡ 0
+front-none n xs h = none (movedBy n xs) (moved-by-length n xs ∙ h)
+  where
+    none : (ys : List ℕ) → length ys ≡ 0 → getD ys 0 0 ≡ 0
+    none [] e = refl
+    none (y ∷ ys) e = absurd (omega arith)
+
+pub front-last : (n : ℕ) (xs : List ℕ) → 1 ≤ length xs → length xs - 1 < n → getD (movedBy n xs) 0 0 ≡ getD xs (length xs - 1) 0
+front-last n xs o h = let e : min (0 + n) (length xs - 1) ≡ length xs - 1 = omega arith in moved-by-at n xs 0 (omega arith) ∙ ap (λ (k : ℕ). getD xs k 0) e
+
+pub moved-place : (n : ℕ) (xs : List ℕ) (j : ℕ) → n + j < length xs → getD (movedBy n xs) j 0 ≡ getD xs (n + j) 0
+moved-place n xs j h = let e : min (j + n) (length xs - 1) ≡ n + j = omega arith in moved-by-at n xs j (omega arith) ∙ ap (λ (k : ℕ). getD xs k 0) e
+
 module _ (n : ℕ) (xs : List ℕ) where
   abbrev last : ℕ
   last = length xs - 1
@@ -76,24 +96,19 @@ module _ (n : ℕ) (xs : List ℕ) where
   pub slid-start : Slid xs 0
   slid-start = record { size = refl; done = λ j h. absurd (omega arith); ahead = λ j h. refl; end = refl }
 
-  -- a character at a place and at the one behind it, which has moved up already
-  pub slid-turn : 1 ≤ n → (ys : List ℕ) (to k : ℕ) → Slid ys to → k < last → k ≡ to + n
-      → Slid (set (set ys to (getD ys k 0)) (to + 1) (getD ys k 0)) (to + 1)
+  -- one character more
+  pub slid-turn : 1 ≤ n → (ys : List ℕ) (to k : ℕ) → Slid ys to → k < last → k ≡ to + n → Slid (set ys to (getD ys k 0)) (to + 1)
   slid-turn o ys to k s h e =
       let c = getD ys k 0 in
       let l = s .size in
-      let zs = set ys to c in
-      let m = length-set ys to c in
       let f : k ≡ from to = omega arith in
-      let before : (j : ℕ) → j < to → Place (set zs (to + 1) c) j =
-      λ j q. getD-set-other zs (to + 1) j c 0 (omega arith) ∙ getD-set-other ys to j c 0 (omega arith) ∙ s .done j q in
-      let here : Place (set zs (to + 1) c) to =
-      getD-set-other zs (to + 1) to c 0 (omega arith) ∙ getD-set-same ys to c 0 (omega arith) ∙ s .ahead k (omega arith) ∙ (λ i. getD xs (f i) 0) in
+      let before : (j : ℕ) → j < to → Place (set ys to c) j = λ j q. getD-set-other ys to j c 0 (omega arith) ∙ s .done j q in
+      let here : Place (set ys to c) to = getD-set-same ys to c 0 (omega arith) ∙ s .ahead k (omega arith) ∙ (λ i. getD xs (f i) 0) in
       record {
-        size = length-set zs (to + 1) c ∙ m ∙ l;
-        done = one-more (set zs (to + 1) c) to before here;
-        ahead = λ j q. getD-set-other zs (to + 1) j c 0 (omega arith) ∙ getD-set-other ys to j c 0 (omega arith) ∙ s .ahead j (omega arith);
-        end = getD-set-other zs (to + 1) last c 0 (omega arith) ∙ getD-set-other ys to last c 0 (omega arith) ∙ s .end;
+        size = length-set ys to c ∙ l;
+        done = one-more (set ys to c) to before here;
+        ahead = λ j q. getD-set-other ys to j c 0 (omega arith) ∙ s .ahead j (omega arith);
+        end = getD-set-other ys to last c 0 (omega arith) ∙ s .end;
       }
 
   -- those before a place have moved up, and the last place has the last character

@@ -5,7 +5,7 @@ ghost use mathlib.Core.Bool.{_&&_};
 ghost use mathlib.Core.List.{[], _∷_};
 ghost use Prim.Native.Nat.{_+_, _≤_};
 ghost use lib.Dec.{leb};
-ghost use lib.ListN.{length, replicate};
+ghost use lib.ListN.{length, getD, replicate};
 ghost use lib.Seq.{sets};
 ghost use Rattle.alphabet.specs.declared.Alphabet.the-variants.{Baudot, Dtmf};
 ghost use Rattle.queue.specs.Queue.{waits, waiters, allWait, queue, inRange, offerOf, movedBy};
@@ -126,8 +126,22 @@ fn all_wait(a: Alphabet, chars: &[u8]) -> bool
     }
 }
 
-// All move up n places in one pass; the last character stays in the places that are left. Each is stored twice, since of
-// single stores the compiler makes calls of memmove and memset.
+// The character in front after n are taken.
+pub fn front_after(chars: &[u8], n: usize) -> u8
+    ensures { λ r. ⌜ r ≡ getD (movedBy n (now (chars .entry))) 0 0 ⌝ }
+{
+    if chars.len() == 0 {
+        return 0;
+    }
+    let last = chars.len() - 1;
+    if last < n {
+        return chars[last];
+    }
+    chars[n]
+}
+
+// All move up n places in one pass; the last character stays in the places that are left. It is stored twice at each of
+// them, since of single stores the compiler makes a call of memset.
 pub fn move_up_by(chars: &mut [u8], n: usize)
     ensures { λ r. ⌜ now (chars .exit) ≡ movedBy n (now (chars .entry)) ⌝ }
 {
@@ -143,7 +157,6 @@ pub fn move_up_by(chars: &mut [u8], n: usize)
     while from < last {
         let c = chars[from];
         chars[to] = c;
-        chars[to + 1] = c;
         from += 1;
         to += 1;
     }

@@ -3,3 +3,4 @@ pub mod Range
 pub mod Answers
 pub mod Cuts
 pub mod Lengths
+pub mod Takings

@@ -2,7 +2,7 @@
 use mathlib.Core.Path.{_≡_, _∙_, refl, sym, ap, subst}
 use mathlib.Core.Bool.{Bool, true, false, cond, not, _&&_, and-false, false≢true}
 use mathlib.Core.List.{List, [], _∷_, _++_}
-use Prim.Native.Nat.{ℕ, zero, suc, _+_, _-_, _/_, _≤_, _<_, min}
+use Prim.Native.Nat.{ℕ, zero, suc, _+_, _-_, _/_, _≤_, _<_}
 use native.Mathlib.Omega.{arith}
 use lib.Dec.{eqb, leb, ltb}
 use lib.ListN.{length, getD, take, drop, drop-of-length-le}
@@ -31,14 +31,15 @@ use Rattle.access.specs.Core.{core, modeIn, settled, waitingAfter}
 use Rattle.access.specs.Range.{SenderIn, SendsIn}
 use Rattle.access.proofs.Laws.{code-ms, code-next}
 use Rattle.access.proofs.Range.{LoadedIn, blank-in, sends-in, begins-in}
-use Rattle.queue.proofs.Moves.{moved-by-at}
-use Rattle.queue.specs.Queue.{waits, allWait, waitingOf, moved, movedBy, inRange as queueIn}
+use Rattle.queue.proofs.Moves.{moved-place}
+use Rattle.queue.specs.Queue.{waits, allWait, waitingOf, movedBy, inRange as queueIn}
 use Rattle.station.specs.declared.Station.{Station}
 use Rattle.station.specs.Station.{station, charsAfter, queueOf, stationAfter, sentBy, wordsBy}
 use Rattle.station.specs.Range.{inRange}
 use Rattle.station.proofs.Range.{station-in, char-in}
 use Rattle.station.proofs.Cuts.{cut}
 use Rattle.station.proofs.Lengths.{sent-length}
+use Rattle.station.proofs.Takings.{taken-after}
 use Rattle.stretching.specs.Cores.{silenceFor, deafReader, burstLeft, further, loadedCore, sentFor, codedCore}
 use Rattle.stretching.specs.Stretches.{between, Stretches}
 use Rattle.stretching.proofs.CoreLaws.{silence-full, silence-none, deaf-some, burst-some, few-codes}
@@ -47,14 +48,7 @@ use Rattle.stretching.proofs.Joining.{between-length, begin-stretch, se
 use Rattle.stretching.proofs.Elements.{code-levels}
 use Rattle.stretching.proofs.Fold.{after-none, sent-none, words-none}
 
--- ---- the characters after some takings
-
-moved-one : (k : ℕ) (chars : List ℕ) → movedBy (k + 1) chars ≡ moved (movedBy k chars)
-unfolding movedBy
-moved-one k chars = let e : k + 1 ≡ suc k = omega arith in ap (λ (m : ℕ). movedBy m chars) e
-
-pub moved-front : (k : ℕ) (chars : List ℕ) → k < length chars → getD (movedBy k chars) 0 0 ≡ getD chars k 0
-moved-front k chars h = let e : min (0 + k) (length chars - 1) ≡ k = omega arith in moved-by-at k chars 0 (omega arith) ∙ ap (λ (m : ℕ). getD chars m 0) e
+-- ---- the characters that wait
 
 -- each of those that wait is a character that waits
 wait-at : (a : Alphabet) (n : ℕ) (cs : List ℕ) (k : ℕ) → k < n → k < length cs → allWait a (take n cs) ≡ true → waits a (getD cs k 0) ≡ true
@@ -111,14 +105,6 @@ burst-join i m n h = sym (burst-some (burstLeft i m) n h) ∙ burst-some i (m + 
 waiting-join : (waiting taken : ℕ) (takes : Bool) → waitingAfter takes (waiting - taken) ≡ waiting - cond takes (taken + 1) taken
 waiting-join waiting taken true = omega arith
 waiting-join waiting taken false = refl
-
-chars-join : (taken : ℕ) (takes : Bool) (chars : List ℕ) → movedBy (cond takes (taken + 1) taken) chars ≡ charsAfter takes (movedBy taken chars)
-chars-join taken true chars = moved-one taken chars
-chars-join taken false chars = refl
-
-pub chars-once : (takes : Bool) (chars : List ℕ) → movedBy (cond takes (0 + 1) 0) chars ≡ charsAfter takes chars
-unfolding movedBy
-chars-once takes chars = chars-join 0 takes chars
 
 no-length : (l : List ℕ) → length l ≡ 0 → l ≡ []
 no-length [] e = refl
@@ -215,7 +201,7 @@ pub record Coded (heard chars sent₀ : List ℕ) (c : Core) (i : ℕ) (sent₁ 
   pub size : length sent₁ ≡ length sent₀
   pub sender-in : SenderIn s
   pub over : taken < c .waiting → isOver (modeIn c) line ≡ true
-  pub after : station (codedCore c taken s line (at - i)) (movedBy taken chars) ≡ stationAfter (station c chars) (between i at heard)
+  pub after : codedCore c taken s line (at - i) ≡ stationAfter (station c chars) (between i at heard) .core
   pub sent : sent₁ ≡ sets sent₀ i (sentBy (station c chars) (between i at heard))
   pub words : wordsBy (station c chars) (between i at heard) ≡ []
 
@@ -224,7 +210,7 @@ module _ (heard chars sent₀ : List ℕ) (c : Core) (i : ℕ) (within : i ≤ l
   start = station c chars
 
   pub coded-start : SenderIn (c .sender) → c .silence ≤ 300 → isOver (modeIn c) (c .line) ≡ true → Coded heard chars sent₀ c i sent₀ 0 (c .sender) (c .line) i
-  unfolding codedCore movedBy deafReader burstLeft
+  unfolding codedCore deafReader burstLeft
   coded-start j h o =
       let n : between i i heard ≡ [] = let z : i - i ≡ 0 = omega arith in ap (λ (m : ℕ). take m (drop i heard)) z in
       let w : c .waiting - 0 ≡ c .waiting = omega arith in
@@ -238,9 +224,9 @@ module _ (heard chars sent₀ : List ℕ) (c : Core) (i : ℕ) (within : i ≤ l
         size = refl;
         sender-in = j;
         over = λ (x : 0 < c .waiting). o;
-        after = ap (λ (m : ℕ). station (codedCore c 0 (c .sender) (c .line) m) chars) z
-            ∙ (λ k. station (core (w k) (e k) (c .inhibited) (c .line) (c .sender) (c .reader) (c .mode)) chars)
-            ∙ sym (ap (stationAfter start) n ∙ after-none start);
+        after = ap (codedCore c 0 (c .sender) (c .line)) z
+            ∙ (λ k. core (w k) (e k) (c .inhibited) (c .line) (c .sender) (c .reader) (c .mode))
+            ∙ sym (ap (λ (xs : List ℕ). stationAfter start xs .core) n ∙ ap (λ (y : Station). y .core) (after-none start));
         sent = sym (ap (sets sent₀ i) (ap (sentBy start) n ∙ sent-none start));
         words = ap (wordsBy start) n ∙ words-none start;
       }
@@ -274,6 +260,15 @@ module _ (heard chars sent₀ : List ℕ) (c : Core) (i : ℕ) (within : i ≤ l
       abbrev now : Core
       now = codedCore c taken s line (at - i)
 
+      -- the station after the codes so far
+      coded-station : station now (movedBy taken chars) ≡ stationAfter start (between i at heard)
+      unfolding codedCore
+      coded-station =
+          let w = ap (λ (k : Core). k .waiting) (d .after) in
+          let f = d .few in
+          let e : taken ≡ c .waiting - stationAfter start (between i at heard) .core .waiting = omega arith in
+          λ j. station (d .after j) ((ap (λ (k : ℕ). movedBy k chars) e ∙ sym (taken-after start (between i at heard) .moves)) j)
+
       -- the ms in which the code begins starts with it
       q-settled : q ≡ settled now (getD (movedBy taken chars) 0 0)
       unfolding settled codedCore isOver
@@ -282,8 +277,9 @@ module _ (heard chars sent₀ : List ℕ) (c : Core) (i : ℕ) (within : i ≤ l
           let b : inBurst line ≡ true = and-left (inBurst line) (leb (length (partMs (modeIn c) line)) (line .at)) o in
           let m = mayBegin (c .waiting - taken) (silenceFor (c .silence) (at - i)) in
           let t : (m && not (inBurst line)) ≡ false = rw (b, and-false) refl in
+          let same : taken + 0 ≡ taken = omega arith in
           e
-          ∙ sym (ap (λ (x : ℕ). codeBegins a line s (sends a x)) (moved-front taken chars here))
+          ∙ sym (ap (λ (x : ℕ). codeBegins a line s (sends a x)) (moved-place taken chars 0 (omega (arith, here)) ∙ ap (λ (k : ℕ). getD chars k 0) same))
           ∙ sym (code-next (modeIn c) (c .waiting - taken) (getD (movedBy taken chars) 0 0) line s (λ (z : c .waiting - taken ≡ 0). omega arith) o)
           ∙ sym (ap (λ (x : OnLine). nextCode (modeIn c) (c .waiting - taken) (getD (movedBy taken chars) 0 0) x s) (begun-same m line t))
 
@@ -310,14 +306,14 @@ module _ (heard chars sent₀ : List ℕ) (c : Core) (i : ℕ) (within : i ≤ l
             es ∙ ap (sets sent₁ at) (whole-levels (modeIn c) (q .line) (q-begins .at-0) (q-begins .part-2)
             ∙ ap (λ (m : ℕ). tabulate (λ (k : ℕ). getD (signal (modeIn c) (q .line .code)) (q .line .at + k) 0) m 0) n)
 
-        stretch : Stretches heard now (movedBy taken chars) sent₁ [] at 0 (record { core = next; at = at + ms; words = 0 }) chars' sent' []
+        stretch : Stretches heard now (movedBy taken chars) sent₁ [] at 0 (record { core = next; at = at + ms; words = 0 }) sent' []
         unfolding loadedCore codedCore
         stretch =
             let o = some in
             let l = part-length in
             let z = q-begins .at-0 in
             let n : ms ≡ at + ms - at = omega arith in
-            begin-stretch heard now (movedBy taken chars) sent₁ [] at 0 q q-settled more (loadedCore now q) refl chars' refl _ _ _ _
+            begin-stretch heard now (movedBy taken chars) sent₁ [] at 0 q q-settled more (loadedCore now q) refl _ _ _
             (send-stretch heard (loadedCore now q) chars' sent₁ [] at 0 (at + ms) (omega arith) room next (silence-most (c .silence) (at - i))
             (left-burst (modeIn c) (q .line) more) (left-over (modeIn c) (q .line) more) (omega arith)
             (ap (sentFor (loadedCore now q)) n)
@@ -368,7 +364,7 @@ module _ (heard chars sent₀ : List ℕ) (c : Core) (i : ℕ) (within : i ≤ l
             (λ j. codedCore c taken' (q .sender) (line j) (z j))
             ∙ ap (λ (m : ℕ). codedCore c m (q .sender) (closed (modeIn c) (c .waiting - m) (further (q .line) ms)) ((at - i) + ms)) et
             ∙ sym (core-join c taken s _ (at - i) ms q o) in
-            let g : movedBy taken' chars ≡ chars' = ap (λ (m : ℕ). movedBy m chars) et ∙ chars-join taken (q .takes) chars in
+            let b = coded-station in
             let size = between-length heard i at (d .high) in
             let sl = sent-length start xs in
             let sa : at ≡ i + length (sentBy start xs) = omega arith in
@@ -381,9 +377,9 @@ module _ (heard chars sent₀ : List ℕ) (c : Core) (i : ℕ) (within : i ≤ l
               size = ap length es ∙ length-sets sent₁ at (signal (modeIn c) (q .line .code)) ∙ d .size;
               sender-in = q-begins .sender-in;
               over = λ (x : taken' < c .waiting). ap (isOver (modeIn c)) (el ∙ not-ended taken' x) ∙ whole-over;
-              after = (λ j. station (f j) (g j)) ∙ t .after ∙ ap (λ (y : Station). stationAfter y ys) (d .after) ∙ sym (k .station) ∙ sym (ap (stationAfter start) together);
-              sent = t .sent ∙ (λ j. sets (d .sent j) (sa j) (sentBy (d .after j) ys)) ∙ sym (sets-append sent₀ i (sentBy start xs) (sentBy (stationAfter start xs) ys)) ∙ ap (sets sent₀ i) (sym (k .sent) ∙ sym (ap (sentBy start) together));
-              words = ap (wordsBy start) together ∙ k .words ∙ (λ j. d .words j ++ wordsBy (sym (d .after) j) ys) ∙ no-length _ (omega arith);
+              after = f ∙ t .after ∙ ap (λ (y : Station). stationAfter y ys .core) b ∙ sym (ap (λ (y : Station). y .core) (ap (stationAfter start) together ∙ k .station));
+              sent = t .sent ∙ (λ j. sets (d .sent j) (sa j) (sentBy (b j) ys)) ∙ sym (sets-append sent₀ i (sentBy start xs) (sentBy (stationAfter start xs) ys)) ∙ ap (sets sent₀ i) (sym (k .sent) ∙ sym (ap (sentBy start) together));
+              words = ap (wordsBy start) together ∙ k .words ∙ (λ j. d .words j ++ wordsBy (sym b j) ys) ∙ no-length _ (omega arith);
             }
 
   -- a stretch of whole codes
@@ -399,14 +395,14 @@ module _ (heard chars sent₀ : List ℕ) (c : Core) (i : ℕ) (within : i ≤ l
             absurd (false≢true (sym stops ∙ e ∙ (rw (lt-ltb taken (c .waiting) (omega arith), le-leb most (length heard - at) (omega arith)) refl)))
         go false f = let n = eqb-false at i f in let l = d .low in omega (arith, n)
 
-    pub coded-stretch : i < at → (e : Core) → e ≡ codedCore c taken s line (at - i) → (chars₁ : List ℕ) → chars₁ ≡ movedBy taken chars
-        → (n : ℕ) (words : List ℕ) → Stretches heard c chars sent₀ words i n (record { core = e; at = at; words = n }) chars₁ sent₁ words
-    coded-stretch low e ee chars₁ ec n words =
+    pub coded-stretch : i < at → (e : Core) → e ≡ codedCore c taken s line (at - i)
+        → (n : ℕ) (words : List ℕ) → Stretches heard c chars sent₀ words i n (record { core = e; at = at; words = n }) sent₁ words
+    coded-stretch low e ee n words =
         let z = ap length (d .words) in
         record {
           low = low;
           high = d .high;
-          after = (λ j. station (ee j) (ec j)) ∙ d .after;
+          after = ee ∙ d .after;
           sent = d .sent;
           place = omega arith;
           words = sym (ap (sets words n) (d .words));

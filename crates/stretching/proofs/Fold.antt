@@ -1,5 +1,5 @@
 -- A run in stretches: what is left at a place, for the loop that runs them.
-use mathlib.Core.Path.{_≡_, _∙_, refl, sym, ap}
+use mathlib.Core.Path.{_≡_, _∙_, refl, sym, ap, subst}
 use mathlib.Core.Bool.{true}
 use mathlib.Core.List.{List, [], _++_}
 use Prim.Native.Nat.{ℕ, _+_, _-_, _≤_}
@@ -14,6 +14,8 @@ use Rattle.alphabet.specs.declared.Mode.{Mode}
 use Rattle.line.specs.Words.{wordsOf}
 use Rattle.access.specs.declared.Core.{Core}
 use Rattle.access.specs.Core.{modeIn}
+use Rattle.queue.specs.Queue.{movedBy}
+use Rattle.queue.proofs.Moves.{moved-by-more}
 use Rattle.station.specs.declared.Station.{Station}
 use Rattle.station.specs.Station.{station, modeOfStation, stationAfter, sentBy, wordsBy}
 use Rattle.station.specs.Range.{inRange}
@@ -21,6 +23,7 @@ use Rattle.station.specs.Entries.{highestLevel}
 use Rattle.station.proofs.Range.{highest-16, after-full, after-in}
 use Rattle.station.proofs.Cuts.{cut, mode-after}
 use Rattle.station.proofs.Lengths.{sent-length, few-words}
+use Rattle.station.proofs.Takings.{taken-after}
 use Rattle.stretching.specs.declared.Stretched.{Stretched}
 use Rattle.stretching.specs.Stretches.{between, Stretches}
 use Rattle.stretching.proofs.Laws.{at-most-take}
@@ -45,11 +48,16 @@ left-of heard i to h =
     let e : i + (to - i) ≡ to = omega arith in
     sym (take-append-drop (to - i) (drop i heard)) ∙ ap (λ (l : List ℕ). between i to heard ++ l) (drop-drop (to - i) i heard ∙ ap (λ (m : ℕ). drop m heard) e)
 
+-- The characters that wait beside a core, of those that waited beside the core c₀.
+abbrev pub rest : Core → List ℕ → Core → List ℕ
+rest c₀ chars₀ c = movedBy (c₀ .waiting - c .waiting) chars₀
+
 -- The ms heard are run from the core c₀ on; at the place i this is left.
 pub record Left (heard chars₀ sent₀ words₀ : List ℕ) (c₀ : Core) (chars sent₁ words₁ : List ℕ) (c : Core) (i n : ℕ) : Type 0 where
   pub sent-size : length sent₁ ≡ length sent₀
   pub words-size : length words₁ ≡ length words₀
   pub full : length chars ≡ 256
+  pub fewer : c .waiting ≤ c₀ .waiting
   pub within : i ≤ length heard
   pub room : n ≤ i
   pub in-range : inRange (station c chars) ≡ true
@@ -60,29 +68,45 @@ pub record Left (heard chars₀ sent₀ words₀ : List ℕ) (c₀ : Core) (char
   pub words : sets words₁ n (wordsBy (station c chars) (drop i heard)) ≡ sets words₀ 0 (wordsBy (station c₀ chars₀) heard)
 
 module _ (heard chars₀ sent₀ words₀ : List ℕ) (c₀ : Core) where
-  pub left-start : inRange (station c₀ chars₀) ≡ true → length chars₀ ≡ 256 → Left heard chars₀ sent₀ words₀ c₀ chars₀ sent₀ words₀ c₀ 0 0
-  left-start i f = record {
-    sent-size = refl;
-    words-size = refl;
-    full = f;
-    within = omega arith;
-    room = omega arith;
-    in-range = i;
-    mode = refl;
-    after = refl;
-    sent = refl;
-    place = omega arith;
-    words = refl;
-  }
+  pub left-start : inRange (station c₀ chars₀) ≡ true → length chars₀ ≡ 256 → Left heard chars₀ sent₀ words₀ c₀ (rest c₀ chars₀ c₀) sent₀ words₀ c₀ 0 0
+  unfolding movedBy
+  left-start i f =
+      let none : 0 ≡ c₀ .waiting - c₀ .waiting = omega arith in
+      subst (λ (k : ℕ). Left heard chars₀ sent₀ words₀ c₀ (movedBy k chars₀) sent₀ words₀ c₀ 0 0) none (record {
+        sent-size = refl;
+        words-size = refl;
+        full = f;
+        fewer = omega arith;
+        within = omega arith;
+        room = omega arith;
+        in-range = i;
+        mode = refl;
+        after = refl;
+        sent = refl;
+        place = omega arith;
+        words = refl;
+      })
 
-  module _ (chars sent₁ words₁ : List ℕ) (c : Core) (i n : ℕ) (l : Left heard chars₀ sent₀ words₀ c₀ chars sent₁ words₁ c i n) where
+  module _ (sent₁ words₁ : List ℕ) (c : Core) (i n : ℕ) (l : Left heard chars₀ sent₀ words₀ c₀ (rest c₀ chars₀ c) sent₁ words₁ c i n) where
+    abbrev chars : List ℕ
+    chars = rest c₀ chars₀ c
+
     -- one stretch more
     pub left-turn : allAtMost (highestLevel (modeIn c₀)) heard ≡ true
-        → (x : Stretched) (chars' sent' words' : List ℕ) → Stretches heard c chars sent₁ words₁ i n x chars' sent' words'
-        → Left heard chars₀ sent₀ words₀ c₀ chars' sent' words' (x .core) (x .at) (x .words)
-    left-turn levels x chars' sent' words' t =
+        → (x : Stretched) (sent' words' : List ℕ) (k : ℕ) → k ≡ c₀ .waiting - c .waiting → Stretches heard c (movedBy k chars₀) sent₁ words₁ i n x sent' words'
+        → Left heard chars₀ sent₀ words₀ c₀ (rest c₀ chars₀ (x .core)) sent' words' (x .core) (x .at) (x .words)
+    left-turn levels x sent' words' m em given =
+        let t = subst (λ (k : ℕ). Stretches heard c (movedBy k chars₀) sent₁ words₁ i n x sent' words') em given in
         let s = station c chars in
         let xs = between i (x .at) heard in
+        let taken = taken-after s xs in
+        let less = taken .fewer in
+        let before = l .fewer in
+        let same = ap (λ (k : Core). k .waiting) (t .after) in
+        let sum : (c₀ .waiting - c .waiting) + (c .waiting - stationAfter s xs .core .waiting) ≡ c₀ .waiting - x .core .waiting = omega arith in
+        let chars' = rest c₀ chars₀ (x .core) in
+        let moves = taken .moves ∙ moved-by-more _ _ chars₀ ∙ ap (λ (k : ℕ). movedBy k chars₀) sum in
+        let whole : station (x .core) chars' ≡ stationAfter s xs = λ j. station (t .after j) (sym moves j) in
         let ys = drop (x .at) heard in
         let low = t .low in
         let a = left-of heard i (x .at) (omega arith) in
@@ -98,18 +122,19 @@ module _ (heard chars₀ sent₀ words₀ : List ℕ) (c₀ : Core) where
         let sl : length (sentBy s xs) ≡ x .at - i = sent-length s xs ∙ size in
         let sa : x .at ≡ i + length (sentBy s xs) = omega arith in
         let st : sentBy s xs ++ us ≡ sentBy s (drop i heard) =
-        ap (λ (z : Station). sentBy s xs ++ sentBy z ys) (t .after) ∙ sym (k .sent) ∙ sym (ap (sentBy s) a) in
+        ap (λ (z : Station). sentBy s xs ++ sentBy z ys) whole ∙ sym (k .sent) ∙ sym (ap (sentBy s) a) in
         let wt : ws ++ vs ≡ wordsBy s (drop i heard) =
-        ap (λ (z : Station). ws ++ wordsBy z ys) (t .after) ∙ sym (k .words) ∙ sym (ap (wordsBy s) a) in
+        ap (λ (z : Station). ws ++ wordsBy z ys) whole ∙ sym (k .words) ∙ sym (ap (wordsBy s) a) in
         record {
           sent-size = ap length (t .sent) ∙ length-sets sent₁ i (sentBy s xs) ∙ l .sent-size;
           words-size = ap length (t .words) ∙ length-sets words₁ n ws ∙ l .words-size;
-          full = ap (λ (z : Station). length (z .chars)) (t .after) ∙ after-full s xs (l .full);
+          full = ap (λ (z : Station). length (z .chars)) whole ∙ after-full s xs (l .full);
+          fewer = omega arith;
           within = t .high;
           room = omega arith;
-          in-range = ap inRange (t .after) ∙ after-in s xs (l .full) (l .in-range) heights;
-          mode = ap modeOfStation (t .after) ∙ mode-after s xs ∙ l .mode;
-          after = ap (λ (z : Station). stationAfter z ys) (t .after) ∙ sym (k .station) ∙ sym (ap (stationAfter s) a) ∙ l .after;
+          in-range = ap inRange whole ∙ after-in s xs (l .full) (l .in-range) heights;
+          mode = ap modeOfStation whole ∙ mode-after s xs ∙ l .mode;
+          after = ap (λ (z : Station). stationAfter z ys) whole ∙ sym (k .station) ∙ sym (ap (stationAfter s) a) ∙ l .after;
           sent = (λ j. sets (t .sent j) (sa j) us) ∙ sym (sets-append sent₁ i (sentBy s xs) us) ∙ ap (sets sent₁ i) st ∙ l .sent;
           place = ap (λ (m : ℕ). m + length vs) place ∙ add-assoc n (length ws) (length vs) ∙ sym (ap (λ (m : ℕ). n + m) (length-append ws vs)) ∙ ap (λ (z : List ℕ). n + length z) wt ∙ l .place;
           words = (λ j. sets (t .words j) (place j) vs) ∙ sym (sets-append words₁ n ws vs) ∙ ap (sets words₁ n) wt ∙ l .words;

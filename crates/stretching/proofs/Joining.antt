@@ -66,20 +66,19 @@ loaded-sends c given i h l e m d ed =
 module _ (heard : List ℕ) (c : Core) (chars sent words₀ : List ℕ) (i n : ℕ) where
   -- one ms
   module _ (q : Stepped) (h : i < length heard) (e : q ≡ stepped c (settled c (getD chars 0 0)) (getD heard i 0)) where
-    pub step-stretch : (chars' : List ℕ) → chars' ≡ charsAfter (settled c (getD chars 0 0) .takes) chars
-        → (sent' : List ℕ) → sent' ≡ set sent i (q .sent)
+    pub step-stretch : (sent' : List ℕ) → sent' ≡ set sent i (q .sent)
         → (n' : ℕ) → n' ≡ n + length (wordOf (q .event))
         → (words' : List ℕ) → words' ≡ sets words₀ n (wordOf (q .event))
-        → Stretches heard c chars sent words₀ i n (record { core = q .core; at = i + 1; words = n' }) chars' sent' words'
+        → Stretches heard c chars sent words₀ i n (record { core = q .core; at = i + 1; words = n' }) sent' words'
     unfolding stateAfter outputs wordsOf stationMs sentMs eventOf
-    step-stretch chars' ec sent' es n' en words' ew =
+    step-stretch sent' es n' en words' ew =
         let o = between-one heard i h in
         let s = station c chars in
         let w : wordsBy s (between i (i + 1) heard) ≡ wordOf (q .event) = ap (wordsBy s) o ∙ append-nil _ ∙ sym (ap (λ (p : Stepped). wordOf (p .event)) e) in
         record {
           low = omega arith;
           high = omega arith;
-          after = (λ j. station (q .core) (ec j)) ∙ ap (λ (p : Stepped). station (p .core) (charsAfter (settled c (getD chars 0 0) .takes) chars)) e ∙ sym (ap (stationAfter s) o);
+          after = ap (λ (p : Stepped). p .core) e ∙ sym (ap (λ (xs : List ℕ). stationAfter s xs .core) o);
           sent = es ∙ ap (λ (p : Stepped). set sent i (p .sent)) e ∙ sym (ap (λ (xs : List ℕ). sets sent i (sentBy s xs)) o);
           place = en ∙ sym (ap (λ (ws : List ℕ). n + length ws) w);
           words = ew ∙ sym (ap (sets words₀ n) w);
@@ -87,20 +86,20 @@ module _ (heard : List ℕ) (c : Core) (chars sent words₀ : List ℕ) (i n : �
 
   -- what a ms starts with, loaded already
   pub begin-stretch : (l : Loaded) → l ≡ settled c (getD chars 0 0) → l .line .at < length (partMs (modeIn c) (l .line))
-      → (d : Core) → d ≡ loadedCore c l → (chars₁ : List ℕ) → chars₁ ≡ charsAfter (l .takes) chars
-      → (x : Stretched) (chars₂ sent₂ words₂ : List ℕ) → Stretches heard d chars₁ sent words₀ i n x chars₂ sent₂ words₂
-      → Stretches heard c chars sent words₀ i n x chars₂ sent₂ words₂
-  begin-stretch l e m d ed chars₁ ec x chars₂ sent₂ words₂ t =
+      → (d : Core) → d ≡ loadedCore c l
+      → (x : Stretched) (sent₂ words₂ : List ℕ) → Stretches heard d (charsAfter (l .takes) chars) sent words₀ i n x sent₂ words₂
+      → Stretches heard c chars sent words₀ i n x sent₂ words₂
+  begin-stretch l e m d ed x sent₂ words₂ t =
       let xs = between i (x .at) heard in
       let low = t .low in
       let size = between-length heard i (x .at) (t .high) in
-      let s : station d chars₁ ≡ station (loadedCore c l) (charsAfter (l .takes) chars) = λ j. station (ed j) (ec j) in
+      let s : station d (charsAfter (l .takes) chars) ≡ station (loadedCore c l) (charsAfter (l .takes) chars) = ap (λ (k : Core). station k (charsAfter (l .takes) chars)) ed in
       let a = loaded-alike c chars l e (left-burst (modeIn c) (l .line) m) (left-over (modeIn c) (l .line) m) xs (omega arith) in
-      let w : wordsBy (station d chars₁) xs ≡ wordsBy (station c chars) xs = ap (λ (z : Station). wordsBy z xs) s ∙ sym (a .words) in
+      let w : wordsBy (station d (charsAfter (l .takes) chars)) xs ≡ wordsBy (station c chars) xs = ap (λ (z : Station). wordsBy z xs) s ∙ sym (a .words) in
       record {
         low = low;
         high = t .high;
-        after = t .after ∙ ap (λ (z : Station). stationAfter z xs) s ∙ sym (a .after);
+        after = t .after ∙ ap (λ (z : Station). stationAfter z xs .core) s ∙ sym (ap (λ (z : Station). z .core) (a .after));
         sent = t .sent ∙ ap (sets sent i) (ap (λ (z : Station). sentBy z xs) s ∙ sym (a .sent));
         place = t .place ∙ ap (λ (ws : List ℕ). n + length ws) w;
         words = t .words ∙ ap (sets words₀ n) w;
@@ -109,14 +108,14 @@ module _ (heard : List ℕ) (c : Core) (chars sent words₀ : List ℕ) (i n : �
   -- ms that go alike
   walk-stretch : (to : ℕ) → i < to → to ≤ length heard → (d : Core) (levels : ℕ → ℕ) → Walk (station c chars) (between i to heard) (station d chars) levels
       → (sent' : List ℕ) → sent' ≡ sets sent i (tabulate levels (to - i) 0)
-      → Stretches heard c chars sent words₀ i n (record { core = d; at = to; words = n }) chars sent' words₀
+      → Stretches heard c chars sent words₀ i n (record { core = d; at = to; words = n }) sent' words₀
   walk-stretch to low high d levels w sent' es =
       let l = between-length heard i to high in
       let z = ap length (w .words) in
       record {
         low = low;
         high = high;
-        after = sym (w .after);
+        after = sym (ap (λ (z : Station). z .core) (w .after));
         sent = es ∙ sym (ap (sets sent i) (w .sent ∙ ap (λ (m : ℕ). tabulate levels m 0) l));
         place = omega arith;
         words = sym (ap (sets words₀ n) (w .words));
@@ -125,7 +124,7 @@ module _ (heard : List ℕ) (c : Core) (chars sent words₀ : List ℕ) (i n : �
   module _ (to : ℕ) (low : i < to) (high : to ≤ length heard) (d : Core) (s : c .silence ≤ 300) where
     pub send-stretch : inBurst (c .line) ≡ true → isOver (modeIn c) (c .line) ≡ false → c .line .at + (to - i) ≤ length (partMs (modeIn c) (c .line))
         → d ≡ sentFor c (to - i) → (sent' : List ℕ) → sent' ≡ sets sent i (tabulate (partLevel (modeIn c) (c .line)) (to - i) 0)
-        → Stretches heard c chars sent words₀ i n (record { core = d; at = to; words = n }) chars sent' words₀
+        → Stretches heard c chars sent words₀ i n (record { core = d; at = to; words = n }) sent' words₀
     send-stretch b f few e sent' es =
         let l = between-length heard i to high in
         let w = walk-to (part-walk c chars b (between i to heard) (omega arith) s f) (ap (sentFor c) l ∙ sym e) in
@@ -133,7 +132,7 @@ module _ (heard : List ℕ) (c : Core) (chars sent words₀ : List ℕ) (i n : �
 
     pub wait-stretch : c .line .part ≡ 0 → to ≤ i + c .inhibited → (1 ≤ c .waiting → c .silence + (to - i) ≤ 300) → d ≡ deafFor c (to - i)
         → (sent' : List ℕ) → sent' ≡ sets sent i (replicate (to - i) 0)
-        → Stretches heard c chars sent words₀ i n (record { core = d; at = to; words = n }) chars sent' words₀
+        → Stretches heard c chars sent words₀ i n (record { core = d; at = to; words = n }) sent' words₀
     wait-stretch p few free e sent' es =
         let l = between-length heard i to high in
         let xs = between i to heard in
@@ -147,7 +146,7 @@ module _ (heard : List ℕ) (c : Core) (chars sent words₀ : List ℕ) (i n : �
         → (sent' : List ℕ) → sent' ≡ sets sent i (replicate (to - i) 0)
         → (n' : ℕ) → n' ≡ n + length (words (modeIn c) (c .reader) (between i to heard))
         → (words' : List ℕ) → words' ≡ sets words₀ n (words (modeIn c) (c .reader) (between i to heard))
-        → Stretches heard c chars sent words₀ i n (record { core = d; at = to; words = n' }) chars sent' words'
+        → Stretches heard c chars sent words₀ i n (record { core = d; at = to; words = n' }) sent' words'
     unfolding listened
     listen-stretch p z free silence eq r er e sent' es n' en words' ew =
         let l = between-length heard i to high in
@@ -157,7 +156,7 @@ module _ (heard : List ℕ) (c : Core) (chars sent words₀ : List ℕ) (i n : �
         record {
           low = low;
           high = high;
-          after = ap (λ (k : Core). station k chars) f ∙ sym (o .after);
+          after = f ∙ sym (ap (λ (z : Station). z .core) (o .after));
           sent = es ∙ sym (ap (sets sent i) (o .sent ∙ ap (λ (m : ℕ). replicate m 0) l));
           place = en ∙ sym (ap (λ (ws : List ℕ). n + length ws) (o .words));
           words = ew ∙ sym (ap (sets words₀ n) (o .words));

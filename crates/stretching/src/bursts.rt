@@ -17,6 +17,7 @@ ghost use lib.ListN.{length};
 ghost use Rattle.signal.specs.Packing.{longest};
 ghost use Rattle.access.specs.Line.{isOver};
 ghost use Rattle.access.specs.Core.{modeIn};
+ghost use Rattle.queue.specs.Queue.{movedBy};
 ghost use Rattle.station.specs.Station.{station};
 ghost use Rattle.station.specs.Range.{inRange};
 ghost use Rattle.stretching.specs.Stretches.{Stretches};
@@ -56,7 +57,7 @@ pub fn follows(c: Core, room: usize) -> bool
 }
 
 // How many are taken.
-pub fn taken_after(takes: bool, taken: usize) -> usize
+fn taken_after(takes: bool, taken: usize) -> usize
     requires { ⌜ taken ≤ 256 ⌝ }
     ensures { λ r. ⌜ r ≡ cond takes (taken + 1) taken ⌝ }
 {
@@ -66,22 +67,24 @@ pub fn taken_after(takes: bool, taken: usize) -> usize
     taken
 }
 
-// Whole codes, as long as characters wait and any code has room. The characters that they take go from the queue in the end.
+// Whole codes, as long as characters wait and any code has room. The front character stands at a place of those lent.
 pub fn codes(
     c: Core,
-    chars: &mut [u8],
+    chars: &[u8],
+    from: usize,
     heard: &[u8],
     i: usize,
     sent: &mut [u8],
     n: usize,
 ) -> Stretched
-    requires { ⌜ inRange (station c (now chars)) ≡ true ⌝ }
+    requires { ⌜ inRange (station c (movedBy from (now chars))) ≡ true ⌝ }
     requires { ⌜ length (now chars) ≡ 256 ⌝ }
+    requires { ⌜ from + c .waiting ≤ 256 ⌝ }
     requires { ⌜ isOver (modeIn c) (c .line) ≡ true ⌝ }
     requires { ⌜ 1 ≤ c .waiting ⌝ }
     requires { ⌜ i + longest (modeIn c) ≤ length (now heard) ⌝ }
     requires { ⌜ length (now heard) ≤ length (now sent) ⌝ }
-    ensures { λ x. ⌜ ((words : List ℕ) → Stretches (now (heard .entry)) c (now (chars .entry)) (now (sent .entry)) words i n x (now (chars .exit)) (now (sent .exit)) words) ⌝ }
+    ensures { λ x. ⌜ ((words : List ℕ) → Stretches (now (heard .entry)) c (movedBy from (now (chars .entry))) (now (sent .entry)) words i n x (now (sent .exit)) words) ⌝ }
 {
     let mode = Mode::of(c.mode);
     let a = mode.alphabet();
@@ -93,7 +96,7 @@ pub fn codes(
     let mut line = c.line;
     let mut at = i;
     while goes_on(taken, waiting, most, heard.len() - at) {
-        let sends = alphabet::table::lookup_in(&table, a, Char(chars[taken]));
+        let sends = alphabet::table::lookup_in(&table, a, Char(chars[from + taken]));
         let l = sending::code_begins(a, line, sender, sends);
         let begins = l.line;
         levels::put_whole(mode, begins.code, sent, at);
@@ -108,7 +111,6 @@ pub fn codes(
         line = sending::ended(true, (waiting - taken) as u16, over);
         at += ms as usize;
     }
-    queue::move_up_by(chars, taken);
     Stretched {
         core: cores::coded(c, taken, sender, line, at - i),
         at,

@@ -2,13 +2,14 @@
 use access::Core;
 ghost use mathlib.Core.Path.{_≡_};
 ghost use mathlib.Core.Bool.{true, _||_};
-ghost use Prim.Native.Nat.{_+_, _≤_, _<_};
+ghost use Prim.Native.Nat.{_+_, _-_, _≤_, _<_};
 ghost use lib.ListN.{length};
 ghost use lib.Seq.{sets};
 ghost use Rattle.lists.specs.Lists.{allAtMost};
 ghost use Rattle.access.specs.Rules.{mayBegin};
 ghost use Rattle.access.specs.Line.{inBurst};
 ghost use Rattle.access.specs.Core.{modeIn};
+ghost use Rattle.queue.specs.Queue.{movedBy};
 ghost use Rattle.station.specs.Station.{station, stationAfter, sentBy, wordsBy};
 ghost use Rattle.station.specs.Range.{inRange};
 ghost use Rattle.station.specs.Entries.{highestLevel};
@@ -42,29 +43,33 @@ fn may_send(c: Core) -> bool
     access::may_begin(c.waiting, c.silence)
 }
 
-// The next stretch: whole codes; the ms of a part; inhibited ms; ms that the receiver hears.
+// The next stretch: whole codes; the ms of a part; inhibited ms; ms that the receiver hears. Of the characters so many are
+// taken already.
 fn stretch(
     c: Core,
-    chars: &mut [u8],
+    chars: &[u8],
+    taken: usize,
     heard: &[u8],
     i: usize,
     sent: &mut [u8],
     words: &mut [u32],
     n: usize,
 ) -> Stretched
-    requires { ⌜ inRange (station c (now chars)) ≡ true ⌝ }
+    requires { ⌜ inRange (station c (movedBy taken (now chars))) ≡ true ⌝ }
     requires { ⌜ length (now chars) ≡ 256 ⌝ }
+    requires { ⌜ taken + c .waiting ≤ 256 ⌝ }
     requires { ⌜ allAtMost 16 (now heard) ≡ true ⌝ }
     requires { ⌜ i < length (now heard) ⌝ }
     requires { ⌜ length (now heard) ≤ length (now sent) ⌝ }
     requires { ⌜ n + length (now heard) ≤ length (now words) + i ⌝ }
-    ensures { λ x. ⌜ Stretches (now (heard .entry)) c (now (chars .entry)) (now (sent .entry)) (now (words .entry)) i n x (now (chars .exit)) (now (sent .exit)) (now (words .exit)) ⌝ }
+    ensures { λ x. ⌜ Stretches (now (heard .entry)) c (movedBy taken (now (chars .entry))) (now (sent .entry)) (now (words .entry)) i n x (now (sent .exit)) (now (words .exit)) ⌝ }
 {
     if bursts::follows(c, heard.len() - i) {
-        return bursts::codes(c, chars, heard, i, sent, n);
+        return bursts::codes(c, chars, taken, heard, i, sent, n);
     }
     if may_send(c) {
-        return stretches::begin(c, chars, heard, i, sent, words, n);
+        let front = queue::front_after(chars, taken);
+        return stretches::begin(c, front, heard, i, sent, words, n);
     }
     if c.inhibited != 0 {
         return stretches::wait(c, heard, i, sent, n);
@@ -72,7 +77,15 @@ fn stretch(
     stretches::listen(c, heard, i, sent, words, n)
 }
 
-// The ms of a run, one after the other.
+// How many characters are taken between two cores of a run: as many as fewer wait.
+fn taken_since(first: Core, c: Core) -> usize
+    requires { ⌜ c .waiting ≤ first .waiting ⌝ }
+    ensures { λ r. ⌜ r ≡ first .waiting - c .waiting ⌝ }
+{
+    (first.waiting - c.waiting) as usize
+}
+
+// The ms of a run, one after the other. The characters that are taken go from the queue in the end.
 pub fn run_all(c: Core, chars: &mut [u8], heard: &[u8], sent: &mut [u8], words: &mut [u32]) -> Ended
     requires { ⌜ inRange (station c (now chars)) ≡ true ⌝ }
     requires { ⌜ length (now chars) ≡ 256 ⌝ }
@@ -89,10 +102,12 @@ pub fn run_all(c: Core, chars: &mut [u8], heard: &[u8], sent: &mut [u8], words: 
     let mut i: usize = 0;
     let mut n: usize = 0;
     while i < heard.len() {
-        let x = stretch(core, chars, heard, i, sent, words, n);
+        let taken = taken_since(c, core);
+        let x = stretch(core, chars, taken, heard, i, sent, words, n);
         core = x.core;
         i = x.at;
         n = x.words;
     }
+    queue::move_up_by(chars, taken_since(c, core));
     Ended { core, words: n }
 }

@@ -1,6 +1,5 @@
 // The stretches of a run.
 use crate::Stretched;
-use crate::bursts;
 use crate::cores;
 use crate::levels;
 use access::Core;
@@ -11,13 +10,12 @@ ghost use mathlib.Core.Path.{_≡_};
 ghost use mathlib.Core.Bool.{true, false};
 ghost use mathlib.Core.List.{List};
 ghost use Prim.Native.Nat.{ℕ, _+_, _≤_, _<_};
-ghost use lib.ListN.{length};
+ghost use lib.ListN.{length, getD};
 ghost use Rattle.lists.specs.Lists.{allAtMost};
 ghost use Rattle.access.specs.Rules.{mayBegin};
 ghost use Rattle.access.specs.Line.{partMs};
 ghost use Rattle.access.specs.Core.{modeIn, settled};
-ghost use Rattle.access.specs.Range.{CoreIn};
-ghost use Rattle.station.specs.Station.{station, front};
+ghost use Rattle.access.specs.Range.{LineIn, CoreIn};
 ghost use Rattle.stretching.specs.Stretches.{Ends, Free, Stretches};
 
 // Where a stretch of at most so many ms ends.
@@ -49,7 +47,6 @@ fn free_end(waiting: u16, silence: u16, i: usize, len: usize) -> usize
 fn step(
     c: Core,
     l: Loaded,
-    chars: &mut [u8],
     heard: &[u8],
     i: usize,
     sent: &mut [u8],
@@ -57,16 +54,13 @@ fn step(
     n: usize,
 ) -> Stretched
     requires { ⌜ CoreIn c ⌝ }
-    requires { ⌜ length (now chars) ≡ 256 ⌝ }
-    requires { ⌜ (1 ≤ c .waiting → front (station c (now chars)) < 128) ⌝ }
-    requires { ⌜ l ≡ settled c (front (station c (now chars))) ⌝ }
+    requires { ⌜ LineIn (modeIn c) (l .line) ⌝ }
     requires { ⌜ i < length (now heard) ⌝ }
     requires { ⌜ i < length (now sent) ⌝ }
     requires { ⌜ n < length (now words) ⌝ }
-    ensures { λ x. ⌜ Stretches (now (heard .entry)) c (now (chars .entry)) (now (sent .entry)) (now (words .entry)) i n x (now (chars .exit)) (now (sent .exit)) (now (words .exit)) ⌝ }
+    ensures { λ x. ⌜ ((chars : List ℕ) → l ≡ settled c (getD chars 0 0) → Stretches (now (heard .entry)) c chars (now (sent .entry)) (now (words .entry)) i n x (now (sent .exit)) (now (words .exit))) ⌝ }
 {
     let x = access::step(c, l, heard[i]);
-    queue::move_up_by(chars, bursts::taken_after(l.takes, 0));
     sent[i] = x.sent;
     let event = x.event;
     let words_end = line::words::put_word(words, n, event);
@@ -94,7 +88,7 @@ fn send(
     requires { ⌜ c .line .at + left ≡ length (partMs (modeIn c) (c .line)) ⌝ }
     requires { ⌜ i < length (now heard) ⌝ }
     requires { ⌜ length (now heard) ≤ length (now sent) ⌝ }
-    ensures { λ x. ⌜ ((chars words : List ℕ) → Stretches (now (heard .entry)) c chars (now (sent .entry)) words i n x chars (now (sent .exit)) words) ⌝ }
+    ensures { λ x. ⌜ ((chars words : List ℕ) → Stretches (now (heard .entry)) c chars (now (sent .entry)) words i n x (now (sent .exit)) words) ⌝ }
 {
     let l = c.line;
     let to = end_of(i, left, heard.len());
@@ -110,7 +104,7 @@ fn send(
 // Sending is settled, and the ms of what is then on the line are sent; one ms if it has none.
 pub fn begin(
     c: Core,
-    chars: &mut [u8],
+    front: u8,
     heard: &[u8],
     i: usize,
     sent: &mut [u8],
@@ -118,21 +112,19 @@ pub fn begin(
     n: usize,
 ) -> Stretched
     requires { ⌜ CoreIn c ⌝ }
-    requires { ⌜ length (now chars) ≡ 256 ⌝ }
-    requires { ⌜ (1 ≤ c .waiting → front (station c (now chars)) < 128) ⌝ }
+    requires { ⌜ (1 ≤ c .waiting → front < 128) ⌝ }
     requires { ⌜ i < length (now heard) ⌝ }
     requires { ⌜ length (now heard) ≤ length (now sent) ⌝ }
     requires { ⌜ n < length (now words) ⌝ }
-    ensures { λ x. ⌜ Stretches (now (heard .entry)) c (now (chars .entry)) (now (sent .entry)) (now (words .entry)) i n x (now (chars .exit)) (now (sent .exit)) (now (words .exit)) ⌝ }
+    ensures { λ x. ⌜ ((chars : List ℕ) → getD chars 0 0 ≡ front → Stretches (now (heard .entry)) c chars (now (sent .entry)) (now (words .entry)) i n x (now (sent .exit)) (now (words .exit))) ⌝ }
 {
-    let l = access::settle(c, chars[0]);
+    let l = access::settle(c, front);
     let line = l.line;
     let mode = Mode::of(c.mode);
     let ms = sending::part_ms(mode, line);
     if ms <= line.at {
-        return step(c, l, chars, heard, i, sent, words, n);
+        return step(c, l, heard, i, sent, words, n);
     }
-    queue::move_up_by(chars, bursts::taken_after(l.takes, 0));
     let core = cores::loaded(c, l);
     send(core, mode, (ms - line.at) as usize, heard, i, sent, n)
 }
@@ -145,7 +137,7 @@ pub fn wait(c: Core, heard: &[u8], i: usize, sent: &mut [u8], n: usize) -> Stret
     requires { ⌜ 1 ≤ c .inhibited ⌝ }
     requires { ⌜ i < length (now heard) ⌝ }
     requires { ⌜ length (now heard) ≤ length (now sent) ⌝ }
-    ensures { λ x. ⌜ ((chars words : List ℕ) → Stretches (now (heard .entry)) c chars (now (sent .entry)) words i n x chars (now (sent .exit)) words) ⌝ }
+    ensures { λ x. ⌜ ((chars words : List ℕ) → Stretches (now (heard .entry)) c chars (now (sent .entry)) words i n x (now (sent .exit)) words) ⌝ }
 {
     let free = free_end(c.waiting, c.silence, i, heard.len());
     let to = end_of(i, c.inhibited as usize, free);
@@ -174,7 +166,7 @@ pub fn listen(
     requires { ⌜ i < length (now heard) ⌝ }
     requires { ⌜ length (now heard) ≤ length (now sent) ⌝ }
     requires { ⌜ n + length (now heard) ≤ length (now words) + i ⌝ }
-    ensures { λ x. ⌜ ((chars : List ℕ) → Stretches (now (heard .entry)) c chars (now (sent .entry)) (now (words .entry)) i n x chars (now (sent .exit)) (now (words .exit))) ⌝ }
+    ensures { λ x. ⌜ ((chars : List ℕ) → Stretches (now (heard .entry)) c chars (now (sent .entry)) (now (words .entry)) i n x (now (sent .exit)) (now (words .exit))) ⌝ }
 {
     let to = free_end(c.waiting, c.silence, i, heard.len());
     levels::fill(sent, i, to, 0);

@@ -49,18 +49,6 @@ slice-write-chars c =
     let e = v .1 .0 in
     omega arith
 
-add-chars : tie.Need-add-chars Inv-loop μ-loop Inv-loop2 μ-loop2
-add-chars c = search needs
-
-slice-write-chars-2 : tie.Need-slice-write-chars-2 Inv-loop μ-loop Inv-loop2 μ-loop2
-slice-write-chars-2 c =
-    let v = c .before .before .loop .inv in
-    let s = v .0 .size in
-    let t = c .before .loop-test .taken in
-    let e = v .1 .0 in
-    let o = v .1 .1 .1 in
-    simp length-set (omega arith)
-
 add-from : tie.Need-add-from Inv-loop μ-loop Inv-loop2 μ-loop2
 add-from c = search needs
 
@@ -86,17 +74,17 @@ slice-read-c-2 c =
 loop2-holds : tie.Need-loop2-holds Inv-loop μ-loop Inv-loop2 μ-loop2
 loop2-holds c = filling-start _ _ _ _ _
 
-slice-write-chars-3 : tie.Need-slice-write-chars-3 Inv-loop μ-loop Inv-loop2 μ-loop2
-slice-write-chars-3 c =
+slice-write-chars-2 : tie.Need-slice-write-chars-2 Inv-loop μ-loop Inv-loop2 μ-loop2
+slice-write-chars-2 c =
     let f = c .before .loop2 .inv .size in
     let e = c .before .before .before .before .loop .inv .0 .size in
     omega (arith, c .loop2-test .taken)
 
-add-chars-2 : tie.Need-add-chars-2 Inv-loop μ-loop Inv-loop2 μ-loop2
-add-chars-2 c = search needs
+add-chars : tie.Need-add-chars Inv-loop μ-loop Inv-loop2 μ-loop2
+add-chars c = search needs
 
-slice-write-chars-4 : tie.Need-slice-write-chars-4 Inv-loop μ-loop Inv-loop2 μ-loop2
-slice-write-chars-4 c =
+slice-write-chars-3 : tie.Need-slice-write-chars-3 Inv-loop μ-loop Inv-loop2 μ-loop2
+slice-write-chars-3 c =
     let f = c .before .loop2 .inv .size in
     let e = c .before .before .before .before .loop .inv .0 .size in
     let t = c .loop2-test .taken in
@@ -135,17 +123,15 @@ move-up-by-spec =
     loop-holds
     slice-read-c
     slice-write-chars
-    add-chars
-    slice-write-chars-2
     add-from
     add-to
     loop-less
     loop-again
     slice-read-c-2
     loop2-holds
+    slice-write-chars-2
+    add-chars
     slice-write-chars-3
-    add-chars-2
-    slice-write-chars-4
     add-to-2
     loop2-less
     loop2-again

@@ -1,7 +1,7 @@
 -- `stretch` meets its contract.
 use mathlib.Core.Path.{_≡_, _∙_, sym}
 use mathlib.Core.Bool.{true, _&&_}
-use Prim.Native.Nat.{_-_}
+use Prim.Native.Nat.{_-_, _≤_}
 use native.Mathlib.Omega.{arith}
 use lib.Dec.{leb, ltb}
 use lib.ListN.{length}
@@ -11,11 +11,21 @@ use Rattle.lists.proofs.Lists.{and-left, and-right}
 use Rattle.signal.specs.Packing.{longest}
 use Rattle.access.specs.Line.{isOver}
 use Rattle.access.specs.Core.{modeIn}
+use Rattle.access.specs.Range.{CoreIn}
+use Rattle.queue.specs.Queue.{movedBy}
+use Rattle.queue.proofs.Moves.{moved-by-length}
+use Rattle.station.specs.declared.Station.{Station}
 use Rattle.station.specs.Station.{station}
 use Rattle.station.proofs.Range.{station-in, front-in}
 use Rattle.stretching.proofs.CoreLaws.{sends-not}
 use Rattle.stretching.proofs.stretch.Statement.{statement}
 use Rattle.stretching.proofs.stretch.Tie as tie
+
+abbrev now : tie.Start → Station
+now c = station (c .args .c) (movedBy (c .args .taken) (c .args .chars .now))
+
+core-in : (c : tie.Start) → CoreIn (c .args .c)
+core-in c = station-in (now c) (c .pre .0) .core-in
 
 sub-follows : tie.Need-sub-follows
 sub-follows c = search needs
@@ -25,59 +35,57 @@ follows-requires c κs = search needs
 
 codes-requires : tie.Need-codes-requires
 codes-requires c κs =
-    let t = c .before .before .before .before .before .before .before .before in
+    let t = c .before .before .before .before .before .before .before in
     let p = t .pre in
+    let q = p .1 .1 .1 in
     let over = isOver (modeIn (t .args .c)) (t .args .c .line) in
     let wait = ltb 0 (t .args .c .waiting) in
     let room = leb (longest (modeIn (t .args .c))) (length (t .args .heard .now) - t .args .i) in
-    let e : (over && (wait && room)) ≡ true = sym (c .before .before .before .follows .ensures) ∙ c .before .before .if1 .taken in
+    let e : (over && (wait && room)) ≡ true = sym (c .before .before .follows .ensures) ∙ c .before .if1 .taken in
     let w = ltb-true 0 (t .args .c .waiting) (and-left wait room (and-right over (wait && room) e)) in
     let r = leb-true (longest (modeIn (t .args .c))) (length (t .args .heard .now) - t .args .i) (and-right wait room (and-right over (wait && room) e)) in
-    let h = p .1 .1 .1 .0 in
-    (p .0, (p .1 .0, (and-left over (wait && room) e, (omega arith, (omega arith, p .1 .1 .1 .1 .0)))))
+    let h = q .1 .0 in
+    (p .0, (p .1 .0, (p .1 .1 .0, (and-left over (wait && room) e, (omega arith, (omega arith, q .1 .1 .0))))))
 
 same-length : tie.Need-same-length
 same-length c = search needs
 
-same-length-2 : tie.Need-same-length-2
-same-length-2 c = search needs
-
 returns : tie.Need-returns
-returns c = c .before .before .before .before .codes .ensures _
+returns c = c .before .before .codes .ensures _
 
 may-send-requires : tie.Need-may-send-requires
 may-send-requires c κs = search needs
+
+front-after-requires : tie.Need-front-after-requires
+front-after-requires c κs = search needs
 
 begin-requires : tie.Need-begin-requires
 begin-requires c κs =
     let t = c .before .before .before .before .before .before .before .before .before .before .before in
     let p = t .pre in
-    let s = station-in (station (t .args .c) (t .args .chars .now)) (p .0) in
-    (s .core-in, (p .1 .0, (front-in (station (t .args .c) (t .args .chars .now)) (p .1 .0) (p .0), (p .1 .1 .1 .0, (p .1 .1 .1 .1 .0, omega arith)))))
+    let q = p .1 .1 .1 in
+    let f = front-in (now t) (moved-by-length (t .args .taken) (t .args .chars .now) ∙ p .1 .0) (p .0) in
+    (core-in t, ((λ (w : 1 ≤ t .args .c .waiting). let b = f w in let e = c .before .before .front-after .ensures in omega arith), (q .1 .0, (q .1 .1 .0, omega arith))))
+
+same-length-2 : tie.Need-same-length-2
+same-length-2 c = search needs
 
 same-length-3 : tie.Need-same-length-3
 same-length-3 c = search needs
 
-same-length-4 : tie.Need-same-length-4
-same-length-4 c = search needs
-
-same-length-5 : tie.Need-same-length-5
-same-length-5 c = search needs
-
 returns-2 : tie.Need-returns-2
-returns-2 c = c .before .before .before .before .before .before .begin .ensures
+returns-2 c = c .before .before .before .before .begin .ensures _ (sym (c .before .before .before .before .before .before .before .front-after .ensures))
 
 wait-requires : tie.Need-wait-requires
 wait-requires c κs =
     let t = c .before .before .before .before .before .before .before .before .before .before .before in
-    let p = t .pre in
-    let s = station-in (station (t .args .c) (t .args .chars .now)) (p .0) in
+    let q = t .pre .1 .1 .1 in
     let i = c .before .if3 .taken in
     let m = sends-not (t .args .c) (sym (c .before .before .before .before .may-send .ensures) ∙ c .before .before .before .if2 .left) in
-    (s .core-in, (m .0, (m .1, (omega arith, (p .1 .1 .1 .0, p .1 .1 .1 .1 .0)))))
+    (core-in t, (m .0, (m .1, (omega arith, (q .1 .0, q .1 .1 .0)))))
 
-same-length-6 : tie.Need-same-length-6
-same-length-6 c = search needs
+same-length-4 : tie.Need-same-length-4
+same-length-4 c = search needs
 
 returns-3 : tie.Need-returns-3
 returns-3 c = c .before .before .wait .ensures _ _
@@ -85,16 +93,14 @@ returns-3 c = c .before .before .wait .ensures _ _
 listen-requires : tie.Need-listen-requires
 listen-requires c κs =
     let t = c .before .before .before .before .before .before .before .before .before .before .before .before in
-    let p = t .pre in
-    let s = station-in (station (t .args .c) (t .args .chars .now)) (p .0) in
     let m = sends-not (t .args .c) (sym (c .before .before .before .before .before .may-send .ensures) ∙ c .before .before .before .before .if2 .left) in
-    (s .core-in, (m .0, (m .1, (c .before .before .if3 .left, p .1 .1))))
+    (core-in t, (m .0, (m .1, (c .before .before .if3 .left, t .pre .1 .1 .1))))
 
-same-length-7 : tie.Need-same-length-7
-same-length-7 c = search needs
+same-length-5 : tie.Need-same-length-5
+same-length-5 c = search needs
 
-same-length-8 : tie.Need-same-length-8
-same-length-8 c = search needs
+same-length-6 : tie.Need-same-length-6
+same-length-6 c = search needs
 
 returns-4 : tie.Need-returns-4
 returns-4 c = c .before .before .before .before .listen .ensures _
@@ -107,18 +113,17 @@ stretch-spec =
     follows-requires
     codes-requires
     same-length
-    same-length-2
     returns
     may-send-requires
+    front-after-requires
     begin-requires
+    same-length-2
     same-length-3
-    same-length-4
-    same-length-5
     returns-2
     wait-requires
-    same-length-6
+    same-length-4
     returns-3
     listen-requires
-    same-length-7
-    same-length-8
+    same-length-5
+    same-length-6
     returns-4)

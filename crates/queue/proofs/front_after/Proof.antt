@@ -1,0 +1,41 @@
+-- `front_after` meets its contract.
+use mathlib.Core.Path.{_≡_, _∙_, sym, ap}
+use Prim.Native.Nat.{ℕ, _+_}
+use native.Mathlib.Omega.{arith}
+use lib.ListN.{getD}
+use Rattle.queue.proofs.Moves.{front-none, front-last, moved-place}
+use borrow.Author.Needs.{needs}
+use Rattle.queue.proofs.front_after.Statement.{statement}
+use Rattle.queue.proofs.front_after.Tie as tie
+
+returns : tie.Need-returns
+returns c = sym (front-none _ _ (c .if1 .taken))
+
+sub-last : tie.Need-sub-last
+sub-last c = search needs
+
+shared-slice-read-result : tie.Need-shared-slice-read-result
+shared-slice-read-result c = search needs
+
+returns-2 : tie.Need-returns-2
+returns-2 c = sym (front-last _ _ (omega arith) (omega arith))
+
+shared-slice-read-result-2 : tie.Need-shared-slice-read-result-2
+shared-slice-read-result-2 c = search needs
+
+returns-3 : tie.Need-returns-3
+returns-3 c =
+    let s = c .before .before .before .args in
+    let e : s .n + 0 ≡ s .n = omega arith in
+    sym (moved-place (s .n) (s .chars .now) 0 (omega arith) ∙ ap (λ (k : ℕ). getD (s .chars .now) k 0) e)
+
+pub front-after-spec : {M : Type 1} → statement M
+front-after-spec =
+    tie.close
+    (tie.spec
+    returns
+    sub-last
+    shared-slice-read-result
+    returns-2
+    shared-slice-read-result-2
+    returns-3)
