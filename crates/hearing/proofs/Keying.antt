@@ -17,7 +17,8 @@ use Rattle.line.specs.declared.Reader.{Reader}
 use Rattle.line.specs.Reader.{reader, ends, withKey, prefixAfter, keyEvent, hear}
 use Rattle.line.specs.Range.{ReaderIn}
 use Rattle.line.specs.Words.{readerAfter, words}
-use Rattle.hearing.specs.Runs.{Until, Through, UpTo}
+use Rattle.lists.specs.Places.{UpTo}
+use Rattle.hearing.specs.Runs.{Until, Through}
 use Rattle.hearing.specs.Skipping.{Skips, msNext, keyAfter, msAfter}
 use Rattle.hearing.proofs.Rows.{next-40, after-most}
 use Rattle.hearing.proofs.Passing.{skip-one, skip-chain, skip-none, skip-to}

@@ -21,9 +21,3 @@ pub record Back (heard : List ℕ) (from end level to : ℕ) : Type 0 where
   pub high : to ≤ end
   pub same : (k : ℕ) → to ≤ k → k < end → getD heard k 0 ≡ level
   pub other : (k : ℕ) → from ≤ k → k + 1 ≡ to → getD heard k 0 ≡ level → ⊥
-
--- At most so many places on.
-pub record UpTo (i most len to : ℕ) : Type 0 where
-  pub low : i ≤ to
-  pub high : to ≤ len
-  pub few : to ≤ i + most

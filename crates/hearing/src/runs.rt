@@ -1,7 +1,7 @@
 // Places of a list of ms.
 ghost use Prim.Native.Nat.{_≤_};
 ghost use lib.ListN.{length};
-ghost use Rattle.hearing.specs.Runs.{Until, Through, Back, UpTo};
+ghost use Rattle.hearing.specs.Runs.{Until, Through, Back};
 
 // The first place of a level, from a place to another; the end if it has none.
 pub fn until(heard: &[u8], from: usize, end: usize, level: u8) -> usize
@@ -50,15 +50,4 @@ pub fn back(heard: &[u8], from: usize, end: usize, level: u8) -> usize
         i = k;
     }
     i
-}
-
-// Some places on, at most up to the end.
-pub fn up_to(i: usize, most: usize, len: usize) -> usize
-    requires { ⌜ i ≤ len ⌝ }
-    ensures { λ r. ⌜ UpTo i most len r ⌝ }
-{
-    if len - i < most {
-        return len;
-    }
-    i + most
 }

@@ -235,7 +235,7 @@ fn skip_key(r: Reader, heard: &[u8], i: usize) -> Skipped
     let mut ms = k.ms as usize;
     let mut to = i;
     while to < heard.len() {
-        let last = runs::up_to(to, 39 - ms, heard.len() - 1);
+        let last = lists::places::up_to(to, 39 - ms, heard.len() - 1);
         let n = ms_after(heard, to, key, ms, last);
         if n == 40 {
             return counted(r, heard[last], 39, last);
@@ -264,7 +264,7 @@ fn skip_needed(r: Reader, heard: &[u8], i: usize) -> Skipped
             to: runs::until(heard, i, heard.len(), 0),
         };
     }
-    let end = runs::up_to(i, k.needed as usize, heard.len());
+    let end = lists::places::up_to(i, k.needed as usize, heard.len());
     let to = runs::through(heard, i, end, 0);
     let keys = Keys {
         key: 0,

@@ -1,2 +1,3 @@
-// Definitions and laws on tests, lists and tables that several crates cite, and the range test over a slice.
+// Definitions and laws on tests, lists and tables that several crates cite; the range test over a slice; places of a list.
 pub mod checks;
+pub mod places;

@@ -40,12 +40,14 @@ use Rattle.station.proofs.Range.{station-in, char-in}
 use Rattle.station.proofs.Cuts.{cut}
 use Rattle.station.proofs.Lengths.{sent-length}
 use Rattle.station.proofs.Takings.{taken-after}
-use Rattle.stretching.specs.Cores.{silenceFor, deafReader, burstLeft, further, loadedCore, sentFor, codedCore}
+use Rattle.stretching.specs.Cores.{silenceFor, deafReader, burstLeft, loadedCore, sentFor, codedCore}
 use Rattle.stretching.specs.Stretches.{between, Stretches}
-use Rattle.stretching.proofs.CoreLaws.{silence-full, silence-none, deaf-some, burst-some, few-codes}
+use Rattle.stretching.proofs.CoreLaws.{silence-full, silence-none, deaf-some, burst-some}
 use Rattle.stretching.proofs.Laws.{begun-same, left-burst, left-over, gone-over}
 use Rattle.stretching.proofs.Joining.{between-length, begin-stretch, send-stretch}
-use Rattle.stretching.proofs.Elements.{code-levels}
+use Rattle.levels.specs.Levels.{further}
+use Rattle.levels.proofs.Parts.{few-codes}
+use Rattle.levels.proofs.Elements.{code-levels}
 use Rattle.stretching.proofs.Fold.{after-none, sent-none, words-none}
 
 -- ---- the characters that wait

@@ -5,32 +5,21 @@ use mathlib.Core.List.{List, [], _∷_}
 use Prim.Native.Nat.{ℕ, zero, suc, _+_, _-_, _≤_, _<_}
 use native.Mathlib.Omega.{arith}
 use lib.Dec.{eqb, ltb}
-use lib.ListN.{length, getD, take, length-replicate}
+use lib.ListN.{length, getD, take}
 use lib.Seq.{take-suc, take-all}
 use borrow.Author.Tests.{eqb-true, ne-eqb, lt-ltb, le-ltb, le-leb, ltb-true, ltb-false}
 use Rattle.lists.specs.Lists.{allAtMost}
 use Rattle.lists.specs.Steps.{stateAfter}
 use Rattle.lists.proofs.Lists.{at-most-head, at-most-tail}
 use Rattle.lists.proofs.Steps.{after-append}
-use Rattle.alphabet.specs.declared.Mode.{Mode}
-use Rattle.alphabet.specs.declared.Mode.the-variants.{Baudot45, Baudot50, Dtmf, Edt}
-use Rattle.alphabet.specs.declared.Alphabet.{Alphabet}
-use Rattle.alphabet.specs.declared.Alphabet.the-variants as alphabet
-use Rattle.alphabet.specs.Modes.{alphabetOf, preambleOf}
-use Rattle.alphabet.specs.Packing.{codes}
-use Rattle.signal.specs.Signal.{signal, preamble}
-use Rattle.signal.specs.Packing.{longest}
 use Rattle.frames.specs.Frames.{hunting}
 use Rattle.keys.specs.Keys.{needs}
 use Rattle.line.specs.declared.Reader.{Reader}
 use Rattle.line.specs.Reader.{reader}
 use Rattle.access.specs.declared.Core.{Core}
-use Rattle.access.specs.declared.OnLine.{OnLine}
 use Rattle.access.specs.Rules.{mayBegin, isSilent}
-use Rattle.access.specs.Line.{isCode, inBurst, partMs}
+use Rattle.access.specs.Line.{inBurst}
 use Rattle.access.specs.Core.{silenceAfter}
-use Rattle.access.specs.Range.{LineIn}
-use Rattle.access.proofs.Laws.{within}
 use Rattle.stretching.specs.Cores.{silenceFor, silenceNext, silenceOver, deafReader, burstLeft}
 
 -- ---- silence
@@ -166,39 +155,3 @@ pub burst-some : (i n : ℕ) → 1 ≤ n → 300 ≡ burstLeft i n
 unfolding burstLeft
 burst-some i zero h = absurd (omega arith)
 burst-some i (suc n) h = refl
-
--- ---- parts
-
-pub few-codes : (a : Alphabet) → codes a ≤ 256
-few-codes alphabet.Baudot = omega arith
-few-codes alphabet.Dtmf = omega arith
-few-codes alphabet.Edt = omega arith
-
-pub longest-480 : (mode : Mode) → longest mode ≤ 480
-longest-480 Baudot45 = omega arith
-longest-480 Baudot50 = omega arith
-longest-480 Dtmf = omega arith
-longest-480 Edt = omega arith
-
-preamble-480 : (mode : Mode) → preambleOf mode ≤ 480
-preamble-480 Baudot45 = omega arith
-preamble-480 Baudot50 = omega arith
-preamble-480 Dtmf = omega arith
-preamble-480 Edt = omega arith
-
--- no part is longer than four keys
-pub part-most : (mode : Mode) (l : OnLine) → LineIn mode l → length (partMs mode l) ≤ 480
-unfolding partMs
-part-most mode l i =
-    let f = few-codes (alphabetOf mode) in
-    let k = i .code-in in
-    let a = within mode (l .code) (omega arith) in
-    let b = longest-480 mode in
-    let p = length-replicate {A = ℕ} (preambleOf mode) 1 in
-    let q = preamble-480 mode in
-    go (isCode l) (inBurst l) (omega arith) (omega arith)
-  where
-    go : (a b : Bool) → length (signal mode (l .code)) ≤ 480 → length (preamble mode) ≤ 480 → length (cond a (signal mode (l .code)) (cond b (preamble mode) [])) ≤ 480
-    go true b p q = p
-    go false true p q = q
-    go false false p q = omega arith

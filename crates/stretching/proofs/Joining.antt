@@ -22,9 +22,9 @@ use Rattle.station.specs.declared.Station.{Station}
 use Rattle.station.specs.Station.{station, charsAfter, stationMs, sentMs, eventOf, stationAfter, sentBy, wordsBy}
 use Rattle.stretching.specs.declared.Stretched.{Stretched}
 use Rattle.stretching.specs.Cores.{silenceOver, loadedCore, sentFor, deafFor, listened}
-use Rattle.stretching.specs.Levels.{partLevel}
+use Rattle.levels.specs.Levels.{partLevel}
 use Rattle.stretching.specs.Stretches.{between, Stretches}
-use Rattle.stretching.proofs.Elements.{level-same}
+use Rattle.levels.proofs.Elements.{level-same}
 use Rattle.stretching.proofs.Laws.{Walk, loaded-alike, left-burst, left-over, deaf-walk, part-walk, listens}
 
 pub between-length : (heard : List ℕ) (i to : ℕ) → to ≤ length heard → length (between i to heard) ≡ to - i

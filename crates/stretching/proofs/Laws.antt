@@ -28,8 +28,8 @@ use Rattle.access.specs.Core.{core, silenceAfter, eventMs, modeIn, settled, cor
 use Rattle.access.proofs.Laws.{level-over, not-over, gone-none, gone-one, stays-left}
 use Rattle.station.specs.declared.Station.{Station}
 use Rattle.station.specs.Station.{station, front, charsAfter, stationMs, sentMs, eventOf, stationAfter, sentBy, wordsBy}
-use Rattle.stretching.specs.Levels.{partLevel}
-use Rattle.stretching.specs.Cores.{silenceFor, silenceNext, silenceOver, deafReader, burstLeft, further, loadedCore, sentFor, deafFor, listened}
+use Rattle.levels.specs.Levels.{further, partLevel}
+use Rattle.stretching.specs.Cores.{silenceFor, silenceNext, silenceOver, deafReader, burstLeft, loadedCore, sentFor, deafFor, listened}
 use Rattle.stretching.proofs.CoreLaws.{silence-none}
 
 pub at-most-take : (m n : ℕ) (xs : List ℕ) → allAtMost m xs ≡ true → allAtMost m (take n xs) ≡ true

@@ -1,7 +1,5 @@
 pub mod Laws
 pub mod CoreLaws
-pub mod Filling
-pub mod Elements
 pub mod Joining
 pub mod Fold
 pub mod Coding

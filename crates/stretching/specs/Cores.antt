@@ -13,8 +13,9 @@ use Rattle.access.specs.declared.Core.{Core}
 use Rattle.access.specs.declared.OnLine.{OnLine}
 use Rattle.access.specs.declared.Loaded.{Loaded}
 use Rattle.access.specs.Rules.{freeMs, afterMs, isSilent}
-use Rattle.access.specs.Line.{onLine, closed}
+use Rattle.access.specs.Line.{closed}
 use Rattle.access.specs.Core.{core, modeIn, silenceAfter, waitingAfter}
+use Rattle.levels.specs.Levels.{further}
 
 -- The silence after n ms without signal, and after ms that the receiver hears.
 abbrev pub silenceFor : ℕ → ℕ → ℕ
@@ -40,9 +41,6 @@ deafReader r (suc n) = reader hunting (needs (r .keys .needed - suc n)) (r .shif
 unfoldable pub burstLeft : ℕ → ℕ → ℕ
 burstLeft inhibitedMs zero = inhibitedMs
 burstLeft inhibitedMs (suc n) = afterMs
-
-abbrev pub further : OnLine → ℕ → OnLine
-further l n = onLine (l .part) (l .code) (l .at + n)
 
 -- In which what a ms starts with is loaded already.
 unfoldable pub loadedCore : Core → Loaded → Core

@@ -1,3 +1,2 @@
 pub mod Cores
-pub mod Levels
 pub mod Stretches

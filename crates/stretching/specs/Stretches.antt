@@ -12,13 +12,6 @@ use Rattle.stretching.specs.declared.Stretched.{Stretched}
 abbrev pub between : ℕ → ℕ → List ℕ → List ℕ
 between i to heard = take (to - i) (drop i heard)
 
--- Where a stretch of at most so many ms ends: behind them, or with the others.
-pub record Ends (i most len to : ℕ) : Type 0 where
-  pub low : i < to
-  pub high : to ≤ len
-  pub few : to ≤ i + most
-  pub full : to < len → to ≡ i + most
-
 -- Where the ms end in which no burst may begin.
 pub record Free (waiting silence i len to : ℕ) : Type 0 where
   pub low : i < to

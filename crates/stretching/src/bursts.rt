@@ -1,7 +1,6 @@
 // Whole codes of a burst, one after the other.
 use crate::Stretched;
 use crate::cores;
-use crate::levels;
 use access::Core;
 use access::OnLine;
 use access::sending;

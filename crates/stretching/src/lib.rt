@@ -17,7 +17,6 @@ ghost use Rattle.stretching.specs.Stretches.{Stretches};
 
 pub mod bursts;
 pub mod cores;
-pub mod levels;
 pub mod stretches;
 
 // A core after the ms of a run, and how many words were written.

@@ -1,7 +1,6 @@
 // The stretches of a run.
 use crate::Stretched;
 use crate::cores;
-use crate::levels;
 use access::Core;
 use access::Loaded;
 use access::sending;
@@ -16,19 +15,7 @@ ghost use Rattle.access.specs.Rules.{mayBegin};
 ghost use Rattle.access.specs.Line.{partMs};
 ghost use Rattle.access.specs.Core.{modeIn, settled};
 ghost use Rattle.access.specs.Range.{LineIn, CoreIn};
-ghost use Rattle.stretching.specs.Stretches.{Ends, Free, Stretches};
-
-// Where a stretch of at most so many ms ends.
-pub fn end_of(i: usize, most: usize, len: usize) -> usize
-    requires { ⌜ 1 ≤ most ⌝ }
-    requires { ⌜ i < len ⌝ }
-    ensures { λ r. ⌜ Ends i most len r ⌝ }
-{
-    if len - i < most {
-        return len;
-    }
-    i + most
-}
+ghost use Rattle.stretching.specs.Stretches.{Free, Stretches};
 
 // Where the ms end in which no burst may begin.
 fn free_end(waiting: u16, silence: u16, i: usize, len: usize) -> usize
@@ -40,7 +27,7 @@ fn free_end(waiting: u16, silence: u16, i: usize, len: usize) -> usize
     if waiting == 0 {
         return len;
     }
-    end_of(i, (access::FREE - silence) as usize, len)
+    lists::places::up_to(i, (access::FREE - silence) as usize, len)
 }
 
 // One ms by itself, after what it starts with.
@@ -91,7 +78,7 @@ fn send(
     ensures { λ x. ⌜ ((chars words : List ℕ) → Stretches (now (heard .entry)) c chars (now (sent .entry)) words i n x (now (sent .exit)) words) ⌝ }
 {
     let l = c.line;
-    let to = end_of(i, left, heard.len());
+    let to = lists::places::up_to(i, left, heard.len());
     levels::put(mode, l, sent, i, to);
     let gone = to - i;
     Stretched {
@@ -140,7 +127,7 @@ pub fn wait(c: Core, heard: &[u8], i: usize, sent: &mut [u8], n: usize) -> Stret
     ensures { λ x. ⌜ ((chars words : List ℕ) → Stretches (now (heard .entry)) c chars (now (sent .entry)) words i n x (now (sent .exit)) words) ⌝ }
 {
     let free = free_end(c.waiting, c.silence, i, heard.len());
-    let to = end_of(i, c.inhibited as usize, free);
+    let to = lists::places::up_to(i, c.inhibited as usize, free);
     levels::fill(sent, i, to, 0);
     Stretched {
         core: cores::deaf_for(c, to - i),

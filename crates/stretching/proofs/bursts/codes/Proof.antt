@@ -22,7 +22,7 @@ use Rattle.queue.specs.Queue.{movedBy}
 use Rattle.queue.proofs.Moves.{moved-by-length, moved-place}
 use Rattle.station.specs.Station.{station}
 use Rattle.station.proofs.Range.{station-in}
-use Rattle.stretching.proofs.CoreLaws.{few-codes}
+use Rattle.levels.proofs.Parts.{few-codes}
 use Rattle.stretching.proofs.Coding.{Coded, Goes, goes, Begins, coded-start, char-in-range, q-begins, some-ms, coded-turn, goes-far, coded-stretch}
 use borrow.Author.Needs.{needs}
 use Rattle.stretching.proofs.bursts.codes.Statement.{statement}

@@ -2,7 +2,8 @@
 use mathlib.Core.Path.{_≡_, _∙_}
 use Rattle.access.specs.Line.{ended, closed}
 use Rattle.access.specs.Core.{core, modeIn}
-use Rattle.stretching.specs.Cores.{further, sentFor}
+use Rattle.levels.specs.Levels.{further}
+use Rattle.stretching.specs.Cores.{sentFor}
 use Rattle.stretching.proofs.CoreLaws.{burst-some}
 use borrow.Author.Needs.{needs}
 use Rattle.stretching.proofs.cores.sent_for.Statement.{statement}
