@@ -53,29 +53,42 @@ module _ (mode : Mode) (heard out₀ : List ℕ) (r₀ : Reader) (i₀ n₀ : �
   left-start q w f = record { size = refl; within = w; room = f; in-range = q; reader = refl; place = refl; slice = refl }
 
   module _ (out : List ℕ) (r : Reader) (i n : ℕ) (l : Left mode heard out₀ r₀ i₀ n₀ out r i n) where
-    -- one ms more, and those that are skipped
-    pub left-turn : i < length heard → (q : Reading) → q ≡ hear mode r (getD heard i 0)
+    -- ms that are skipped
+    pub left-skip : (s : Skipped) → Skips mode heard r i s → Left mode heard out₀ r₀ i₀ n₀ out (s .reader) (s .to) n
+    left-skip s k =
+        let a = k .low in
+        let b = l .room in
+        record {
+          size = l .size;
+          within = k .high;
+          room = omega arith;
+          in-range = k .in-range;
+          reader = k .reader ∙ l .reader;
+          place = rw (k .words) (l .place);
+          slice = rw (k .words) (l .slice);
+        }
+
+    -- one ms more
+    pub left-hear : i < length heard → (q : Reading) → q ≡ hear mode r (getD heard i 0) → ReaderIn mode (q .reader)
         → (n' : ℕ) → n' ≡ n + length (wordOf (q .event))
         → (out' : List ℕ) → out' ≡ sets out n (wordOf (q .event))
-        → (s : Skipped) → Skips mode heard (q .reader) (i + 1) s
-        → Left mode heard out₀ r₀ i₀ n₀ out' (s .reader) (s .to) n'
-    left-turn h q e n' en out' eo s k =
+        → Left mode heard out₀ r₀ i₀ n₀ out' (q .reader) (i + 1) n'
+    left-hear h q e j n' en out' eo =
         let w = wordOf (q .event) in
         let ws = words mode (q .reader) (drop (i + 1) heard) in
         let z = length-sets out n w in
         let m = ap length eo in
         let o = one-word (q .event) in
-        let a = k .low in
         let b = l .room in
         let x : w ++ ws ≡ words mode r (drop i heard) = rw e (sym (words-next mode r heard i h)) in
         record {
           size = m ∙ z ∙ l .size;
-          within = k .high;
+          within = omega arith;
           room = omega arith;
-          in-range = k .in-range;
-          reader = k .reader ∙ ap (λ (p : Reading). readerAfter mode (p .reader) (drop (i + 1) heard)) e ∙ sym (reader-next mode r heard i h) ∙ l .reader;
-          place = rw (en, k .words, add-assoc, ← length-append w ws, x) (l .place);
-          slice = rw (eo, en, k .words, ← sets-append out n w ws, x) (l .slice);
+          in-range = j;
+          reader = ap (λ (p : Reading). readerAfter mode (p .reader) (drop (i + 1) heard)) e ∙ sym (reader-next mode r heard i h) ∙ l .reader;
+          place = rw (en, add-assoc, ← length-append w ws, x) (l .place);
+          slice = rw (eo, en, ← sets-append out n w ws, x) (l .slice);
         }
 
     pub left-reader : length heard ≤ i → r ≡ readerAfter mode r₀ (drop i₀ heard)

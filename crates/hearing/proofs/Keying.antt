@@ -1,5 +1,5 @@
 -- DTMF: ms that end in nothing.
-use mathlib.Core.Path.{_≡_, _∙_, refl, sym, ap}
+use mathlib.Core.Path.{_≡_, _∙_, refl, sym, ap, subst}
 use mathlib.Core.Bool.{Bool, true, false, cond}
 use mathlib.Core.List.{List}
 use Prim.Native.Nat.{ℕ, zero, suc, _+_, _-_, _≤_, _<_}
@@ -14,17 +14,15 @@ use Rattle.keys.specs.declared.Keys.{Keys}
 use Rattle.keys.specs.Keys.{keysAt, needs, counts, nthMs, keyStep}
 use Rattle.line.specs.declared.Event.the-variants.{Nothing}
 use Rattle.line.specs.declared.Reader.{Reader}
-use Rattle.line.specs.Reader.{reader, ends, withKey, prefixAfter, keyEvent, hear}
+use Rattle.line.specs.Reader.{ends, withKey, prefixAfter, keyEvent, hear}
 use Rattle.line.specs.Range.{ReaderIn}
 use Rattle.line.specs.Words.{readerAfter, words}
 use Rattle.lists.specs.Places.{UpTo}
-use Rattle.hearing.specs.Runs.{Until, Through}
-use Rattle.hearing.specs.Skipping.{Skips, msNext, keyAfter, msAfter}
+use Rattle.hearing.specs.Runs.{Through}
+use Rattle.hearing.specs.declared.skipping.Keyed.{Keyed}
+use Rattle.hearing.specs.Skipping.{Skips, keysOf, readerWith, PassesKeys, QuietFrom, msNext, keyAfter, msAfter}
 use Rattle.hearing.proofs.Rows.{next-40, after-most}
 use Rattle.hearing.proofs.Passing.{skip-one, skip-chain, skip-none, skip-to}
-
-abbrev readerWith : Reader → Keys → Reader
-readerWith r k = reader (r .frame) k (r .shift) (r .prefix)
 
 -- a ms in which no key counts
 none-counts : (r : Reader) (x : ℕ) (k : Keys) → keyStep (r .keys) x ≡ counts k 0 → hear Dtmf r x ≡ ends (readerWith r k) Nothing
@@ -59,9 +57,9 @@ next-in key ms x h = go (eqb x 0) (eqb x key)
     go false false n = omega arith
 
 -- Up to a place, no key counts; there, a key is heard, so many ms in a row.
-pub record Counting (heard : List ℕ) (r : Reader) (i key ms to : ℕ) : Type 0 where
-  pub few : ms < 40
-  pub skips : Skips Dtmf heard r i (record { reader = readerWith r (keysAt key ms 0); to = to })
+record Counting (heard : List ℕ) (r : Reader) (i key ms to : ℕ) : Type 0 where
+  few : ms < 40
+  skips : Skips Dtmf heard r i (record { reader = readerWith r (keysAt key ms 0); to = to })
 
 module _ (heard : List ℕ) (levels : allAtMost 16 heard ≡ true) (r : Reader) (h : ReaderIn Dtmf r) (i : ℕ) where
   -- the keys are f k after k ms
@@ -74,15 +72,17 @@ module _ (heard : List ℕ) (levels : allAtMost 16 heard ≡ true) (r : Reader) 
       (λ (k : ℕ) (g : k < to - i). none-counts (readerWith r (f k)) (getD heard (i + k) 0) (f (suc k)) (s k g)) in
       rw p (record { low = a .low; high = a .high; in-range = a .in-range; reader = a .reader ∙ ap (λ (x : Reader). readerAfter Dtmf x (drop i heard)) same; words = a .words ∙ ap (λ (x : Reader). words Dtmf x (drop i heard)) same })
 
-  pub still-skips : r .keys .key ≡ 0 → r .keys .ms ≡ 0 → r .keys .needed ≡ 40 → (to : ℕ) → Until heard i (length heard) 0 to
+  -- up to where quiet begins
+  still-skips : r .keys .key ≡ 0 → r .keys .ms ≡ 0 → (to : ℕ) → QuietFrom heard (r .keys .needed) i to
       → Skips Dtmf heard r i (record { reader = r; to = to })
-  still-skips a b c to t =
-      let e : keysAt 0 0 40 ≡ r .keys = λ j. keysAt (sym a j) (sym b j) (sym c j) in
+  still-skips a b to t =
+      let same : (n : ℕ) → r .keys .needed ≡ n → keysAt 0 0 n ≡ r .keys = λ (n : ℕ) (c : r .keys .needed ≡ n). λ j. keysAt (sym a j) (sym b j) (sym c j) in
       keys-skip (λ (k : ℕ). r .keys) refl to (t .low) (t .high)
-      (λ (k : ℕ) (g : k < to - i). still-step (r .keys) (getD heard (i + k) 0) c (t .others (i + k) (omega arith) (omega arith)) ∙ ap (λ (x : Keys). counts x 0) e) r refl
+      (λ (k : ℕ) (g : k < to - i). let n = t .still (omega arith) in
+      still-step (r .keys) (getD heard (i + k) 0) n (t .others (i + k) (omega arith) (omega arith)) ∙ ap (λ (x : Keys). counts x 0) (same 40 n)) r refl
 
   module _ (end to : ℕ) where
-    pub needed-skips : r .keys .key ≡ 0 → r .keys .ms ≡ 0 → UpTo i (r .keys .needed) (length heard) end → Through heard i end 0 to
+    needed-skips : r .keys .key ≡ 0 → r .keys .ms ≡ 0 → UpTo i (r .keys .needed) (length heard) end → Through heard i end 0 to
         → (q : Reader) → q ≡ readerWith r (needs (r .keys .needed - (to - i))) → Skips Dtmf heard r i (record { reader = q; to = to })
     needed-skips a b u t q p =
         let n = r .keys .needed in
@@ -95,7 +95,7 @@ module _ (heard : List ℕ) (levels : allAtMost 16 heard ≡ true) (r : Reader) 
         needed-step (n - k) (getD heard (i + k) 0) (omega arith) (t .same (i + k) (omega arith) (omega arith)) ∙ ap (λ (m : ℕ). counts (needs m) 0) y) q p
 
   -- a key and its ms in a row, at each place
-  pub counting-start : r .keys .needed ≡ 0 → i ≤ length heard → Counting heard r i (r .keys .key) (r .keys .ms) i
+  counting-start : r .keys .needed ≡ 0 → i ≤ length heard → Counting heard r i (r .keys .key) (r .keys .ms) i
   counting-start n l =
       let same : readerWith r (keysAt (r .keys .key) (r .keys .ms) 0) ≡ r = λ j. readerWith r (keysAt (r .keys .key) (r .keys .ms) (sym n j)) in
       record { few = h .keys-in .ms-in; skips = rw same (skip-none Dtmf heard levels r i h l) }
@@ -131,10 +131,56 @@ module _ (heard : List ℕ) (levels : allAtMost 16 heard ≡ true) (r : Reader) 
     unfolding msAfter
     next-last = let z : to + (last - to) ≡ last = omega arith in rw z refl
 
-    pub counting-row : (n : ℕ) → n ≡ msAfter heard to key ms (suc (last - to)) → (n ≡ 40 → ⊥) → Counting heard r i (getD heard last 0) n (last + 1)
+    counting-row : (n : ℕ) → n ≡ msAfter heard to key ms (suc (last - to)) → (n ≡ 40 → ⊥) → Counting heard r i (getD heard last 0) n (last + 1)
     counting-row n e g = counting-turn _ _ last before-last l n (e ∙ next-last) g
 
-    pub counting-40 : (n : ℕ) → n ≡ msAfter heard to key ms (suc (last - to)) → n ≡ 40 → Counting heard r i (getD heard last 0) 39 last
+    counting-40 : (n : ℕ) → n ≡ msAfter heard to key ms (suc (last - to)) → n ≡ 40 → Counting heard r i (getD heard last 0) 39 last
     counting-40 n e g =
         let q = next-40 _ _ _ (sym (e ∙ next-last) ∙ g) in
         rw (q .0, q .1) at before-last
+
+-- ---- for any reader with some keys
+
+-- keys that need no quiet
+pub needs-none : (heard : List ℕ) (k : Keyed) → k .needed ≡ 0 → (q : Keyed) → PassesKeys heard (record { key = k .key; ms = k .ms; needed = 0; to = k .to }) q → PassesKeys heard k q
+needs-none heard k n q p = subst (λ (m : ℕ). PassesKeys heard (record { key = k .key; ms = k .ms; needed = m; to = k .to }) q) (sym n) p
+
+-- Up to a place, no key counts; there, a key is heard, so many ms in a row.
+pub record Counted (heard : List ℕ) (k : Keyed) (key ms to : ℕ) : Type 0 where
+  pub few : ms < 40
+  pub passes : PassesKeys heard k (record { key = key; ms = ms; needed = 0; to = to })
+
+module _ (heard : List ℕ) (levels : allAtMost 16 heard ≡ true) (k : Keyed) where
+  -- none at all
+  pub passes-none : k .to ≤ length heard → PassesKeys heard k k
+  passes-none l = record { skips = λ (r : Reader) (h : ReaderIn Dtmf (readerWith r (keysOf k))). skip-none Dtmf heard levels (readerWith r (keysOf k)) (k .to) h l }
+
+  -- quiet that is needed
+  pub passes-quiet : k .key ≡ 0 → k .ms ≡ 0 → (from end to : ℕ) → QuietFrom heard (k .needed) (k .to) from → UpTo from (k .needed) (length heard) end → Through heard from end 0 to
+      → (q : Keyed) → q ≡ record { key = 0; ms = 0; needed = k .needed - (to - from); to = to } → PassesKeys heard k q
+  passes-quiet a b from end to f u t q e = record {
+    skips = λ (r : Reader) (h : ReaderIn Dtmf (readerWith r (keysOf k))).
+        let s = readerWith r (keysOf k) in
+        rw e (skip-chain Dtmf heard levels s s (k .to) from (still-skips heard levels s h (k .to) a b from f) _ (needed-skips heard levels s h from end to a b u t _ refl));
+  }
+
+  of-one : (key ms to : ℕ) → Counted heard k key ms to → (r : Reader) → ReaderIn Dtmf (readerWith r (keysOf k)) → Counting heard (readerWith r (keysOf k)) (k .to) key ms to
+  of-one key ms to c r h = record { few = c .few; skips = c .passes .skips r h }
+
+  pub counted-start : k .ms < 40 → k .needed ≡ 0 → k .to ≤ length heard → Counted heard k (k .key) (k .ms) (k .to)
+  counted-start f n l = record {
+    few = f;
+    passes = record { skips = λ (r : Reader) (h : ReaderIn Dtmf (readerWith r (keysOf k))). counting-start heard levels (readerWith r (keysOf k)) h (k .to) n l .skips };
+  }
+
+  module _ (key ms to last : ℕ) (c : Counted heard k key ms to) (a : to ≤ last) (l : last < length heard) (f : ms + (last - to) < 40) (n : ℕ) (e : n ≡ msAfter heard to key ms (suc (last - to))) where
+    pub counted-row : (n ≡ 40 → ⊥) → Counted heard k (getD heard last 0) n (last + 1)
+    counted-row g =
+        let m = after-most heard to key ms (suc (last - to)) in
+        record {
+          few = omega (arith, g);
+          passes = record { skips = λ (r : Reader) (h : ReaderIn Dtmf (readerWith r (keysOf k))). counting-row heard levels (readerWith r (keysOf k)) h (k .to) key ms to last (of-one key ms to c r h) a l f n e g .skips };
+        }
+
+    pub counted-40 : n ≡ 40 → PassesKeys heard k (record { key = getD heard last 0; ms = 39; needed = 0; to = last })
+    counted-40 g = record { skips = λ (r : Reader) (h : ReaderIn Dtmf (readerWith r (keysOf k))). counting-40 heard levels (readerWith r (keysOf k)) h (k .to) key ms to last (of-one key ms to c r h) a l f n e g .skips }

@@ -6,13 +6,17 @@ use mathlib.Core.List.{List}
 use lib.Dec.{eqb}
 use lib.ListN.{length, getD, drop}
 use Rattle.alphabet.specs.declared.Mode.{Mode}
+use Rattle.alphabet.specs.declared.Mode.the-variants.{Dtmf}
 use Rattle.signal.specs.Signal.{quiet, space}
 use Rattle.frames.specs.declared.Frame.{Frame}
+use Rattle.keys.specs.declared.Keys.{Keys}
+use Rattle.keys.specs.Keys.{keysAt}
 use Rattle.line.specs.declared.Reader.{Reader}
 use Rattle.line.specs.Reader.{reader, hearFrame, hear}
 use Rattle.line.specs.Range.{ReaderIn}
 use Rattle.line.specs.Words.{readerAfter, words}
 use Rattle.hearing.specs.declared.Skipped.{Skipped}
+use Rattle.hearing.specs.declared.skipping.Keyed.{Keyed}
 
 pub record Skips (mode : Mode) (heard : List ℕ) (r : Reader) (i : ℕ) (s : Skipped) : Type 0 where
   pub low : i ≤ s .to
@@ -45,6 +49,24 @@ pub record Stays (heard : List ℕ) (place i to : ℕ) : Type 0 where
   pub low : i ≤ to
   pub high : to ≤ length heard
   pub stays : (k : ℕ) → i ≤ k → k < to → placeAfter place (getD heard k 0) ≡ place
+
+-- Keys as numbers, and a reader with keys.
+abbrev pub keysOf : Keyed → Keys
+keysOf k = keysAt (k .key) (k .ms) (k .needed)
+
+abbrev pub readerWith : Reader → Keys → Reader
+readerWith r k = reader (r .frame) k (r .shift) (r .prefix)
+
+-- Ms that end in nothing, and take any reader from some keys to others.
+pub record PassesKeys (heard : List ℕ) (k q : Keyed) : Type 0 where
+  pub skips : (r : Reader) → ReaderIn Dtmf (readerWith r (keysOf k)) → Skips Dtmf heard (readerWith r (keysOf k)) (k .to) (record { reader = readerWith r (keysOf q); to = q .to })
+
+-- Up to a place, a reader that needs all 40 quiet ms hears none.
+pub record QuietFrom (heard : List ℕ) (needed i to : ℕ) : Type 0 where
+  pub low : i ≤ to
+  pub high : to ≤ length heard
+  pub still : i < to → needed ≡ 40
+  pub others : (k : ℕ) → i ≤ k → k < to → getD heard k 0 ≡ 0 → ⊥
 
 -- The ms in a row of what is heard, if no quiet is needed: 0 for quiet.
 unfoldable pub msNext : ℕ → ℕ → ℕ → ℕ

@@ -40,7 +40,7 @@ fn skip(mode: Mode, r: Reader, heard: &[u8], i: usize) -> Skipped
     skipping::skip_keys(r, heard, i)
 }
 
-// The ms of a list, one after the other.
+// The ms of a list, one after the other. `skip` is called from one place, so that it is inlined.
 pub fn hear_all(mode: Mode, r: Reader, heard: &[u8], words: &mut [u32], at: usize) -> Heard
     requires { ⌜ ReaderIn mode r ⌝ }
     requires { ⌜ allAtMost 16 (now heard) ≡ true ⌝ }
@@ -49,18 +49,23 @@ pub fn hear_all(mode: Mode, r: Reader, heard: &[u8], words: &mut [u32], at: usiz
     ensures { λ h. ⌜ h .at ≡ at + length (wordsHeard mode r (now (heard .entry))) ⌝ }
     ensures { λ h. ⌜ now (words .exit) ≡ sets (now (words .entry)) at (wordsHeard mode r (now (heard .entry))) ⌝ }
 {
-    let first = skip(mode, r, heard, 0);
-    let mut reader = first.reader;
-    let mut i = first.to;
+    let mut reader = r;
+    let mut i: usize = 0;
     let mut n = at;
-    while i < heard.len() {
-        let q = line::hear(mode, reader, heard[i]);
+    loop {
+        let s = skip(mode, reader, heard, i);
+        let before = s.reader;
+        let to = s.to;
+        if to == heard.len() {
+            return Heard {
+                reader: before,
+                at: n,
+            };
+        }
+        let q = line::hear(mode, before, heard[to]);
         let event = q.event;
         n = line::words::put_word(words, n, event);
-        let before = q.reader;
-        let s = skip(mode, before, heard, i + 1);
-        reader = s.reader;
-        i = s.to;
+        reader = q.reader;
+        i = to + 1;
     }
-    Heard { reader, at: n }
 }

@@ -14,8 +14,9 @@ ghost use lib.ListN.{length};
 ghost use Rattle.lists.specs.Lists.{allAtMost};
 ghost use Rattle.alphabet.specs.declared.Mode.the-variants as mode;
 ghost use Rattle.frames.specs.Range.{FrameOf};
+ghost use Rattle.keys.specs.Range.{KeysIn};
 ghost use Rattle.line.specs.Range.{ReaderIn};
-ghost use Rattle.hearing.specs.Skipping.{frameAt, readerAt, placeAfter, msAfter, Framed, Skips, Passes, Stays};
+ghost use Rattle.hearing.specs.Skipping.{frameAt, readerAt, keysOf, readerWith, placeAfter, msAfter, Framed, Skips, Passes, PassesKeys, QuietFrom, Stays};
 
 // A reader of frames before a ms, and whether it may pass more.
 struct Passed {
@@ -171,17 +172,12 @@ pub fn skip_frame(mode: Mode, r: Reader, heard: &[u8], i: usize) -> Skipped
     framed(r, place, digits, to)
 }
 
-// A reader with other keys.
-fn with_keys(r: Reader, keys: Keys) -> Reader
-    ensures { λ q. ⌜ q ≡ record { frame = r .frame; keys = keys; shift = r .shift; prefix = r .prefix } ⌝ }
-{
-    let frame = r.frame;
-    Reader {
-        frame,
-        keys,
-        shift: r.shift,
-        prefix: r.prefix,
-    }
+// A reader of keys before a ms: a key, its ms in a row, the quiet ms needed.
+struct Keyed {
+    key: u8,
+    ms: usize,
+    needed: usize,
+    to: usize,
 }
 
 // The ms in a row of what is heard on the last ms, if no key counts before it: 0 for quiet.
@@ -206,78 +202,102 @@ fn ms_after(heard: &[u8], to: usize, key: u8, ms: usize, last: usize) -> usize
     ms + n
 }
 
-// A reader with a key and its ms in a row, before a ms.
-fn counted(r: Reader, key: u8, ms: usize, to: usize) -> Skipped
-    requires { ⌜ ms < 40 ⌝ }
-    ensures { λ s. ⌜ s ≡ record { reader = record { frame = r .frame; keys = record { key = key; ms = ms; needed = 0 }; shift = r .shift; prefix = r .prefix }; to = to } ⌝ }
-{
-    let keys = Keys {
-        key,
-        ms: ms as u8,
-        needed: 0,
-    };
-    Skipped {
-        reader: with_keys(r, keys),
-        to,
-    }
-}
-
 // DTMF, while no quiet is needed: up to the ms in which a key counts. Each turn goes to the first ms in which one can.
-fn skip_key(r: Reader, heard: &[u8], i: usize) -> Skipped
-    requires { ⌜ ReaderIn mode.Dtmf r ⌝ }
-    requires { ⌜ r .keys .needed ≡ 0 ⌝ }
+fn pass_count(heard: &[u8], k: Keyed) -> Keyed
+    requires { ⌜ KeysIn (keysOf k) ⌝ }
     requires { ⌜ allAtMost 16 (now heard) ≡ true ⌝ }
-    requires { ⌜ i ≤ length (now heard) ⌝ }
-    ensures { λ s. ⌜ Skips mode.Dtmf (now (heard .entry)) r i s ⌝ }
+    requires { ⌜ k .to ≤ length (now heard) ⌝ }
+    ensures { λ q. ⌜ PassesKeys (now (heard .entry)) k q ⌝ }
 {
-    let k = r.keys;
+    if k.needed != 0 {
+        return k;
+    }
     let mut key = k.key;
-    let mut ms = k.ms as usize;
-    let mut to = i;
+    let mut ms = k.ms;
+    let mut to = k.to;
     while to < heard.len() {
         let last = lists::places::up_to(to, 39 - ms, heard.len() - 1);
         let n = ms_after(heard, to, key, ms, last);
         if n == 40 {
-            return counted(r, heard[last], 39, last);
+            return Keyed {
+                key: heard[last],
+                ms: 39,
+                needed: 0,
+                to: last,
+            };
         }
         key = heard[last];
         ms = n;
         to = last + 1;
     }
-    counted(r, key, ms, to)
-}
-
-// DTMF, while quiet is needed: quiet ms; or those that are not, if none has been quiet.
-fn skip_needed(r: Reader, heard: &[u8], i: usize) -> Skipped
-    requires { ⌜ ReaderIn mode.Dtmf r ⌝ }
-    requires { ⌜ r .keys .key ≡ 0 ⌝ }
-    requires { ⌜ r .keys .ms ≡ 0 ⌝ }
-    requires { ⌜ 1 ≤ r .keys .needed ⌝ }
-    requires { ⌜ allAtMost 16 (now heard) ≡ true ⌝ }
-    requires { ⌜ i ≤ length (now heard) ⌝ }
-    ensures { λ s. ⌜ Skips mode.Dtmf (now (heard .entry)) r i s ⌝ }
-{
-    let k = r.keys;
-    if k.needed == 40 {
-        return Skipped {
-            reader: r,
-            to: runs::until(heard, i, heard.len(), 0),
-        };
-    }
-    let end = lists::places::up_to(i, k.needed as usize, heard.len());
-    let to = runs::through(heard, i, end, 0);
-    let keys = Keys {
-        key: 0,
-        ms: 0,
-        needed: k.needed - (to - i) as u8,
-    };
-    Skipped {
-        reader: with_keys(r, keys),
+    Keyed {
+        key,
+        ms,
+        needed: 0,
         to,
     }
 }
 
-// DTMF. With no quiet needed: up to the ms in which a key counts; else quiet ms, or those that are not.
+// Where quiet begins, after a key that counted; the place itself if it has begun.
+fn quiet_from(heard: &[u8], needed: usize, i: usize) -> usize
+    requires { ⌜ i ≤ length (now heard) ⌝ }
+    ensures { λ r. ⌜ QuietFrom (now (heard .entry)) needed i r ⌝ }
+{
+    if needed != 40 {
+        return i;
+    }
+    runs::until(heard, i, heard.len(), 0)
+}
+
+// DTMF, while quiet is needed: up to where quiet begins, and the quiet ms.
+fn pass_quiet(heard: &[u8], k: Keyed) -> Keyed
+    requires { ⌜ KeysIn (keysOf k) ⌝ }
+    requires { ⌜ allAtMost 16 (now heard) ≡ true ⌝ }
+    requires { ⌜ k .to ≤ length (now heard) ⌝ }
+    ensures { λ q. ⌜ PassesKeys (now (heard .entry)) k q ⌝ }
+{
+    if k.needed == 0 {
+        return k;
+    }
+    if k.key != 0 {
+        return k;
+    }
+    if k.ms != 0 {
+        return k;
+    }
+    let from = quiet_from(heard, k.needed, k.to);
+    let end = lists::places::up_to(from, k.needed, heard.len());
+    let to = runs::through(heard, from, end, 0);
+    Keyed {
+        key: 0,
+        ms: 0,
+        needed: k.needed - (to - from),
+        to,
+    }
+}
+
+// A reader with keys, before a ms.
+fn with_keys(r: Reader, k: Keyed) -> Skipped
+    requires { ⌜ KeysIn (keysOf k) ⌝ }
+    ensures { λ s. ⌜ s ≡ record { reader = readerWith r (keysOf k); to = k .to } ⌝ }
+{
+    let frame = r.frame;
+    Skipped {
+        reader: Reader {
+            frame,
+            keys: Keys {
+                key: k.key,
+                ms: k.ms as u8,
+                needed: k.needed as u8,
+            },
+            shift: r.shift,
+            prefix: r.prefix,
+        },
+        to: k.to,
+    }
+}
+
+// DTMF: the quiet that is needed, then up to the ms in which a key counts.
 pub fn skip_keys(r: Reader, heard: &[u8], i: usize) -> Skipped
     requires { ⌜ ReaderIn mode.Dtmf r ⌝ }
     requires { ⌜ allAtMost 16 (now heard) ≡ true ⌝ }
@@ -285,14 +305,12 @@ pub fn skip_keys(r: Reader, heard: &[u8], i: usize) -> Skipped
     ensures { λ s. ⌜ Skips mode.Dtmf (now (heard .entry)) r i s ⌝ }
 {
     let k = r.keys;
-    if k.needed == 0 {
-        return skip_key(r, heard, i);
-    }
-    if k.key != 0 {
-        return Skipped { reader: r, to: i };
-    }
-    if k.ms != 0 {
-        return Skipped { reader: r, to: i };
-    }
-    skip_needed(r, heard, i)
+    let first = Keyed {
+        key: k.key,
+        ms: k.ms as usize,
+        needed: k.needed as usize,
+        to: i,
+    };
+    let quiet = pass_quiet(heard, first);
+    with_keys(r, pass_count(heard, quiet))
 }

@@ -5,6 +5,7 @@ use station::Ran;
 ghost use mathlib.Core.Path.{_≡_};
 ghost use lib.ListN.{length};
 ghost use Rattle.station.specs.Station.{station};
+ghost use Rattle.station.specs.Range.{inRange};
 ghost use Rattle.station.specs.Entries.{highestLevel, ranOf, sentAfter, wordsAfter};
 
 // The most ms of one call.
@@ -33,6 +34,25 @@ fn refused(c: Core, answer: u8) -> Ran
     }
 }
 
+// Question 1. It is lent a core that is made anew, field by field: the one that is run stays in registers.
+fn in_range(c: Core, chars: &[u8; 256]) -> bool
+    ensures { λ r. ⌜ r ≡ inRange (station c (now (chars .entry))) ⌝ }
+{
+    let line = c.line;
+    let sender = c.sender;
+    let reader = c.reader;
+    let same = Core {
+        waiting: c.waiting,
+        silence: c.silence,
+        inhibited: c.inhibited,
+        line,
+        sender,
+        reader,
+        mode: c.mode,
+    };
+    station::checks::in_range(same, chars)
+}
+
 // A run: the sent ms and the words of the ms that are heard.
 pub fn run(c: Core, chars: &mut [u8; 256], heard: &[u8], sent: &mut [u8], words: &mut [u32]) -> Ran
     ensures { λ r. ⌜ station (r .core) (now (chars .exit)) ≡ ranOf (station c (now (chars .entry))) (now (heard .entry)) (length (now (sent .entry))) (length (now (words .entry))) .station ⌝ }
@@ -41,7 +61,7 @@ pub fn run(c: Core, chars: &mut [u8; 256], heard: &[u8], sent: &mut [u8], words:
     ensures { λ r. ⌜ now (sent .exit) ≡ sentAfter (station c (now (chars .entry))) (now (heard .entry)) (length (now (words .entry))) (now (sent .entry)) ⌝ }
     ensures { λ r. ⌜ now (words .exit) ≡ wordsAfter (station c (now (chars .entry))) (now (heard .entry)) (length (now (sent .entry))) (now (words .entry)) ⌝ }
 {
-    if !station::checks::in_range(c, chars) {
+    if !in_range(c, chars) {
         return refused(c, 1);
     }
     if LONGEST < heard.len() {

@@ -16,7 +16,7 @@ use Rattle.alphabet.proofs.Mode.of.Reads as of-reads
 use Rattle.lists.proofs.checks.all_at_most.Reads as all-at-most-reads
 use Rattle.running.proofs.highest_level.Reads as highest-level-reads
 use Rattle.running.proofs.refused.Reads as refused-reads
-use Rattle.station.proofs.checks.in_range.Reads as in-range-reads
+use Rattle.running.proofs.in_range.Reads as in-range-reads
 use Rattle.stretching.proofs.run_all.Reads as run-all-reads
 
 in-range-requires : tie.Need-in-range-requires

@@ -1,29 +1,49 @@
 -- `skip_keys` meets its contract.
-use native.Mathlib.Omega.{arith}
+use mathlib.Core.Path.{sym, subst}
 use borrow.Author.Needs.{needs}
+use Rattle.alphabet.specs.declared.Mode.the-variants.{Dtmf}
+use Rattle.hearing.specs.Skipping.{Skips}
+use Rattle.hearing.proofs.Passing.{skip-chain}
 use Rattle.hearing.proofs.skipping.skip_keys.Statement.{statement}
 use Rattle.hearing.proofs.skipping.skip_keys.Tie as tie
 
-skip-key-requires : tie.Need-skip-key-requires
-skip-key-requires c κs = let s = c .before .before .before .before in (s .pre .0, (c .if1 .taken, s .pre .1))
+cast-t7 : tie.Need-cast-t7
+cast-t7 c = search needs
+
+cast-t8 : tie.Need-cast-t8
+cast-t8 c = search needs
+
+pass-quiet-requires : tie.Need-pass-quiet-requires
+pass-quiet-requires c κs = let p = c .before .before .before .before .pre in (p .0 .keys-in, p .1)
+
+pass-count-requires : tie.Need-pass-count-requires
+pass-count-requires c κs =
+    let s = c .before .before .before .before .before in
+    let p = s .pre in
+    let a = c .pass-quiet .ensures .skips (s .args .r) (p .0) in
+    (a .in-range .keys-in, (p .1 .0, a .high))
+
+with-keys-requires : tie.Need-with-keys-requires
+with-keys-requires c κs =
+    let s = c .before .before .before .before .before .before in
+    let a = c .before .pass-quiet .ensures .skips (s .args .r) (s .pre .0) in
+    c .pass-count .ensures .skips (s .args .r) (a .in-range) .in-range .keys-in
 
 returns : tie.Need-returns
-returns c = search needs
-
-returns-2 : tie.Need-returns-2
-returns-2 c = search needs
-
-returns-3 : tie.Need-returns-3
-returns-3 c = search needs
-
-skip-needed-requires : tie.Need-skip-needed-requires
-skip-needed-requires c κs =
-    let s = c .before .before .before .before .before .before .before .before in
-    let n = c .before .before .before .before .if1 .left in
-    (s .pre .0, (c .before .before .if2 .left, (c .if3 .left, (omega (arith, n), s .pre .1))))
-
-returns-4 : tie.Need-returns-4
-returns-4 c = search needs
+returns c =
+    let s = c .before .before .before .before .before .before .before in
+    let p = s .pre in
+    let a = c .before .before .pass-quiet .ensures .skips (s .args .r) (p .0) in
+    let b = c .before .pass-count .ensures .skips (s .args .r) (a .in-range) in
+    subst (Skips Dtmf (s .args .heard .now) (s .args .r) (s .args .i)) (sym (c .with-keys .ensures)) (skip-chain Dtmf _ (p .1 .0) _ _ _ _ a _ b)
 
 pub skip-keys-spec : {M : Type 1} → statement M
-skip-keys-spec = tie.close (tie.spec skip-key-requires returns returns-2 returns-3 skip-needed-requires returns-4)
+skip-keys-spec =
+    tie.close
+    (tie.spec
+    cast-t7
+    cast-t8
+    pass-quiet-requires
+    pass-count-requires
+    with-keys-requires
+    returns)
