@@ -89,7 +89,6 @@ module _ (mode : Mode) where
       rw heard
       (reads-after-idle mode (past ++ early) forty next r n
       (record {
-        chars = p .chars;
         forty-ms = p .forty-ms;
         idle = p .idle-forty;
         reader-in = station-in mode (past′ ++ early′) freshModel fresh (p .levels) (fresh-in mode);

@@ -12,7 +12,7 @@ use Rattle.baudot.specs.Sending.{shiftCode}
 use Rattle.signal.specs.Signal.{signal}
 use Rattle.access.specs.Line.{shiftWanted, senderAfterOwn}
 use Rattle.reading.specs.Model.{Part, OwnCode, OnLine, Idle, Sending, Model, Loaded, Did, Step, Offer, Ms, offered, load, oneGone, ended, did, msAfter, does, takenIn}
-use Rattle.reading.specs.Reading.{synchronizes, atOnce, endsSynchronizing, untilSynchronized, OffersChars}
+use Rattle.reading.specs.Reading.{synchronizes, atOnce, endsSynchronizing, untilSynchronized}
 use Rattle.reading.proofs.Laws.{SenderIn, Room, LawsOf}
 use Rattle.reading.proofs.Views.{Opens, opens, goes-on, Begins, stays, shifts, owns, Closes, ends, keeps, closed-view, Fine, fine-offered, fine-ms, load-view}
 
@@ -74,15 +74,15 @@ module _ (mode : Mode) (L : LawsOf mode) (later : atOnce (alphabetOf mode) ≡ f
       let b = begins-room n (v .2) (f .sender-in) (opens-room (m .sender) n (v .1) h) in
       (b .0, b .1, λ z. closes-room mode (l .sender) (b .0) (closed-view (l .waiting) (oneGone (l .onLine))) (gone-room mode (l .onLine) (l .sender) (b .0) (b .2) z))
 
-  pub bound : (steps : List Step) (m : Model) (n : ℕ) → OffersChars steps → Fine mode m → RoomOn mode (m .onLine) (m .sender) n
+  pub bound : (steps : List Step) (m : Model) (n : ℕ) → Fine mode m → RoomOn mode (m .onLine) (m .sender) n
       → let ds = does mode m steps in
       length (takenIn (take (untilSynchronized mode ds) ds)) ≤ n
-  unfolding does offered OffersChars takenIn untilSynchronized
-  bound [] m n t f h = omega arith
-  bound (Offer cs ∷ steps) m n t f h = bound steps (offered mode cs m) n (t .1) (fine-offered mode cs m f) h
-  bound (Ms x ∷ steps) m n t f h =
+  unfolding does offered takenIn untilSynchronized
+  bound [] m n f h = omega arith
+  bound (Offer cs ∷ steps) m n f h = bound steps (offered mode cs m) n (fine-offered mode cs m f) h
+  bound (Ms x ∷ steps) m n f h =
       let r = ms-room m x n f h in
-      go (endsSynchronizing mode (did mode m .ended)) (r .0) (r .1) (λ e. bound steps (msAfter mode m x) (r .0) t (fine-ms mode L m x f) (r .2 e))
+      go (endsSynchronizing mode (did mode m .ended)) (r .0) (r .1) (λ e. bound steps (msAfter mode m x) (r .0) (fine-ms mode L m x f) (r .2 e))
     where
       ds : List Did
       ds = does mode (msAfter mode m x) steps

@@ -23,16 +23,15 @@ use Rattle.queue.specs.Queue.{waiters, room}
 use Rattle.station.specs.declared.Station.{Station}
 use Rattle.station.specs.Station.{alphabetOfStation, queueOf, offeredTo, stationMs, eventOf, stationAfter, eventsBy, sentBy as sentRun, wordsBy as wordsRun}
 use Rattle.station.specs.Entries.{StationAnswered, StationRan, answered, ran, highestLevel, offerAnswer, offerOf, runAnswer, ranOf, sentAfter, wordsAfter}
-use Rattle.station.proofs.Range.{highest-16, accepted, runs}
+use Rattle.station.proofs.Range.{highest-16, runs}
 use Rattle.station.proofs.Lengths.{sent-length}
 use Rattle.station.proofs.Answers.{refused-offer, refused-run}
 use Rattle.station.proofs.Cuts.{first-runs}
 use Rattle.reading.specs.Model.{Model, Step, Ms, msAfter, modelAfter, does, sentIn, heardIn}
-use Rattle.reading.specs.Reading.{OffersChars}
 use Rattle.reading.specs.BothModels.{stationReader, stationEvents}
 use Rattle.reading.specs.Calls.{Call, OfferCall, RunCall, left, succeeds, sentFor, wordsFor, stepsFor, stepsIf, sentBy, wordsBy, stepsBy, accepts, modelSteps, msIn, cutFor, upTo}
 use Rattle.reading.proofs.StationLike.{Like, mode-same, count-same, sent-same, event-same, ms-like, offer-like}
-use Rattle.reading.proofs.Cuts.{take-append, heard-append, heard-run, chars-append, chars-run, sent-append, does-append, events-append, events-length}
+use Rattle.reading.proofs.Cuts.{take-append, heard-append, heard-run, sent-append, does-append, events-append, events-length}
 
 -- ---- which calls succeed, and what they leave
 
@@ -132,7 +131,6 @@ module _ (mode : Mode) where
   record CallLike (c : Call) (s : Station) (m : Model) (r : Reader) : Type 0 where
     like : Like mode (left s c) (modelAfter mode m (stepsFor s c)) (stationReader mode m r (stepsFor s c))
     sent-are : sentFor s c ≡ sentIn (does mode m (stepsFor s c))
-    chars : OffersChars (stepsFor s c)
     levels : allAtMost 16 (heardIn (stepsFor s c)) ≡ true
     -- cut after n ms: its words, and the station that it leaves, if n ms are not fewer than it has
     words-cut : (n : ℕ) → wordsFor s (cutFor s c n) ≡ wordsOf (take n (stationEvents mode m r (stepsFor s c)))
@@ -144,11 +142,10 @@ module _ (mode : Mode) where
 
   -- it is refused
   refused : (c : Call) (s : Station) (m : Model) (r : Reader) → succeeds s c ≡ false → Like mode s m r → CallLike c s m r
-  unfolding modelAfter stationReader does stationEvents heardIn OffersChars allAtMost
+  unfolding modelAfter stationReader does stationEvents heardIn allAtMost
   refused c s m r e h = record {
     like = rw (e, refused-left s c e) h;
     sent-are = rw e refl;
-    chars = rw e tt;
     levels = rw e refl;
     words-cut = λ n. rw (e, e) (no-words n);
     left-cut = λ n. inl (rw e refl);
@@ -156,7 +153,7 @@ module _ (mode : Mode) where
 
   -- an offer that succeeds
   offers : (text : List ℕ) (s : Station) (m : Model) (r : Reader) → offerAnswer s text ≡ 0 → Like mode s m r → CallLike (OfferCall text) s m r
-  unfolding modelAfter stationReader does stationEvents heardIn OffersChars allAtMost
+  unfolding modelAfter stationReader does stationEvents heardIn allAtMost
   offers text s m r z h =
       let y = offer-yes s text z in
       let e : succeeds s (OfferCall text) ≡ true = ap (λ (a : StationAnswered). eqb (a .answer) 0) y in
@@ -164,7 +161,6 @@ module _ (mode : Mode) where
       record {
         like = rw (e, l) (offer-like mode s m r h text z);
         sent-are = rw e refl;
-        chars = rw e (accepted s text z .chars, tt);
         levels = rw e refl;
         words-cut = λ n. rw (e, e) (no-words n);
         left-cut = λ n. inl (rw e refl);
@@ -180,7 +176,6 @@ module _ (mode : Mode) where
       record {
         like = rw (e, ap (λ (a : StationRan). a .station) (run-yes s heard (length sent) (length words) z)) (g .like);
         sent-are = sent-of heard sent words s z ∙ g .sent-are ∙ ap (λ (l : List Step). sentIn (does mode m l)) (sym (steps-of heard sent words s z));
-        chars = rw e (chars-run heard);
         levels = rw (e, heard-run heard) (at-most-more (highestLevel mode) 16 heard (highest-16 mode) v);
         words-cut = λ n.
             let y = run-cut n s heard (length sent) (length words) z in
@@ -241,19 +236,17 @@ module _ (mode : Mode) where
   -- ---- a list of calls
   pub record CallsLike (cs : List Call) (s : Station) (m : Model) (r : Reader) : Type 0 where
     pub sent-are : sentBy s cs ≡ sentIn (does mode m (stepsBy s cs))
-    pub chars : OffersChars (stepsBy s cs)
     pub levels : allAtMost 16 (heardIn (stepsBy s cs)) ≡ true
 
   pub calls-like : (cs : List Call) (s : Station) (m : Model) (r : Reader) → Like mode s m r → CallsLike cs s m r
-  unfolding sentBy stepsBy does heardIn OffersChars allAtMost
-  calls-like [] s m r h = record { sent-are = refl; chars = tt; levels = refl }
+  unfolding sentBy stepsBy does heardIn allAtMost
+  calls-like [] s m r h = record { sent-are = refl; levels = refl }
   calls-like (c ∷ cs) s m r h =
       let g = call-like c s m r h in
       let i = calls-like cs (left s c) (modelAfter mode m (stepsFor s c)) (stationReader mode m r (stepsFor s c)) (g .like) in
       let next = stepsBy (left s c) cs in
       record {
         sent-are = (λ j. g .sent-are j ++ i .sent-are j) ∙ sym (sent-append (does mode m (stepsFor s c)) (does mode (modelAfter mode m (stepsFor s c)) next)) ∙ ap sentIn (sym (does-append mode (stepsFor s c) next m));
-        chars = chars-append (stepsFor s c) next (g .chars) (i .chars);
         levels = rw (heard-append (stepsFor s c) next) (at-most-append 16 (heardIn (stepsFor s c)) (heardIn next) (g .levels) (i .levels));
       }
 

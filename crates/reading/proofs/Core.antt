@@ -28,8 +28,8 @@ use Rattle.line.specs.Words.{wordsOf, events, words}
 use Rattle.chain.specs.Resting.{restsAll, Settled}
 use Rattle.chain.proofs.Resting.{settles}
 use Rattle.reading.specs.Model.{OnLine, Idle, Sending, Model, Loaded, Did, Step, Offer, Ms, freshModel, offered, load, levelOn, inBurst, oneGone, closed, did, msAfter, modelAfter, does, sentIn, takenIn}
-use Rattle.reading.specs.Reading.{atOnce, mostBefore, untilSynchronized, synchronizedAfter, NoBurst, EndsIdle, OffersChars, eventsInhibited, Reads, ReadsAfterIdle}
-use Rattle.reading.proofs.Cuts.{chars-left, chars-right, sent-append, does-append}
+use Rattle.reading.specs.Reading.{atOnce, mostBefore, untilSynchronized, synchronizedAfter, NoBurst, EndsIdle, eventsInhibited, Reads, ReadsAfterIdle}
+use Rattle.reading.proofs.Cuts.{sent-append, does-append}
 use Rattle.reading.proofs.Laws.{SenderIn, LawsOf, laws}
 use Rattle.reading.proofs.Views.{left, Begins, stays, shifts, owns, Fine, fine-offered, fine-ms, fine-after, load-view}
 use Rattle.reading.proofs.Following.{follows, follows-after}
@@ -125,28 +125,28 @@ module _ (mode : Mode) (L : LawsOf mode) where
   begins-chars (shifts part c cs s w e) = refl
   begins-chars (owns part c cs s w e) = one-char c (w .char-in)
 
-  taken-chars : (steps : List Step) (m : Model) → OffersChars steps → Fine mode m → allChars (takenIn (does mode m steps)) ≡ true
-  unfolding does did takenIn OffersChars allAtMost
-  taken-chars [] m t f = refl
-  taken-chars (Offer cs ∷ steps) m t f = taken-chars steps (offered mode cs m) (t .1) (fine-offered mode cs m f)
-  taken-chars (Ms x ∷ steps) m t f =
-      at-most-append 0x7f (load mode m .taken) _ (begins-chars (load-view mode L m f .2)) (taken-chars steps (msAfter mode m x) t (fine-ms mode L m x f))
+  taken-chars : (steps : List Step) (m : Model) → Fine mode m → allChars (takenIn (does mode m steps)) ≡ true
+  unfolding does did takenIn allAtMost
+  taken-chars [] m f = refl
+  taken-chars (Offer cs ∷ steps) m f = taken-chars steps (offered mode cs m) (fine-offered mode cs m f)
+  taken-chars (Ms x ∷ steps) m f =
+      at-most-append 0x7f (load mode m .taken) _ (begins-chars (load-view mode L m f .2)) (taken-chars steps (msAfter mode m x) (fine-ms mode L m x f))
 
   -- ---- from a model in no burst and a reader between codes on
-  module _ (next : List Step) (m : Model) (r : Reader) (t : OffersChars next) (f : Fine mode m) (idle : m .onLine ≡ Idle) (between : Settled mode r) where
+  module _ (next : List Step) (m : Model) (r : Reader) (f : Fine mode m) (idle : m .onLine ≡ Idle) (between : Settled mode r) where
     abbrev ds : List Did
     ds = does mode m next
 
     text-by : (b : Bool) → atOnce (alphabetOf mode) ≡ b → EndsIdle ds → wordsOf (drop (cond b 0 (untilSynchronized mode ds)) (events mode r (sentIn ds))) ≡ normalForm (alphabetOf mode) (takenIn (drop (cond b 0 (untilSynchronized mode ds)) ds))
     unfolding stateAfter outputs wordsOf
     text-by true e z =
-        follows mode L next m r t f (rw idle (L .at-once e (m .sender) r between)) (idle-after mode next m (λ _. idle) z) ∙ ap (λ (on : OnLine). words mode r (left on) ++ normalForm (alphabetOf mode) (takenIn ds)) idle
-    text-by false e z = follows-after mode L next m r t f (rw idle (record { between = between; due = tt })) (idle-after mode next m (λ _. idle) z)
+        follows mode L next m r f (rw idle (L .at-once e (m .sender) r between)) (idle-after mode next m (λ _. idle) z) ∙ ap (λ (on : OnLine). words mode r (left on) ++ normalForm (alphabetOf mode) (takenIn ds)) idle
+    text-by false e z = follows-after mode L next m r f (rw idle (record { between = between; due = tt })) (idle-after mode next m (λ _. idle) z)
 
     before-by : (b : Bool) → atOnce (alphabetOf mode) ≡ b → length (takenIn (take (cond b 0 (untilSynchronized mode ds)) ds)) ≤ mostBefore (alphabetOf mode)
     unfolding takenIn
     before-by true e = omega arith
-    before-by false e = bound mode L e next m (mostBefore (alphabetOf mode)) t f (rw idle (L .room-most (m .sender)))
+    before-by false e = bound mode L e next m (mostBefore (alphabetOf mode)) f (rw idle (L .room-most (m .sender)))
 
     reads : Reads mode ds (events mode r (sentIn ds))
     reads =
@@ -154,7 +154,7 @@ module _ (mode : Mode) (L : LawsOf mode) where
         record {
           before = before-by (atOnce (alphabetOf mode)) refl;
           text = w;
-          no-fault = λ z. rw (w z) (normal-form-chars (alphabetOf mode) (takenIn (drop (synchronizedAfter mode ds) ds)) (taken-drop (synchronizedAfter mode ds) ds (taken-chars next m t f)));
+          no-fault = λ z. rw (w z) (normal-form-chars (alphabetOf mode) (takenIn (drop (synchronizedAfter mode ds) ds)) (taken-drop (synchronizedAfter mode ds) ds (taken-chars next m f)));
         }
 
 -- ---- from a fresh model on
@@ -171,9 +171,8 @@ reads-after-idle mode past forty next r n p =
     let m = modelAfter mode freshModel past in
     let m′ = modelAfter mode m forty in
     let ds = does mode m′ next in
-    let after = chars-right past (forty ++ next) (p .chars) in
-    let f = fine-after mode L past freshModel (chars-left past (forty ++ next) (p .chars)) (record { waits = tt; sender-in = fresh-sender mode }) in
-    let f′ = fine-after mode L forty m (chars-left forty next after) f in
+    let f = fine-after mode L past freshModel (record { waits = tt; sender-in = fresh-sender mode }) in
+    let f′ = fine-after mode L forty m f in
     let k = p .forty-ms in
     let idle = idle-after mode forty m (λ e. let z = ap length e in absurd (omega arith)) (no-burst-ends mode (does mode m forty) (p .idle)) in
     let b = quiet-rests mode 40 n r (sentIn ds) (p .inhibited-in) in
@@ -183,4 +182,4 @@ reads-after-idle mode past forty next r n p =
     let did-is : drop 40 (does mode m (forty ++ next)) ≡ ds = ap (drop 40) e ∙ ap (λ (i : ℕ). drop i (does mode m forty ++ ds)) (sym k) ∙ drop-append-seam (does mode m forty) ds in
     let heard-is : drop 40 (eventsInhibited mode n r (sentIn (does mode m (forty ++ next)))) ≡ events mode (restsAll mode r (b .0)) (sentIn ds) =
     ap (λ (l : List ℕ). drop 40 (eventsInhibited mode n r l)) sent ∙ b .2 in
-    rw (did-is, heard-is) (reads mode L next m′ (restsAll mode r (b .0)) (chars-right forty next after) f′ idle (settles mode r (p .reader-in) (b .0) (b .1)))
+    rw (did-is, heard-is) (reads mode L next m′ (restsAll mode r (b .0)) f′ idle (settles mode r (p .reader-in) (b .0) (b .1)))

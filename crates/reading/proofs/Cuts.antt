@@ -8,7 +8,7 @@ use lib.Seq.{take-at, drop-at}
 use Rattle.alphabet.specs.declared.Mode.{Mode}
 use Rattle.line.specs.declared.Reader.{Reader}
 use Rattle.reading.specs.Model.{Model, Step, Offer, Ms, Did, offered, msAfter, modelAfter, does, sentIn, heardIn}
-use Rattle.reading.specs.Reading.{NoBurst, OffersChars}
+use Rattle.reading.specs.Reading.{NoBurst}
 use Rattle.reading.specs.BothModels.{stationReader, stationEvents, OffersNone}
 use Rattle.reading.specs.Calls.{msIn}
 use Rattle.reading.specs.Demand3.{between}
@@ -40,29 +40,6 @@ pub heard-run : (heard : List ℕ) → heardIn (map Ms heard) ≡ heard
 unfolding heardIn
 heard-run [] = refl
 heard-run (x ∷ xs) = behind (heard-run xs)
-
-pub chars-append : (xs ys : List Step) → OffersChars xs → OffersChars ys → OffersChars (xs ++ ys)
-unfolding OffersChars
-chars-append [] ys p q = q
-chars-append (Offer cs ∷ xs) ys p q = (p .0, chars-append xs ys (p .1) q)
-chars-append (Ms x ∷ xs) ys p q = chars-append xs ys p q
-
-pub chars-left : (xs ys : List Step) → OffersChars (xs ++ ys) → OffersChars xs
-unfolding OffersChars
-chars-left [] ys h = tt
-chars-left (Offer cs ∷ xs) ys h = (h .0, chars-left xs ys (h .1))
-chars-left (Ms x ∷ xs) ys h = chars-left xs ys h
-
-pub chars-right : (xs ys : List Step) → OffersChars (xs ++ ys) → OffersChars ys
-unfolding OffersChars
-chars-right [] ys h = h
-chars-right (Offer cs ∷ xs) ys h = chars-right xs ys (h .1)
-chars-right (Ms x ∷ xs) ys h = chars-right xs ys h
-
-pub chars-run : (heard : List ℕ) → OffersChars (map Ms heard)
-unfolding OffersChars
-chars-run [] = tt
-chars-run (x ∷ xs) = chars-run xs
 
 pub none-right : (xs ys : List Step) → OffersNone (xs ++ ys) → OffersNone ys
 unfolding OffersNone

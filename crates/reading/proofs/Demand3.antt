@@ -20,12 +20,12 @@ use Rattle.line.specs.Reader.{fresh}
 use Rattle.line.specs.Words.{wordsOf, characterWord}
 use Rattle.line.proofs.WordLists.{words-append}
 use Rattle.reading.specs.Model.{Model, Step, Did, freshModel, modelAfter, does, sentIn, heardIn}
-use Rattle.reading.specs.Reading.{endsSynchronizing, untilSynchronized, synchronizedAfter, atOnce, NoBurst, EndsIdle, OffersChars, Reads}
+use Rattle.reading.specs.Reading.{endsSynchronizing, untilSynchronized, synchronizedAfter, atOnce, NoBurst, EndsIdle, Reads}
 use Rattle.reading.specs.BothModels.{stationReader, stationEvents, OffersNone, modelOf, doesAfter, BothPremises}
 use Rattle.reading.specs.Calls.{Call, opened, stepsBy, wordsBy, modelSteps, upTo, msIn}
 use Rattle.reading.specs.Demand3.{Lists, theMode, stepsA, stepsB, didsA, sentA, heardB, between, Premises, followsA, synchronized, wordsDue, Conclusion, Demand3}
 use Rattle.reading.proofs.BothModels.{both-read}
-use Rattle.reading.proofs.Cuts.{between-is, heard-append, chars-left, none-right, idle-left, idle-right, sent-append, after-append, does-append, events-append, does-length, events-length, Cut, cut-after, ms-append}
+use Rattle.reading.proofs.Cuts.{between-is, heard-append, none-right, idle-left, idle-right, sent-append, after-append, does-append, events-append, does-length, events-length, Cut, cut-after, ms-append}
 use Rattle.reading.proofs.StationLike.{opened-like}
 use Rattle.reading.proofs.Calls.{CallsLike, model-steps, calls-like, words-up-to}
 use Rattle.reading.proofs.CutInTwo.{cut-in-two}
@@ -300,10 +300,9 @@ module _ (d : Lists) (p : Premises d) (f : Five (stepsA d) (d .start - d .openA)
       regroup zs ts ds us = simp append-assoc
 
   -- ---- both
-  module _ (chars : OffersChars (stepsA d)) (levels : allAtMost 16 (heardB d) ≡ true) (sent : sentA d ≡ sentIn (didsA d)) where
+  module _ (levels : allAtMost 16 (heardB d) ≡ true) (sent : sentA d ≡ sentIn (didsA d)) where
     premises : BothPremises mode (f .past) (f .early) (f .forty) (f .next) (p .past) (t .early) (t .forty) (t .next)
     premises = record {
-      chars = chars-left ((f .past ++ f .early) ++ (f .forty ++ f .next)) (f .beyond) (subst OffersChars (f .whole) chars);
       early-ms = early-length;
       forty-ms = forty-length;
       idle-early = idle-left earlyDids fortyDids idle-both;
@@ -350,7 +349,7 @@ reads-on d p =
     let f = five (stepsA d) (d .start - d .openA) (d .asked + 1 - (d .start + 300)) (fits (d .openA) (d .start) (d .asked) (msIn (stepsA d)) (p .opened-A) (p .later) (p .run-A)) in
     let t = three (p .since) (earlyMs (d .openB) (d .start)) (d .asked + 1 - (d .start + 300))
     (since-is (d .openB) (d .start) (d .asked) (msIn (p .past)) (msIn (p .since)) (msIn (p .past ++ p .since)) (p .opened-B) (p .later) (p .past-ms) (p .since-ms) (ms-append (p .past) (p .since))) in
-    concludes d p f t (a .chars) (b .levels) (a .sent-are) (λ n. words-up-to (theMode d) (d .callsB) n (opened (d .mode)) freshModel fresh (opened-like (d .mode)))
+    concludes d p f t (b .levels) (a .sent-are) (λ n. words-up-to (theMode d) (d .callsB) n (opened (d .mode)) freshModel fresh (opened-like (d .mode)))
 
 pub demand-3 : Demand3
 demand-3 = record {

@@ -15,7 +15,7 @@ use Rattle.line.specs.Reader.{hear}
 use Rattle.line.specs.Words.{wordOf, wordsOf, readerAfter, events, words}
 use Rattle.chain.specs.Resting.{Settled}
 use Rattle.reading.specs.Model.{OnLine, Idle, Sending, Model, Loaded, Did, Step, Offer, Ms, offered, load, levelOn, oneGone, ended, did, msAfter, modelAfter, does, sentIn, takenIn}
-use Rattle.reading.specs.Reading.{synchronizes, endsSynchronizing, untilSynchronized, OffersChars}
+use Rattle.reading.specs.Reading.{synchronizes, endsSynchronizing, untilSynchronized}
 use Rattle.reading.proofs.Laws.{SenderIn, Synchronized, LawsOf}
 use Rattle.reading.proofs.Views.{left, Opens, opens, goes-on, Begins, stays, shifts, owns, Closes, ends, keeps, closed-view, Fine, fine-offered, fine-ms, load-view}
 
@@ -82,19 +82,19 @@ module _ (mode : Mode) (L : LawsOf mode) where
       record { then = rw c (g .0); text = rw (c, ← (o .1)) (g .1 ∙ b .1) }
 
   -- from a synchronized reader on, up to no burst: the words are those of what is left of a code and of all that is taken
-  pub follows : (steps : List Step) (m : Model) (r : Reader) → OffersChars steps → Fine mode m → After (m .sender) r (m .onLine) → modelAfter mode m steps .onLine ≡ Idle
+  pub follows : (steps : List Step) (m : Model) (r : Reader) → Fine mode m → After (m .sender) r (m .onLine) → modelAfter mode m steps .onLine ≡ Idle
       → words mode r (sentIn (does mode m steps)) ≡ words mode r (left (m .onLine)) ++ normals (takenIn (does mode m steps))
-  unfolding modelAfter does offered OffersChars takenIn normalForm outputs wordsOf
-  follows [] m r t f h z = rw z refl
-  follows (Offer cs ∷ steps) m r t f h z = follows steps (offered mode cs m) r (t .1) (fine-offered mode cs m f) h z
-  follows (Ms x ∷ steps) m r t f h z =
+  unfolding modelAfter does offered takenIn normalForm outputs wordsOf
+  follows [] m r f h z = rw z refl
+  follows (Offer cs ∷ steps) m r f h z = follows steps (offered mode cs m) r (fine-offered mode cs m f) h z
+  follows (Ms x ∷ steps) m r f h z =
       let g = followed m x r f h in
       let d = did mode m in
       let m′ = msAfter mode m x in
       let q = hear mode r (d .sent) .reader in
       let ds = does mode m′ steps in
       let w = wordOf (hear mode r (d .sent) .event) in
-      let i = follows steps m′ q t (fine-ms mode L m x f) (g .then) z in
+      let i = follows steps m′ q (fine-ms mode L m x f) (g .then) z in
       ap (λ (l : List ℕ). w ++ l) i ∙ sym (append-assoc w (words mode q (left (m′ .onLine))) (normals (takenIn ds))) ∙ ap (λ (l : List ℕ). l ++ normals (takenIn ds)) (g .text)
       ∙ append-assoc (words mode r (left (m .onLine))) (normals (d .taken)) (normals (takenIn ds))
       ∙ ap (λ (l : List ℕ). words mode r (left (m .onLine)) ++ l) (sym (normal-append (alphabetOf mode) (d .taken) (takenIn ds)))
@@ -162,19 +162,19 @@ module _ (mode : Mode) (L : LawsOf mode) where
       }
 
   -- up to no burst, the words after the first synchronizing code are those of what is taken after it
-  pub follows-after : (steps : List Step) (m : Model) (r : Reader) → OffersChars steps → Fine mode m → Before (m .sender) r (m .onLine) → modelAfter mode m steps .onLine ≡ Idle
+  pub follows-after : (steps : List Step) (m : Model) (r : Reader) → Fine mode m → Before (m .sender) r (m .onLine) → modelAfter mode m steps .onLine ≡ Idle
       → let ds = does mode m steps in
       let k = untilSynchronized mode ds in
       wordsOf (drop k (events mode r (sentIn ds))) ≡ normals (takenIn (drop k ds))
-  unfolding modelAfter does offered OffersChars takenIn normalForm outputs wordsOf untilSynchronized
-  follows-after [] m r t f h z = refl
-  follows-after (Offer cs ∷ steps) m r t f h z = follows-after steps (offered mode cs m) r (t .1) (fine-offered mode cs m f) h z
-  follows-after (Ms x ∷ steps) m r t f h z =
+  unfolding modelAfter does offered takenIn normalForm outputs wordsOf untilSynchronized
+  follows-after [] m r f h z = refl
+  follows-after (Offer cs ∷ steps) m r f h z = follows-after steps (offered mode cs m) r (fine-offered mode cs m f) h z
+  follows-after (Ms x ∷ steps) m r f h z =
       let g = awaited m x r f h in
       let f′ = fine-ms mode L m x f in
       go (endsSynchronizing mode (did mode m .ended))
-      (λ e. let a = g .at-last e in follows steps (msAfter mode m x) q t f′ (a .0) z ∙ ap (λ (l : List ℕ). words mode q l ++ normals (takenIn ds)) (a .1))
-      (follows-after steps (msAfter mode m x) q t f′ (g .before) z)
+      (λ e. let a = g .at-last e in follows steps (msAfter mode m x) q f′ (a .0) z ∙ ap (λ (l : List ℕ). words mode q l ++ normals (takenIn ds)) (a .1))
+      (follows-after steps (msAfter mode m x) q f′ (g .before) z)
     where
       q : Reader
       q = hear mode r (did mode m .sent) .reader

@@ -22,7 +22,6 @@ use Rattle.access.specs.Line.{shiftWanted}
 use Rattle.queue.specs.Queue.{waits, waiters, allWait}
 use Rattle.queue.proofs.Laws.{waiters-wait}
 use Rattle.reading.specs.Model.{Part, Preamble, OnLine, Idle, Sending, Model, Loaded, Step, Offer, Ms, offered, isCodePart, begun, loaded, shiftBegins, ownBegins, codeBegins, nextCode, load, closed, msAfter, modelAfter}
-use Rattle.reading.specs.Reading.{OffersChars}
 use Rattle.reading.proofs.Laws.{Waits, SenderIn, LawsOf}
 
 -- the ms that are left of what is on the line
@@ -127,8 +126,8 @@ module _ (mode : Mode) (L : LawsOf mode) where
   unfolding msAfter
   fine-ms m x f = let k = fine-begins (load-view m f .2) (f .waits) (f .sender-in) in record { waits = k .0; sender-in = k .1 }
 
-  pub fine-after : (steps : List Step) (m : Model) → OffersChars steps → Fine mode m → Fine mode (modelAfter mode m steps)
-  unfolding modelAfter OffersChars
-  fine-after [] m t f = f
-  fine-after (Offer cs ∷ steps) m t f = fine-after steps (offered mode cs m) (t .1) (fine-offered mode cs m f)
-  fine-after (Ms x ∷ steps) m t f = fine-after steps (msAfter mode m x) t (fine-ms m x f)
+  pub fine-after : (steps : List Step) (m : Model) → Fine mode m → Fine mode (modelAfter mode m steps)
+  unfolding modelAfter
+  fine-after [] m f = f
+  fine-after (Offer cs ∷ steps) m f = fine-after steps (offered mode cs m) (fine-offered mode cs m f)
+  fine-after (Ms x ∷ steps) m f = fine-after steps (msAfter mode m x) (fine-ms m x f)

@@ -13,7 +13,7 @@ use Rattle.line.specs.Reader.{fresh}
 use Rattle.access.specs.Core.{readerMs, eventMs}
 use Rattle.station.specs.Station.{readerOffered}
 use Rattle.reading.specs.Model.{Model, Step, Offer, Ms, Did, freshModel, offered, isInhibited, msAfter, modelAfter, does, sentIn, heardIn}
-use Rattle.reading.specs.Reading.{NoBurst, OffersChars, Reads}
+use Rattle.reading.specs.Reading.{NoBurst, Reads}
 
 -- The reader of a station after some steps, and what each of their ms ends in.
 unfoldable pub stationReader : Mode → Model → Reader → List Step → Reader
@@ -43,7 +43,6 @@ doesAfter mode past steps = does mode (modelOf mode past) steps
 -- start of A's idle period, or from B's opening if that is later (past′ is empty then); the 40 ms; and what follows. That the
 -- 40 ms of both are the same on one clock is for the statement that cuts the lists; that nothing waits at B is not needed.
 pub record BothPremises (mode : Mode) (past early forty next past′ early′ forty′ next′ : List Step) : Type 0 where
-  pub chars : OffersChars ((past ++ early) ++ (forty ++ next))
   pub early-ms : length (doesAfter mode past early) ≡ 260
   pub forty-ms : length (doesAfter mode (past ++ early) forty) ≡ 40
   pub idle-early : NoBurst (doesAfter mode past early)

@@ -15,7 +15,7 @@ use Rattle.line.specs.declared.Reader.{Reader}
 use Rattle.line.specs.Reader.{hear, inhibited}
 use Rattle.line.specs.Words.{wordsOf}
 use Rattle.line.specs.Range.{ReaderIn}
-use Rattle.reading.specs.Model.{Part, Preamble, ShiftCode, OwnCode, Step, Offer, Ms, Did, freshModel, modelAfter, does, sentIn, takenIn}
+use Rattle.reading.specs.Model.{Part, Preamble, ShiftCode, OwnCode, Step, Did, freshModel, modelAfter, does, sentIn, takenIn}
 
 -- The synchronizing code (there: the settling code): the first shift code (Baudot); the first own code, which is the first
 -- digit with the quiet after its key (DTMF).
@@ -64,12 +64,6 @@ EndsIdle [] = Unit {0}
 EndsIdle (d ∷ []) = d .burst ≡ false
 EndsIdle (d ∷ (e ∷ ds)) = EndsIdle (e ∷ ds)
 
--- Every offer that succeeds is of characters.
-unfoldable pub OffersChars : List Step → Type 0
-OffersChars [] = Unit {0}
-OffersChars (Offer cs ∷ steps) = (allChars cs ≡ true) × OffersChars steps
-OffersChars (Ms heard ∷ steps) = OffersChars steps
-
 -- What each ms ends in for a reader that is inhibited in the first n of them.
 unfoldable pub eventsInhibited : Mode → ℕ → Reader → List ℕ → List Event
 eventsInhibited mode n r [] = []
@@ -80,7 +74,6 @@ eventsInhibited mode (suc n) r (x ∷ xs) = Nothing ∷ eventsInhibited mode n (
 -- is in range at the first of them, whatever it heard before, and is inhibited in the first n of them, if at all. (That A was
 -- in no burst in the 260 ms before them, too, is not needed here: B's own inhibited ms run out in them.)
 pub record Premises (mode : Mode) (past forty next : List Step) (r : Reader) (n : ℕ) : Type 0 where
-  pub chars : OffersChars (past ++ (forty ++ next))
   pub forty-ms : length (does mode (modelAfter mode freshModel past) forty) ≡ 40
   pub idle : NoBurst (does mode (modelAfter mode freshModel past) forty)
   pub reader-in : ReaderIn mode r
