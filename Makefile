@@ -13,6 +13,7 @@ TEXT = HELLO 73
 export MODE TEXT
 
 LIBRARY = target/staticlib/libcuyrapaq.a
+SOURCES = $(shell find crates -name '*.rt' -o -name '*.antt') crates.txt
 
 HOSTS = baudot call line
 STRICT = -Wall -Wextra -Werror -std=c99 -pedantic -O2 -Iinclude
@@ -29,7 +30,9 @@ demo: hosts
 test:
 	.ci/run
 
-lib:
+lib: $(LIBRARY)
+
+$(LIBRARY): $(SOURCES)
 	rt staticlib cuyrapaq
 
 hosts: lib

@@ -22,6 +22,10 @@ use Rattle.access.specs.Rules.{mayEnd}
 abbrev pub onLine : ℕ → ℕ → ℕ → OnLine
 onLine part code at = record { at = at; part = part; code = code }
 
+-- The same, n ms further.
+abbrev pub further : OnLine → ℕ → OnLine
+further l n = onLine (l .part) (l .code) (l .at + n)
+
 abbrev pub idle : OnLine
 idle = onLine 0 0 0
 

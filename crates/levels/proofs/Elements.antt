@@ -21,10 +21,10 @@ use Rattle.signal.specs.Packing.{longest}
 use Rattle.signal.proofs.Levels.{test-22, test-20, baudot-at, edt-at, keys-on, keys-off}
 use Rattle.signal.proofs.Lengths.{digits-length, held-length, baudot-165, baudot-150, edt-100}
 use Rattle.access.specs.declared.OnLine.{OnLine}
-use Rattle.access.specs.Line.{inBurst, partMs}
+use Rattle.access.specs.Line.{further, inBurst, partMs}
 use Rattle.access.proofs.Laws.{within, level-preamble, level-code}
 use Rattle.lists.specs.Places.{UpTo}
-use Rattle.levels.specs.Levels.{further, codeLevel, partLevel, evenMs, elementAt, elementEnd, frameOf, Run, Framed}
+use Rattle.levels.specs.Levels.{codeLevel, partLevel, evenMs, elementAt, elementEnd, frameOf, Run, Framed}
 use Rattle.levels.proofs.Parts.{few-codes, longest-480}
 use Rattle.levels.proofs.Filling.{part-behind, Writing, writing-start, level-fits, level-written, writing-end}
 

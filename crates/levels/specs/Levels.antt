@@ -11,11 +11,7 @@ use Rattle.alphabet.specs.Packing.{codes}
 use Rattle.signal.specs.Signal.{quiet, levelOf, signal}
 use Rattle.signal.specs.Packing.{longest, edtFrame}
 use Rattle.access.specs.declared.OnLine.{OnLine}
-use Rattle.access.specs.Line.{onLine, levelOn}
-
--- What is on the line, n ms further.
-abbrev pub further : OnLine → ℕ → OnLine
-further l n = onLine (l .part) (l .code) (l .at + n)
+use Rattle.access.specs.Line.{further, levelOn}
 
 abbrev pub codeLevel : Mode → ℕ → ℕ → ℕ → ℕ
 codeLevel mode code at k = getD (signal mode code) (at + k) quiet

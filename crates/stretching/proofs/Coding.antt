@@ -26,7 +26,7 @@ use Rattle.access.specs.declared.Core.{Core}
 use Rattle.access.specs.declared.OnLine.{OnLine}
 use Rattle.access.specs.declared.Loaded.{Loaded}
 use Rattle.access.specs.Rules.{mayBegin, mayEnd}
-use Rattle.access.specs.Line.{onLine, inBurst, partMs, isOver, shiftWanted, codeBegins, nextCode, ended, closed}
+use Rattle.access.specs.Line.{further, onLine, inBurst, partMs, isOver, shiftWanted, codeBegins, nextCode, ended, closed}
 use Rattle.access.specs.Core.{core, modeIn, settled, waitingAfter}
 use Rattle.access.specs.Range.{SenderIn, SendsIn}
 use Rattle.access.proofs.Laws.{code-ms, code-next}
@@ -40,12 +40,11 @@ use Rattle.station.proofs.Range.{station-in, char-in}
 use Rattle.station.proofs.Cuts.{cut}
 use Rattle.station.proofs.Lengths.{sent-length}
 use Rattle.station.proofs.Takings.{taken-after}
-use Rattle.stretching.specs.Cores.{silenceFor, deafReader, burstLeft, loadedCore, sentFor, codedCore}
+use Rattle.cores.specs.Cores.{silenceFor, deafReader, burstLeft, loadedCore, sentFor, codedCore}
 use Rattle.stretching.specs.Stretches.{between, Stretches}
-use Rattle.stretching.proofs.CoreLaws.{silence-full, silence-none, deaf-some, burst-some}
+use Rattle.cores.proofs.Laws.{silence-full, silence-none, deaf-some, burst-some}
 use Rattle.stretching.proofs.Laws.{begun-same, left-burst, left-over, gone-over}
 use Rattle.stretching.proofs.Joining.{between-length, begin-stretch, send-stretch}
-use Rattle.levels.specs.Levels.{further}
 use Rattle.levels.proofs.Parts.{few-codes}
 use Rattle.levels.proofs.Elements.{code-levels}
 use Rattle.stretching.proofs.Fold.{after-none, sent-none, words-none}

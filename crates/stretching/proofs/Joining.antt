@@ -21,7 +21,7 @@ use Rattle.access.proofs.Range.{LoadedIn, settled-in}
 use Rattle.station.specs.declared.Station.{Station}
 use Rattle.station.specs.Station.{station, charsAfter, stationMs, sentMs, eventOf, stationAfter, sentBy, wordsBy}
 use Rattle.stretching.specs.declared.Stretched.{Stretched}
-use Rattle.stretching.specs.Cores.{silenceOver, loadedCore, sentFor, deafFor, listened}
+use Rattle.cores.specs.Cores.{silenceOver, loadedCore, sentFor, deafFor, listened}
 use Rattle.levels.specs.Levels.{partLevel}
 use Rattle.stretching.specs.Stretches.{between, Stretches}
 use Rattle.levels.proofs.Elements.{level-same}

@@ -23,14 +23,14 @@ use Rattle.access.specs.declared.Core.{Core}
 use Rattle.access.specs.declared.OnLine.{OnLine}
 use Rattle.access.specs.declared.Loaded.{Loaded}
 use Rattle.access.specs.Rules.{mayBegin, isInhibited, isSilent}
-use Rattle.access.specs.Line.{onLine, inBurst, partMs, isOver, begun, loaded, nextCode, levelOn, oneGone, closed}
+use Rattle.access.specs.Line.{further, onLine, inBurst, partMs, isOver, begun, loaded, nextCode, levelOn, oneGone, closed}
 use Rattle.access.specs.Core.{core, silenceAfter, eventMs, modeIn, settled, coreFrom}
 use Rattle.access.proofs.Laws.{level-over, not-over, gone-none, gone-one, stays-left}
 use Rattle.station.specs.declared.Station.{Station}
 use Rattle.station.specs.Station.{station, front, charsAfter, stationMs, sentMs, eventOf, stationAfter, sentBy, wordsBy}
-use Rattle.levels.specs.Levels.{further, partLevel}
-use Rattle.stretching.specs.Cores.{silenceFor, silenceNext, silenceOver, deafReader, burstLeft, loadedCore, sentFor, deafFor, listened}
-use Rattle.stretching.proofs.CoreLaws.{silence-none}
+use Rattle.levels.specs.Levels.{partLevel}
+use Rattle.cores.specs.Cores.{silenceFor, silenceNext, silenceOver, deafReader, burstLeft, loadedCore, sentFor, deafFor, listened}
+use Rattle.cores.proofs.Laws.{silence-none}
 
 pub at-most-take : (m n : ℕ) (xs : List ℕ) → allAtMost m xs ≡ true → allAtMost m (take n xs) ≡ true
 unfolding allAtMost

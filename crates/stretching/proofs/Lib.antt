@@ -1,5 +1,4 @@
 pub mod Laws
-pub mod CoreLaws
 pub mod Joining
 pub mod Fold
 pub mod Coding

@@ -18,7 +18,7 @@ use Rattle.line.specs.declared.Reader.{Reader}
 use Rattle.line.specs.declared.Reading.{Reading}
 use Rattle.line.specs.Reader.{reader, ends, keyEvent, prefixAfter, hear}
 use Rattle.line.specs.Words.{wordOf, wordsOf, readerAfter, words}
-use Rattle.stretching.specs.Cores.{atRest}
+use Rattle.cores.specs.Cores.{atRest}
 
 rest-is : (r : Reader) → atRest r ≡ true → r ≡ reader hunting ready (r .shift) (r .prefix)
 unfolding atRest

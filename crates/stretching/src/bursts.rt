@@ -1,6 +1,5 @@
 // Whole codes of a burst, one after the other.
 use crate::Stretched;
-use crate::cores;
 use access::Core;
 use access::OnLine;
 use access::sending;

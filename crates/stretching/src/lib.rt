@@ -16,7 +16,6 @@ ghost use Rattle.station.specs.Entries.{highestLevel};
 ghost use Rattle.stretching.specs.Stretches.{Stretches};
 
 pub mod bursts;
-pub mod cores;
 pub mod stretches;
 
 // A core after the ms of a run, and how many words were written.

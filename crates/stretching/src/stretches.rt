@@ -1,6 +1,5 @@
 // The stretches of a run.
 use crate::Stretched;
-use crate::cores;
 use access::Core;
 use access::Loaded;
 use access::sending;

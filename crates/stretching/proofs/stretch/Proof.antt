@@ -17,7 +17,7 @@ use Rattle.queue.proofs.Moves.{moved-by-length}
 use Rattle.station.specs.declared.Station.{Station}
 use Rattle.station.specs.Station.{station}
 use Rattle.station.proofs.Range.{station-in, front-in}
-use Rattle.stretching.proofs.CoreLaws.{sends-not}
+use Rattle.cores.proofs.Laws.{sends-not}
 use Rattle.stretching.proofs.stretch.Statement.{statement}
 use Rattle.stretching.proofs.stretch.Tie as tie
 

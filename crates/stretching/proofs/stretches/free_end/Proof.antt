@@ -1,6 +1,6 @@
 -- `free_end` meets its contract.
 use native.Mathlib.Omega.{arith}
-use Rattle.stretching.proofs.CoreLaws.{not-free}
+use Rattle.cores.proofs.Laws.{not-free}
 use borrow.Author.Needs.{needs}
 use Rattle.stretching.proofs.stretches.free_end.Statement.{statement}
 use Rattle.stretching.proofs.stretches.free_end.Tie as tie

@@ -9,9 +9,9 @@ use lib.Seq.{sets}
 use Rattle.lists.specs.Lists.{allAtMost}
 use Rattle.lists.proofs.Lists.{and-right, at-most-drop}
 use Rattle.access.specs.Core.{modeIn}
-use Rattle.stretching.specs.Cores.{silenceFor, atRest}
+use Rattle.cores.specs.Cores.{silenceFor, atRest}
 use Rattle.stretching.specs.Stretches.{between}
-use Rattle.stretching.proofs.CoreLaws.{over-quiet}
+use Rattle.cores.proofs.Laws.{over-quiet}
 use Rattle.stretching.proofs.Resting.{rests}
 use Rattle.stretching.proofs.Joining.{between-length, listen-stretch}
 use Rattle.stretching.proofs.Laws.{at-most-take}

@@ -1,9 +1,9 @@
 -- `loaded` meets its contract.
 use Rattle.access.specs.Core.{core}
-use Rattle.stretching.specs.Cores.{loadedCore}
+use Rattle.cores.specs.Cores.{loadedCore}
 use borrow.Author.Needs.{needs}
-use Rattle.stretching.proofs.cores.loaded.Statement.{statement}
-use Rattle.stretching.proofs.cores.loaded.Tie as tie
+use Rattle.cores.proofs.loaded.Statement.{statement}
+use Rattle.cores.proofs.loaded.Tie as tie
 
 waiting-after-requires : tie.Need-waiting-after-requires
 waiting-after-requires c κs = search needs

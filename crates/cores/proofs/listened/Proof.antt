@@ -1,8 +1,8 @@
 -- `listened` meets its contract.
 use mathlib.Core.Path.{refl}
-use Rattle.stretching.specs.Cores.{listened}
-use Rattle.stretching.proofs.cores.listened.Statement.{statement}
-use Rattle.stretching.proofs.cores.listened.Tie as tie
+use Rattle.cores.specs.Cores.{listened}
+use Rattle.cores.proofs.listened.Statement.{statement}
+use Rattle.cores.proofs.listened.Tie as tie
 
 returns : tie.Need-returns
 unfolding listened

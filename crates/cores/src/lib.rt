@@ -13,7 +13,7 @@ ghost use Prim.Native.Nat.{_+_, _-_, _≤_};
 ghost use Rattle.lists.specs.Lists.{allAtMost};
 ghost use Rattle.access.specs.Line.{onLine, isOver};
 ghost use Rattle.access.specs.Core.{modeIn};
-ghost use Rattle.stretching.specs.Cores.{silenceFor, silenceOver, atRest, deafReader, loadedCore, sentFor, codedCore, deafFor, listened};
+ghost use Rattle.cores.specs.Cores.{silenceFor, silenceOver, atRest, deafReader, loadedCore, sentFor, codedCore, deafFor, listened};
 
 // The silence after n ms without signal.
 pub fn silence_for(silence: u16, n: usize) -> u16

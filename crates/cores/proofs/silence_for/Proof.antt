@@ -1,10 +1,10 @@
 -- `silence_for` meets its contract.
 use mathlib.Core.Path.{sym}
 use native.Mathlib.Omega.{arith}
-use Rattle.stretching.proofs.CoreLaws.{silence-full, silence-sum}
+use Rattle.cores.proofs.Laws.{silence-full, silence-sum}
 use borrow.Author.Needs.{needs}
-use Rattle.stretching.proofs.cores.silence_for.Statement.{statement}
-use Rattle.stretching.proofs.cores.silence_for.Tie as tie
+use Rattle.cores.proofs.silence_for.Statement.{statement}
+use Rattle.cores.proofs.silence_for.Tie as tie
 
 cast-if1 : tie.Need-cast-if1
 cast-if1 c = search needs

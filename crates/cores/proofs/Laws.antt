@@ -20,7 +20,7 @@ use Rattle.access.specs.declared.Core.{Core}
 use Rattle.access.specs.Rules.{mayBegin, isSilent}
 use Rattle.access.specs.Line.{inBurst}
 use Rattle.access.specs.Core.{silenceAfter}
-use Rattle.stretching.specs.Cores.{silenceFor, silenceNext, silenceOver, deafReader, burstLeft}
+use Rattle.cores.specs.Cores.{silenceFor, silenceNext, silenceOver, deafReader, burstLeft}
 
 -- ---- silence
 

@@ -1,10 +1,10 @@
 -- `deaf_for` meets its contract.
-use Rattle.stretching.specs.Cores.{deafFor}
+use Rattle.cores.specs.Cores.{deafFor}
 use Rattle.access.specs.Core.{core}
 use Prim.Native.Nat.{_-_}
 use borrow.Author.Needs.{needs}
-use Rattle.stretching.proofs.cores.deaf_for.Statement.{statement}
-use Rattle.stretching.proofs.cores.deaf_for.Tie as tie
+use Rattle.cores.proofs.deaf_for.Statement.{statement}
+use Rattle.cores.proofs.deaf_for.Tie as tie
 
 silence-for-requires : tie.Need-silence-for-requires
 silence-for-requires c κs = search needs

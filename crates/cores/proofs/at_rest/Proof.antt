@@ -1,9 +1,9 @@
 -- `at_rest` meets its contract.
 use mathlib.Core.Path.{refl}
 use borrow.Author.Tests.{eq-eqb, ne-eqb}
-use Rattle.stretching.specs.Cores.{atRest}
-use Rattle.stretching.proofs.cores.at_rest.Statement.{statement}
-use Rattle.stretching.proofs.cores.at_rest.Tie as tie
+use Rattle.cores.specs.Cores.{atRest}
+use Rattle.cores.proofs.at_rest.Statement.{statement}
+use Rattle.cores.proofs.at_rest.Tie as tie
 
 returns : tie.Need-returns
 unfolding atRest

@@ -1,11 +1,11 @@
 -- `coded` meets its contract.
 use Prim.Native.Nat.{_-_}
 use Rattle.access.specs.Core.{core}
-use Rattle.stretching.specs.Cores.{codedCore}
-use Rattle.stretching.proofs.CoreLaws.{burst-some}
+use Rattle.cores.specs.Cores.{codedCore}
+use Rattle.cores.proofs.Laws.{burst-some}
 use borrow.Author.Needs.{needs}
-use Rattle.stretching.proofs.cores.coded.Statement.{statement}
-use Rattle.stretching.proofs.cores.coded.Tie as tie
+use Rattle.cores.proofs.coded.Statement.{statement}
+use Rattle.cores.proofs.coded.Tie as tie
 
 cast-t8 : tie.Need-cast-t8
 cast-t8 c = search needs

@@ -7,8 +7,8 @@ use lib.ListN.{length}
 use Rattle.lists.specs.Lists.{allAtMost}
 use Rattle.lists.proofs.Lists.{at-most-at, at-most-end}
 use borrow.Author.Needs.{needs}
-use Rattle.stretching.proofs.cores.all_quiet.Statement.{statement}
-use Rattle.stretching.proofs.cores.all_quiet.Tie as tie
+use Rattle.cores.proofs.all_quiet.Statement.{statement}
+use Rattle.cores.proofs.all_quiet.Tie as tie
 
 returns : tie.Need-returns
 returns c = let e = c .if1 .taken in sym (at-most-end 0 (c .before .before .args .heard .now) 0 (omega arith))

@@ -13,9 +13,8 @@ use Rattle.access.specs.declared.Core.{Core}
 use Rattle.access.specs.declared.OnLine.{OnLine}
 use Rattle.access.specs.declared.Loaded.{Loaded}
 use Rattle.access.specs.Rules.{freeMs, afterMs, isSilent}
-use Rattle.access.specs.Line.{closed}
+use Rattle.access.specs.Line.{further, closed}
 use Rattle.access.specs.Core.{core, modeIn, silenceAfter, waitingAfter}
-use Rattle.levels.specs.Levels.{further}
 
 -- The silence after n ms without signal, and after ms that the receiver hears.
 abbrev pub silenceFor : ℕ → ℕ → ℕ

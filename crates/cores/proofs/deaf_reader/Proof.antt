@@ -4,10 +4,10 @@ use Prim.Native.Nat.{ℕ}
 use Rattle.frames.specs.Frames.{hunting}
 use Rattle.keys.specs.Keys.{needs as needsQuiet}
 use Rattle.line.specs.Reader.{reader}
-use Rattle.stretching.proofs.CoreLaws.{deaf-some}
+use Rattle.cores.proofs.Laws.{deaf-some}
 use borrow.Author.Needs.{needs}
-use Rattle.stretching.proofs.cores.deaf_reader.Statement.{statement}
-use Rattle.stretching.proofs.cores.deaf_reader.Tie as tie
+use Rattle.cores.proofs.deaf_reader.Statement.{statement}
+use Rattle.cores.proofs.deaf_reader.Tie as tie
 
 needed-for-requires : tie.Need-needed-for-requires
 needed-for-requires c κs = search needs

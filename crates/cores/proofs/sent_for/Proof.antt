@@ -1,13 +1,12 @@
 -- `sent_for` meets its contract.
 use mathlib.Core.Path.{_≡_, _∙_}
-use Rattle.access.specs.Line.{ended, closed}
+use Rattle.access.specs.Line.{further, ended, closed}
 use Rattle.access.specs.Core.{core, modeIn}
-use Rattle.levels.specs.Levels.{further}
-use Rattle.stretching.specs.Cores.{sentFor}
-use Rattle.stretching.proofs.CoreLaws.{burst-some}
+use Rattle.cores.specs.Cores.{sentFor}
+use Rattle.cores.proofs.Laws.{burst-some}
 use borrow.Author.Needs.{needs}
-use Rattle.stretching.proofs.cores.sent_for.Statement.{statement}
-use Rattle.stretching.proofs.cores.sent_for.Tie as tie
+use Rattle.cores.proofs.sent_for.Statement.{statement}
+use Rattle.cores.proofs.sent_for.Tie as tie
 
 further-requires : tie.Need-further-requires
 further-requires c κs = search needs

@@ -4,8 +4,8 @@ use mathlib.Core.Bool.{Bool, _&&_}
 use borrow.Author.Needs.{needs}
 use borrow.Author.Tests.{not-true, not-false}
 use Rattle.lists.specs.Lists.{allAtMost}
-use Rattle.stretching.proofs.cores.rests.Statement.{statement}
-use Rattle.stretching.proofs.cores.rests.Tie as tie
+use Rattle.cores.proofs.rests.Statement.{statement}
+use Rattle.cores.proofs.rests.Tie as tie
 
 at-rest-requires : tie.Need-at-rest-requires
 at-rest-requires c κs = search needs

@@ -2,9 +2,9 @@
 use mathlib.Core.Path.{_∙_}
 use native.Mathlib.Omega.{arith}
 use borrow.Author.Needs.{needs}
-use Rattle.stretching.proofs.CoreLaws.{Tail, tail-start, tail-free, tail-signal, tail-quiet, tail-end}
-use Rattle.stretching.proofs.cores.silence_over.Statement.{statement}
-use Rattle.stretching.proofs.cores.silence_over.Tie as tie
+use Rattle.cores.proofs.Laws.{Tail, tail-start, tail-free, tail-signal, tail-quiet, tail-end}
+use Rattle.cores.proofs.silence_over.Statement.{statement}
+use Rattle.cores.proofs.silence_over.Tie as tie
 
 abbrev Inv-loop : tie.InvT-loop
 Inv-loop silence heard left₀ n₀ left n = Tail heard silence left n
