@@ -15,7 +15,7 @@ use std::time::Instant;
 /// The ms of a pass; 256 waiting characters take longer in every mode.
 const LENGTH: usize = 4 * MOST_MS;
 const PASSES: usize = 12;
-const ROUNDS: usize = 15;
+const ROUNDS: usize = 100;
 
 /// The ms of a short call.
 const SHORT: usize = 20;

@@ -172,7 +172,7 @@ pub fn skip_frame(mode: Mode, r: Reader, heard: &[u8], i: usize) -> Skipped
     framed(r, place, digits, to)
 }
 
-// A reader of keys before a ms: a key, its ms in a row, the quiet ms needed.
+// A reader of keys before the ms at a place: a key, its ms in a row, the quiet ms needed; the place.
 struct Keyed {
     key: u8,
     ms: usize,
