@@ -8,8 +8,9 @@ use frames::Frame;
 use keys::Keys;
 use line::Reader;
 ghost use mathlib.Core.Path.{_≡_};
-ghost use mathlib.Core.Bool.{_&&_};
+ghost use mathlib.Core.Bool.{true, _&&_};
 ghost use Prim.Native.Nat.{_+_, _-_, _≤_};
+ghost use lib.Dec.{eqb};
 ghost use Rattle.lists.specs.Lists.{allAtMost};
 ghost use Rattle.access.specs.Line.{onLine, isOver};
 ghost use Rattle.access.specs.Core.{modeIn};
@@ -26,11 +27,16 @@ pub fn silence_for(silence: u16, n: usize) -> u16
     silence + n as u16
 }
 
-// The silence after some ms that the receiver hears: the quiet ms at their end, and the silence before if all are quiet.
-pub fn silence_over(silence: u16, heard: &[u8]) -> u16
+// The silence after some ms that the receiver hears: the quiet ms at their end, and the silence before if all are quiet. None is above
+// the bound.
+pub fn silence_over(silence: u16, heard: &[u8], bound: u8) -> u16
     requires { ⌜ silence ≤ 300 ⌝ }
+    requires { ⌜ allAtMost bound (now heard) ≡ true ⌝ }
     ensures { λ r. ⌜ r ≡ silenceOver silence (now (heard .entry)) ⌝ }
 {
+    if bound == 0 {
+        return silence_for(silence, heard.len());
+    }
     let mut left = heard.len();
     let mut n: usize = 0;
     while 0 < left {
@@ -44,20 +50,6 @@ pub fn silence_over(silence: u16, heard: &[u8]) -> u16
         n += 1;
     }
     silence_for(silence, n)
-}
-
-// Are all ms quiet? The last one is asked first.
-fn all_quiet(heard: &[u8]) -> bool
-    ensures { λ r. ⌜ r ≡ allAtMost 0 (now (heard .entry)) ⌝ }
-{
-    let n = heard.len();
-    if n == 0 {
-        return true;
-    }
-    if heard[n - 1] != 0 {
-        return false;
-    }
-    lists::checks::all_at_most(heard, 0)
 }
 
 // Is a reader at rest?
@@ -81,14 +73,14 @@ fn at_rest(r: Reader) -> bool
     k.needed == 0
 }
 
-// Does a reader at rest hear quiet ms alone?
-pub fn rests(r: Reader, heard: &[u8]) -> bool
-    ensures { λ q. ⌜ q ≡ (atRest r && allAtMost 0 (now (heard .entry))) ⌝ }
+// Does a reader at rest hear quiet ms alone, where none is above the bound?
+pub fn rests(r: Reader, bound: u8) -> bool
+    ensures { λ q. ⌜ q ≡ (atRest r && eqb bound 0) ⌝ }
 {
     if !at_rest(r) {
         return false;
     }
-    all_quiet(heard)
+    bound == 0
 }
 
 // The quiet ms that a reader of keys still needs, after n quiet ms.

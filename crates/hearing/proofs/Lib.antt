@@ -1,5 +1,6 @@
 pub mod Fold
 pub mod Searching
+pub mod Alikes
 pub mod Numbered
 pub mod Passing
 pub mod Framing

@@ -2,7 +2,11 @@
 use Prim.Native.Nat.{ℕ, _+_, _≤_, _<_}
 use mathlib.Core.Path.{_≡_}
 use mathlib.Core.List.{List}
-use lib.ListN.{getD}
+use lib.ListN.{length, getD}
+
+-- All ms are alike.
+pub record Alike (heard : List ℕ) : Type 0 where
+  pub same : (j k : ℕ) → j < length heard → k < length heard → getD heard j 0 ≡ getD heard k 0
 
 -- Up to a place, a level does not stand; up to a place, no other does.
 pub record Until (heard : List ℕ) (from end level to : ℕ) : Type 0 where

@@ -50,17 +50,16 @@ fn start(digits: usize, heard: u8) -> Effect
     Effect::Hunts
 }
 
-// The sample of a digit.
+// The sample of a digit. Mark and space are not told apart by a branch, since what comes is not foreseen.
 fn digit(top: usize, digits: usize, heard: u8) -> Effect
     requires { ⌜ top < 128 ⌝ }
     requires { ⌜ digits < 128 ⌝ }
     ensures { λ r. ⌜ Does (kind.Digit top) digits heard r ⌝ }
 {
-    match heard {
-        0 => Effect::Finds,
-        1 => Effect::On(digits / 2 + top),
-        _ => Effect::On(digits / 2),
+    if heard == 0 {
+        return Effect::Finds;
     }
+    Effect::On(digits / 2 + top * (heard == 1) as usize)
 }
 
 // The sample of the parity: 1 as mark.

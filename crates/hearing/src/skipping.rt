@@ -1,5 +1,6 @@
 // Ms that end in nothing.
 use crate::Skipped;
+use crate::alike;
 use crate::runs;
 use crate::samples;
 use crate::samples::Effect;
@@ -16,6 +17,7 @@ ghost use Rattle.alphabet.specs.declared.Mode.the-variants as mode;
 ghost use Rattle.frames.specs.Range.{FrameOf};
 ghost use Rattle.keys.specs.Range.{KeysIn};
 ghost use Rattle.line.specs.Range.{ReaderIn};
+ghost use Rattle.hearing.specs.Runs.{Alike};
 ghost use Rattle.hearing.specs.Skipping.{frameAt, readerAt, keysOf, readerWith, placeAfter, msAfter, Framed, Skips, Passes, PassesKeys, QuietFrom, Stays};
 
 // A reader of frames before a ms, and whether it may pass more.
@@ -181,7 +183,8 @@ struct Keyed {
 }
 
 // The ms in a row of what is heard on the last ms, if no key counts before it: 0 for quiet.
-fn ms_after(heard: &[u8], to: usize, key: u8, ms: usize, last: usize) -> usize
+fn ms_after(heard: &[u8], alike: bool, to: usize, key: u8, ms: usize, last: usize) -> usize
+    requires { ⌜ (alike ≡ true → Alike (now heard)) ⌝ }
     requires { ⌜ to ≤ last ⌝ }
     requires { ⌜ last < length (now heard) ⌝ }
     requires { ⌜ ms + (last - to) < 40 ⌝ }
@@ -191,7 +194,7 @@ fn ms_after(heard: &[u8], to: usize, key: u8, ms: usize, last: usize) -> usize
     if x == 0 {
         return 0;
     }
-    let from = runs::back(heard, to, last, x);
+    let from = alike::back(heard, alike, to, last, x);
     let n = last + 1 - from;
     if to < from {
         return n;
@@ -203,7 +206,8 @@ fn ms_after(heard: &[u8], to: usize, key: u8, ms: usize, last: usize) -> usize
 }
 
 // DTMF, while no quiet is needed: up to the ms in which a key counts. Each turn goes to the first ms in which one can.
-fn pass_count(heard: &[u8], k: Keyed) -> Keyed
+fn pass_count(heard: &[u8], alike: bool, k: Keyed) -> Keyed
+    requires { ⌜ (alike ≡ true → Alike (now heard)) ⌝ }
     requires { ⌜ KeysIn (keysOf k) ⌝ }
     requires { ⌜ allAtMost 16 (now heard) ≡ true ⌝ }
     requires { ⌜ k .to ≤ length (now heard) ⌝ }
@@ -217,7 +221,7 @@ fn pass_count(heard: &[u8], k: Keyed) -> Keyed
     let mut to = k.to;
     while to < heard.len() {
         let last = lists::places::up_to(to, 39 - ms, heard.len() - 1);
-        let n = ms_after(heard, to, key, ms, last);
+        let n = ms_after(heard, alike, to, key, ms, last);
         if n == 40 {
             return Keyed {
                 key: heard[last],
@@ -239,18 +243,20 @@ fn pass_count(heard: &[u8], k: Keyed) -> Keyed
 }
 
 // Where quiet begins, after a key that counted; the place itself if it has begun.
-fn quiet_from(heard: &[u8], needed: usize, i: usize) -> usize
+fn quiet_from(heard: &[u8], alike: bool, needed: usize, i: usize) -> usize
+    requires { ⌜ (alike ≡ true → Alike (now heard)) ⌝ }
     requires { ⌜ i ≤ length (now heard) ⌝ }
     ensures { λ r. ⌜ QuietFrom (now (heard .entry)) needed i r ⌝ }
 {
     if needed != 40 {
         return i;
     }
-    runs::until(heard, i, heard.len(), 0)
+    alike::until(heard, alike, i, heard.len(), 0)
 }
 
 // DTMF, while quiet is needed: up to where quiet begins, and the quiet ms.
-fn pass_quiet(heard: &[u8], k: Keyed) -> Keyed
+fn pass_quiet(heard: &[u8], alike: bool, k: Keyed) -> Keyed
+    requires { ⌜ (alike ≡ true → Alike (now heard)) ⌝ }
     requires { ⌜ KeysIn (keysOf k) ⌝ }
     requires { ⌜ allAtMost 16 (now heard) ≡ true ⌝ }
     requires { ⌜ k .to ≤ length (now heard) ⌝ }
@@ -265,9 +271,9 @@ fn pass_quiet(heard: &[u8], k: Keyed) -> Keyed
     if k.ms != 0 {
         return k;
     }
-    let from = quiet_from(heard, k.needed, k.to);
+    let from = quiet_from(heard, alike, k.needed, k.to);
     let end = lists::places::up_to(from, k.needed, heard.len());
-    let to = runs::through(heard, from, end, 0);
+    let to = alike::through(heard, alike, from, end, 0);
     Keyed {
         key: 0,
         ms: 0,
@@ -298,8 +304,9 @@ fn with_keys(r: Reader, k: Keyed) -> Skipped
 }
 
 // DTMF: the quiet that is needed, then up to the ms in which a key counts.
-pub fn skip_keys(r: Reader, heard: &[u8], i: usize) -> Skipped
+pub fn skip_keys(r: Reader, heard: &[u8], alike: bool, i: usize) -> Skipped
     requires { ⌜ ReaderIn mode.Dtmf r ⌝ }
+    requires { ⌜ (alike ≡ true → Alike (now heard)) ⌝ }
     requires { ⌜ allAtMost 16 (now heard) ≡ true ⌝ }
     requires { ⌜ i ≤ length (now heard) ⌝ }
     ensures { λ s. ⌜ Skips mode.Dtmf (now (heard .entry)) r i s ⌝ }
@@ -311,6 +318,6 @@ pub fn skip_keys(r: Reader, heard: &[u8], i: usize) -> Skipped
         needed: k.needed as usize,
         to: i,
     };
-    let quiet = pass_quiet(heard, first);
-    with_keys(r, pass_count(heard, quiet))
+    let quiet = pass_quiet(heard, alike, first);
+    with_keys(r, pass_count(heard, alike, quiet))
 }

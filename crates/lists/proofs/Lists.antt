@@ -10,7 +10,7 @@ use lib.Dec.{leb}
 use lib.ListN.{length, getD, set, drop, drop-of-length-le}
 use lib.Seq.{sets, sets-eq, drop-cons}
 use borrow.Author.Tests.{leb-true, le-leb}
-use Rattle.lists.specs.Lists.{allAtMost}
+use Rattle.lists.specs.Lists.{allAtMost, allAtLeast}
 
 -- two runs of values, one behind the other
 pub sets-append : {A : Type 0} (l : List A) (i : ℕ) (xs ys : List A) → sets l i (xs ++ ys) ≡ sets (sets l i xs) (i + length xs) ys
@@ -33,6 +33,15 @@ and-left false b e = e
 pub and-right : (a b : Bool) → (a && b) ≡ true → b ≡ true
 and-right true b e = e
 and-right false b e = cc
+
+-- what follows from a test does not change it
+and-weaker : (a b rest : Bool) → (a ≡ true → b ≡ true) → (a && rest) ≡ (b && (a && rest))
+and-weaker true b rest h = rw (h refl) refl
+and-weaker false b rest h = sym (and-false b)
+
+and-implied : (a b rest : Bool) → (a ≡ true → b ≡ true) → (a && rest) ≡ (a && (b && rest))
+and-implied true b rest h = rw (h refl) refl
+and-implied false b rest h = refl
 
 -- a list whose numbers are at most m, by its front, by a place, and from a place on
 pub at-most-head : (m x : ℕ) (xs : List ℕ) → allAtMost m (x ∷ xs) ≡ true → x ≤ m
@@ -85,18 +94,14 @@ module _ (m : ℕ) (xs : List ℕ) (i largest : ℕ) (h : i < length xs) where
   rest = allAtMost m (drop (i + 1) xs)
 
   pub at-most-larger : largest < x → (leb x m && rest) ≡ (leb largest m && allAtMost m (drop i xs))
-  at-most-larger g = go (leb x m) refl ∙ ap (λ (b : Bool). leb largest m && b) (sym (at-most-left m xs i h))
-    where
-      go : (b : Bool) → leb x m ≡ b → (leb x m && rest) ≡ (leb largest m && (leb x m && rest))
-      go true e = let l = leb-true x m e in rw (le-leb largest m (omega arith)) refl
-      go false e = rw (e, and-false) refl
+  at-most-larger g =
+      and-weaker (leb x m) (leb largest m) rest (λ e. let l = leb-true x m e in le-leb largest m (omega arith))
+      ∙ ap (λ (b : Bool). leb largest m && b) (sym (at-most-left m xs i h))
 
   pub at-most-others : x ≤ largest → (leb largest m && rest) ≡ (leb largest m && allAtMost m (drop i xs))
-  at-most-others g = go (leb largest m) refl ∙ ap (λ (b : Bool). leb largest m && b) (sym (at-most-left m xs i h))
-    where
-      go : (b : Bool) → leb largest m ≡ b → (leb largest m && rest) ≡ (leb largest m && (leb x m && rest))
-      go true e = let l = leb-true largest m e in rw (le-leb x m (omega arith)) refl
-      go false e = rw e refl
+  at-most-others g =
+      and-implied (leb largest m) (leb x m) rest (λ e. let l = leb-true largest m e in le-leb x m (omega arith))
+      ∙ ap (λ (b : Bool). leb largest m && b) (sym (at-most-left m xs i h))
 
 pub at-most-all : (m : ℕ) (xs : List ℕ) (i : ℕ) (ok : Bool) → length xs ≤ i → (ok && allAtMost m (drop i xs)) ≡ allAtMost m xs → ok ≡ allAtMost m xs
 at-most-all m xs i ok h e = sym (and-true ok) ∙ ap (λ (b : Bool). ok && b) (sym (at-most-end m xs i h)) ∙ e
@@ -106,3 +111,46 @@ pub at-most-more : (m n : ℕ) (xs : List ℕ) → m ≤ n → allAtMost m xs �
 unfolding allAtMost
 at-most-more m n [] h p = refl
 at-most-more m n (x ∷ xs) h p = let k = at-most-head m x xs p in rw (le-leb x n (omega arith)) (at-most-more m n xs h (at-most-tail m x xs p))
+
+-- a list whose numbers are at least m, by its front, by a place, and from a place on
+pub at-least-head : (m x : ℕ) (xs : List ℕ) → allAtLeast m (x ∷ xs) ≡ true → m ≤ x
+unfolding allAtLeast
+at-least-head m x xs e = leb-true m x (and-left (leb m x) (allAtLeast m xs) e)
+
+pub at-least-tail : (m x : ℕ) (xs : List ℕ) → allAtLeast m (x ∷ xs) ≡ true → allAtLeast m xs ≡ true
+unfolding allAtLeast
+at-least-tail m x xs e = and-right (leb m x) (allAtLeast m xs) e
+
+pub at-least-at : (m : ℕ) (xs : List ℕ) → allAtLeast m xs ≡ true → (i : ℕ) → i < length xs → m ≤ getD xs i 0
+at-least-at m [] e i h = absurd (not-suc-le-zero h)
+at-least-at m (x ∷ xs) e zero h = at-least-head m x xs e
+at-least-at m (x ∷ xs) e (suc i) h = at-least-at m xs (at-least-tail m x xs e) i (le-of-suc-le-suc h)
+
+pub at-least-left : (m : ℕ) (xs : List ℕ) (i : ℕ) → i < length xs → allAtLeast m (drop i xs) ≡ (leb m (getD xs i 0) && allAtLeast m (drop (i + 1) xs))
+unfolding allAtLeast
+at-least-left m xs i h = rw (add-one, drop-cons xs i 0 h)
+
+pub at-least-end : (m : ℕ) (xs : List ℕ) (i : ℕ) → length xs ≤ i → allAtLeast m (drop i xs) ≡ true
+unfolding allAtLeast
+at-least-end m xs i h = rw (drop-of-length-le xs h)
+
+-- a loop that looks at every number: the smallest of those passed
+module _ (m : ℕ) (xs : List ℕ) (i smallest : ℕ) (h : i < length xs) where
+  abbrev y : ℕ
+  y = getD xs i 0
+
+  abbrev others : Bool
+  others = allAtLeast m (drop (i + 1) xs)
+
+  pub at-least-smaller : y < smallest → (leb m y && others) ≡ (leb m smallest && allAtLeast m (drop i xs))
+  at-least-smaller g =
+      and-weaker (leb m y) (leb m smallest) others (λ e. let l = leb-true m y e in le-leb m smallest (omega arith))
+      ∙ ap (λ (b : Bool). leb m smallest && b) (sym (at-least-left m xs i h))
+
+  pub at-least-others : smallest ≤ y → (leb m smallest && others) ≡ (leb m smallest && allAtLeast m (drop i xs))
+  at-least-others g =
+      and-implied (leb m smallest) (leb m y) others (λ e. let l = leb-true m smallest e in le-leb m y (omega arith))
+      ∙ ap (λ (b : Bool). leb m smallest && b) (sym (at-least-left m xs i h))
+
+pub at-least-all : (m : ℕ) (xs : List ℕ) (i : ℕ) (ok : Bool) → length xs ≤ i → (ok && allAtLeast m (drop i xs)) ≡ allAtLeast m xs → ok ≡ allAtLeast m xs
+at-least-all m xs i ok h e = sym (and-true ok) ∙ ap (λ (b : Bool). ok && b) (sym (at-least-end m xs i h)) ∙ e

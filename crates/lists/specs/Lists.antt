@@ -10,6 +10,11 @@ unfoldable pub allAtMost : ℕ → List ℕ → Bool
 allAtMost m [] = true
 allAtMost m (x ∷ xs) = leb x m && allAtMost m xs
 
+-- every number is at least m
+unfoldable pub allAtLeast : ℕ → List ℕ → Bool
+allAtLeast m [] = true
+allAtLeast m (x ∷ xs) = leb m x && allAtLeast m xs
+
 -- a slice with a result written from its front
 abbrev pub written : List ℕ → List ℕ → List ℕ
 written result slice = result ++ drop (length result) slice

@@ -1,10 +1,12 @@
-// Tests over slices of bytes.
+// Tests over slices of bytes. Every byte is looked at, so that the loops are compiled to vector instructions.
 ghost use mathlib.Core.Path.{_≡_};
-ghost use Rattle.lists.specs.Lists.{allAtMost};
+ghost use Prim.Native.Nat.{ℕ, _≤_};
+ghost use lib.Dec.{leb};
+ghost use Rattle.lists.specs.Lists.{allAtMost, allAtLeast};
 
-// Is every byte at most m? Every byte is looked at, so that the loop is compiled to vector instructions.
-pub fn all_at_most(xs: &[u8], m: u8) -> bool
-    ensures { λ r. ⌜ r ≡ allAtMost m (now (xs .entry)) ⌝ }
+// The largest byte; 0 if there is none.
+pub fn largest(xs: &[u8]) -> u8
+    ensures { λ r. ⌜ ((m : ℕ) → leb r m ≡ allAtMost m (now (xs .entry))) ⌝ }
 {
     let mut largest: u8 = 0;
     let mut i: usize = 0;
@@ -15,5 +17,42 @@ pub fn all_at_most(xs: &[u8], m: u8) -> bool
         }
         i += 1;
     }
-    largest <= m
+    largest
+}
+
+// Is every byte at most m?
+pub fn all_at_most(xs: &[u8], m: u8) -> bool
+    ensures { λ r. ⌜ r ≡ allAtMost m (now (xs .entry)) ⌝ }
+{
+    largest(xs) <= m
+}
+
+// The smallest byte; 255 if there is none.
+fn smallest(xs: &[u8]) -> u8
+    ensures { λ r. ⌜ ((m : ℕ) → m ≤ 255 → leb m r ≡ allAtLeast m (now (xs .entry))) ⌝ }
+{
+    let mut smallest: u8 = 255;
+    let mut i: usize = 0;
+    while i < xs.len() {
+        let x = xs[i];
+        if x < smallest {
+            smallest = x;
+        }
+        i += 1;
+    }
+    smallest
+}
+
+// Is every byte at least m? The last one is asked first.
+pub fn all_at_least(xs: &[u8], m: u8) -> bool
+    ensures { λ r. ⌜ r ≡ allAtLeast m (now (xs .entry)) ⌝ }
+{
+    let n = xs.len();
+    if n == 0 {
+        return true;
+    }
+    if xs[n - 1] < m {
+        return false;
+    }
+    m <= smallest(xs)
 }

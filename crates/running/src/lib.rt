@@ -67,7 +67,8 @@ pub fn run(c: Core, chars: &mut [u8; 256], heard: &[u8], sent: &mut [u8], words:
     if LONGEST < heard.len() {
         return refused(c, 5);
     }
-    if !lists::checks::all_at_most(heard, highest_level(Mode::of(c.mode))) {
+    let highest = lists::checks::largest(heard);
+    if highest_level(Mode::of(c.mode)) < highest {
         return refused(c, 6);
     }
     if sent.len() < heard.len() {
@@ -76,7 +77,7 @@ pub fn run(c: Core, chars: &mut [u8; 256], heard: &[u8], sent: &mut [u8], words:
     if words.len() < heard.len() {
         return refused(c, 8);
     }
-    let e = stretching::run_all(c, chars, heard, sent, words);
+    let e = stretching::run_all(c, chars, heard, highest, sent, words);
     let core = e.core;
     Ran {
         core,

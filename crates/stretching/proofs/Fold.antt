@@ -20,7 +20,7 @@ use Rattle.station.specs.declared.Station.{Station}
 use Rattle.station.specs.Station.{station, modeOfStation, stationAfter, sentBy, wordsBy}
 use Rattle.station.specs.Range.{inRange}
 use Rattle.station.specs.Entries.{highestLevel}
-use Rattle.station.proofs.Range.{highest-16, after-full, after-in}
+use Rattle.station.proofs.Range.{after-full, after-in}
 use Rattle.station.proofs.Cuts.{cut, mode-after}
 use Rattle.station.proofs.Lengths.{sent-length, few-words}
 use Rattle.station.proofs.Takings.{taken-after}
@@ -159,7 +159,3 @@ module _ (heard chars₀ sent₀ words₀ : List ℕ) (c₀ : Core) where
 
       pub left-words : words₁ ≡ sets words₀ 0 (wordsBy (station c₀ chars₀) heard)
       left-words = sym (ap (sets words₁ n) no-words) ∙ l .words
-
--- no mode has a level above 16
-pub levels-16 : (mode : Mode) (heard : List ℕ) → allAtMost (highestLevel mode) heard ≡ true → allAtMost 16 heard ≡ true
-levels-16 mode heard e = at-most-more (highestLevel mode) 16 heard (highest-16 mode) e

@@ -63,7 +63,5 @@ rests-list mode shift prefix (x ∷ xs) e =
       none = ap (λ (q : Reading). wordOf (q .event) ++ words mode (q .reader) xs) h ∙ t .none;
     }
 
-pub rests : (mode : Mode) (r : Reader) (xs : List ℕ) → (atRest r && allAtMost 0 xs) ≡ true → Rests mode r xs
-rests mode r xs e =
-    let i = rest-is r (and-left (atRest r) (allAtMost 0 xs) e) in
-    subst (λ (q : Reader). Rests mode q xs) (sym i) (rests-list mode (r .shift) (r .prefix) xs (and-right (atRest r) (allAtMost 0 xs) e))
+pub rests : (mode : Mode) (r : Reader) (xs : List ℕ) → atRest r ≡ true → allAtMost 0 xs ≡ true → Rests mode r xs
+rests mode r xs e q = subst (λ (s : Reader). Rests mode s xs) (sym (rest-is r e)) (rests-list mode (r .shift) (r .prefix) xs q)

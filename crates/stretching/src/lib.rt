@@ -48,6 +48,7 @@ fn stretch(
     chars: &[u8],
     taken: usize,
     heard: &[u8],
+    bound: u8,
     i: usize,
     sent: &mut [u8],
     words: &mut [u32],
@@ -56,7 +57,8 @@ fn stretch(
     requires { ⌜ inRange (station c (movedBy taken (now chars))) ≡ true ⌝ }
     requires { ⌜ length (now chars) ≡ 256 ⌝ }
     requires { ⌜ taken + c .waiting ≤ 256 ⌝ }
-    requires { ⌜ allAtMost 16 (now heard) ≡ true ⌝ }
+    requires { ⌜ allAtMost bound (now heard) ≡ true ⌝ }
+    requires { ⌜ bound ≤ 16 ⌝ }
     requires { ⌜ i < length (now heard) ⌝ }
     requires { ⌜ length (now heard) ≤ length (now sent) ⌝ }
     requires { ⌜ n + length (now heard) ≤ length (now words) + i ⌝ }
@@ -72,7 +74,7 @@ fn stretch(
     if c.inhibited != 0 {
         return stretches::wait(c, heard, i, sent, n);
     }
-    stretches::listen(c, heard, i, sent, words, n)
+    stretches::listen(c, heard, bound, i, sent, words, n)
 }
 
 // How many characters are taken between two cores of a run: as many as fewer wait.
@@ -83,11 +85,19 @@ fn taken_since(first: Core, c: Core) -> usize
     (first.waiting - c.waiting) as usize
 }
 
-// The ms of a run, one after the other. The characters that are taken go from the queue in the end.
-pub fn run_all(c: Core, chars: &mut [u8], heard: &[u8], sent: &mut [u8], words: &mut [u32]) -> Ended
+// The ms of a run, one after the other, none above the bound. The characters that are taken go from the queue in the end.
+pub fn run_all(
+    c: Core,
+    chars: &mut [u8],
+    heard: &[u8],
+    bound: u8,
+    sent: &mut [u8],
+    words: &mut [u32],
+) -> Ended
     requires { ⌜ inRange (station c (now chars)) ≡ true ⌝ }
     requires { ⌜ length (now chars) ≡ 256 ⌝ }
-    requires { ⌜ allAtMost (highestLevel (modeIn c)) (now heard) ≡ true ⌝ }
+    requires { ⌜ allAtMost bound (now heard) ≡ true ⌝ }
+    requires { ⌜ bound ≤ highestLevel (modeIn c) ⌝ }
     requires { ⌜ length (now heard) ≤ length (now sent) ⌝ }
     requires { ⌜ length (now heard) ≤ length (now words) ⌝ }
     ensures { λ r. ⌜ r .core ≡ stationAfter (station c (now (chars .entry))) (now (heard .entry)) .core ⌝ }
@@ -101,7 +111,7 @@ pub fn run_all(c: Core, chars: &mut [u8], heard: &[u8], sent: &mut [u8], words: 
     let mut n: usize = 0;
     while i < heard.len() {
         let taken = taken_since(c, core);
-        let x = stretch(core, chars, taken, heard, i, sent, words, n);
+        let x = stretch(core, chars, taken, heard, bound, i, sent, words, n);
         core = x.core;
         i = x.at;
         n = x.words;

@@ -135,10 +135,11 @@ pub fn wait(c: Core, heard: &[u8], i: usize, sent: &mut [u8], n: usize) -> Stret
     }
 }
 
-// Ms that the receiver hears, up to one in which a burst may begin.
+// Ms that the receiver hears, up to one in which a burst may begin; none is above the bound.
 pub fn listen(
     c: Core,
     heard: &[u8],
+    bound: u8,
     i: usize,
     sent: &mut [u8],
     words: &mut [u32],
@@ -148,7 +149,8 @@ pub fn listen(
     requires { ⌜ c .line .part ≡ 0 ⌝ }
     requires { ⌜ mayBegin (c .waiting) (c .silence) ≡ false ⌝ }
     requires { ⌜ c .inhibited ≡ 0 ⌝ }
-    requires { ⌜ allAtMost 16 (now heard) ≡ true ⌝ }
+    requires { ⌜ allAtMost bound (now heard) ≡ true ⌝ }
+    requires { ⌜ bound ≤ 16 ⌝ }
     requires { ⌜ i < length (now heard) ⌝ }
     requires { ⌜ length (now heard) ≤ length (now sent) ⌝ }
     requires { ⌜ n + length (now heard) ≤ length (now words) + i ⌝ }
@@ -157,7 +159,7 @@ pub fn listen(
     let to = free_end(c.waiting, c.silence, i, heard.len());
     levels::fill(sent, i, to, 0);
     let before = c.reader;
-    if cores::rests(before, &heard[i..to]) {
+    if cores::rests(before, bound) {
         let silence = cores::silence_for(c.silence, to - i);
         return Stretched {
             core: cores::listened(c, silence, before),
@@ -165,8 +167,8 @@ pub fn listen(
             words: n,
         };
     }
-    let h = hearing::hear_all(Mode::of(c.mode), before, &heard[i..to], words, n);
-    let silence = cores::silence_over(c.silence, &heard[i..to]);
+    let h = hearing::hear_all(Mode::of(c.mode), before, &heard[i..to], bound, words, n);
+    let silence = cores::silence_over(c.silence, &heard[i..to], bound);
     let reader = h.reader;
     Stretched {
         core: cores::listened(c, silence, reader),

@@ -1,9 +1,9 @@
 -- `rests` meets its contract.
 use mathlib.Core.Path.{_∙_, sym, ap}
 use mathlib.Core.Bool.{Bool, _&&_}
+use lib.Dec.{eqb}
 use borrow.Author.Needs.{needs}
 use borrow.Author.Tests.{not-true, not-false}
-use Rattle.lists.specs.Lists.{allAtMost}
 use Rattle.cores.proofs.rests.Statement.{statement}
 use Rattle.cores.proofs.rests.Tie as tie
 
@@ -11,13 +11,10 @@ at-rest-requires : tie.Need-at-rest-requires
 at-rest-requires c κs = search needs
 
 returns : tie.Need-returns
-returns c = sym (ap (λ (b : Bool). b && allAtMost 0 (c .before .before .before .args .heard .now)) (sym (c .before .at-rest .ensures) ∙ not-true (c .before .at-rest .result) (c .if1 .taken)))
-
-all-quiet-requires : tie.Need-all-quiet-requires
-all-quiet-requires c κs = search needs
+returns c = sym (ap (λ (b : Bool). b && eqb (c .before .before .args .bound) 0) (sym (c .before .at-rest .ensures) ∙ not-true (c .before .at-rest .result) (c .if1 .taken)))
 
 returns-2 : tie.Need-returns-2
-returns-2 c = c .all-quiet .ensures ∙ sym (ap (λ (b : Bool). b && allAtMost 0 (c .before .before .before .before .args .heard .now)) (sym (c .before .before .at-rest .ensures) ∙ not-false (c .before .before .at-rest .result) (c .before .if1 .left)))
+returns-2 c = sym (ap (λ (b : Bool). b && eqb (c .before .before .args .bound) 0) (sym (c .before .at-rest .ensures) ∙ not-false (c .before .at-rest .result) (c .if1 .left)))
 
 pub rests-spec : {M : Type 1} → statement M
-rests-spec = tie.close (tie.spec at-rest-requires returns all-quiet-requires returns-2)
+rests-spec = tie.close (tie.spec at-rest-requires returns returns-2)

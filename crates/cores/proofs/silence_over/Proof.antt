@@ -1,37 +1,47 @@
 -- `silence_over` meets its contract. The invariant: the last ms are quiet.
-use mathlib.Core.Path.{_∙_}
+use mathlib.Core.Path.{_∙_, sym, ap}
+use Prim.Native.Nat.{ℕ}
 use native.Mathlib.Omega.{arith}
 use borrow.Author.Needs.{needs}
-use Rattle.cores.proofs.Laws.{Tail, tail-start, tail-free, tail-signal, tail-quiet, tail-end}
+use Rattle.lists.specs.Lists.{allAtMost}
+use Rattle.cores.proofs.Laws.{over-quiet, Tail, tail-start, tail-free, tail-signal, tail-quiet, tail-end}
 use Rattle.cores.proofs.silence_over.Statement.{statement}
 use Rattle.cores.proofs.silence_over.Tie as tie
 
 abbrev Inv-loop : tie.InvT-loop
-Inv-loop silence heard left₀ n₀ left n = Tail heard silence left n
+Inv-loop silence heard bound left₀ n₀ left n = Tail heard silence left n
 
 abbrev μ-loop : tie.MeasureT-loop
-μ-loop silence heard left₀ n₀ left n = left
+μ-loop silence heard bound left₀ n₀ left n = left
 
-loop-holds : tie.Need-loop-holds Inv-loop μ-loop
-loop-holds c = tail-start _ _ (c .before .pre)
-
-cast-if1 : tie.Need-cast-if1 Inv-loop μ-loop
-cast-if1 c = search needs
+silence-for-requires : tie.Need-silence-for-requires Inv-loop μ-loop
+silence-for-requires c κs = c .before .before .pre .0
 
 returns : tie.Need-returns Inv-loop μ-loop
-returns c = tail-free _ _ (c .before .before .before .before .pre) _ _ (c .before .before .loop .inv) (c .if1 .taken)
+returns c =
+    let s = c .before .before .before in
+    c .silence-for .ensures ∙ over-quiet _ _ (s .pre .0) (ap (λ (m : ℕ). allAtMost m (s .args .heard .now)) (sym (c .before .if1 .taken)) ∙ s .pre .1)
+
+loop-holds : tie.Need-loop-holds Inv-loop μ-loop
+loop-holds c = tail-start _ _ (c .before .before .pre .0)
+
+cast-if2 : tie.Need-cast-if2 Inv-loop μ-loop
+cast-if2 c = search needs
+
+returns-2 : tie.Need-returns-2 Inv-loop μ-loop
+returns-2 c = tail-free _ _ (c .before .before .before .before .before .pre .0) _ _ (c .before .before .loop .inv) (c .if2 .taken)
 
 sub-left : tie.Need-sub-left Inv-loop μ-loop
 sub-left c = search needs
 
-shared-slice-read-if2 : tie.Need-shared-slice-read-if2 Inv-loop μ-loop
-shared-slice-read-if2 c = let t = c .before .before .before .loop .inv .all in omega arith
+shared-slice-read-if3 : tie.Need-shared-slice-read-if3 Inv-loop μ-loop
+shared-slice-read-if3 c = let t = c .before .before .before .loop .inv .all in omega arith
 
 cast-result : tie.Need-cast-result Inv-loop μ-loop
 cast-result c = let t = c .before .before .before .before .loop .inv .few in omega arith
 
-returns-2 : tie.Need-returns-2 Inv-loop μ-loop
-returns-2 c = tail-signal _ _ (c .before .before .before .before .before .before .pre) _ _ (c .before .before .before .before .loop .inv) (c .before .before .before .loop-test .taken) (c .before .before .if1 .left) (c .if2 .taken)
+returns-3 : tie.Need-returns-3 Inv-loop μ-loop
+returns-3 c = tail-signal _ _ (c .before .before .before .before .before .before .before .pre .0) _ _ (c .before .before .before .before .loop .inv) (c .before .before .before .loop-test .taken) (c .before .before .if2 .left) (c .if3 .taken)
 
 add-n : tie.Need-add-n Inv-loop μ-loop
 add-n c = let t = c .before .before .before .before .loop .inv .few in omega arith
@@ -40,13 +50,13 @@ loop-less : tie.Need-loop-less Inv-loop μ-loop
 loop-less c = search needs
 
 loop-again : tie.Need-loop-again Inv-loop μ-loop
-loop-again c = tail-quiet _ _ (c .before .before .before .before .before .before .pre) _ _ (c .before .before .before .before .loop .inv) (c .before .before .before .loop-test .taken) (c .before .before .if1 .left) (c .if2 .left)
+loop-again c = tail-quiet _ _ (c .before .before .before .before .before .before .before .pre .0) _ _ (c .before .before .before .before .loop .inv) (c .before .before .before .loop-test .taken) (c .before .before .if2 .left) (c .if3 .left)
 
-silence-for-requires : tie.Need-silence-for-requires Inv-loop μ-loop
-silence-for-requires c κs = c .before .before .before .pre
+silence-for-requires-2 : tie.Need-silence-for-requires-2 Inv-loop μ-loop
+silence-for-requires-2 c κs = c .before .before .before .before .pre .0
 
-returns-3 : tie.Need-returns-3 Inv-loop μ-loop
-returns-3 c = c .silence-for .ensures ∙ tail-end _ _ (c .before .before .before .before .pre) _ _ (c .before .before .loop .inv) (c .before .loop-test .left)
+returns-4 : tie.Need-returns-4 Inv-loop μ-loop
+returns-4 c = c .silence-for2 .ensures ∙ tail-end _ _ (c .before .before .before .before .before .pre .0) _ _ (c .before .before .loop .inv) (c .before .loop-test .left)
 
 pub silence-over-spec : {M : Type 1} → statement M
 silence-over-spec =
@@ -54,15 +64,17 @@ silence-over-spec =
     (tie.spec
     Inv-loop
     μ-loop
-    loop-holds
-    cast-if1
+    silence-for-requires
     returns
-    sub-left
-    shared-slice-read-if2
-    cast-result
+    loop-holds
+    cast-if2
     returns-2
+    sub-left
+    shared-slice-read-if3
+    cast-result
+    returns-3
     add-n
     loop-less
     loop-again
-    silence-for-requires
-    returns-3)
+    silence-for-requires-2
+    returns-4)

@@ -37,7 +37,7 @@ enum-told c = search needs
 
 skip-frame-requires : tie.Need-skip-frame-requires
 unfolding tag
-skip-frame-requires c κs = let s = c .before .before in (framed _ (c .match .keys2), s .pre)
+skip-frame-requires c κs = let s = c .before .before in (framed _ (c .match .keys2), (s .pre .0, s .pre .1 .1))
 
 returns : tie.Need-returns
 returns c = c .skip-frame .ensures

@@ -4,23 +4,25 @@ use Prim.Native.Nat.{ℕ, _-_, _≤_}
 use mathlib.Core.Bool.{true}
 use native.Mathlib.Omega.{arith}
 use lib.ListN.{length}
+use Rattle.lists.proofs.Lists.{at-most-more}
 use Rattle.access.specs.Core.{modeIn}
 use Rattle.queue.specs.Queue.{movedBy}
 use Rattle.queue.proofs.Moves.{moved-by-length}
 use Rattle.station.specs.declared.Station.{Station}
 use Rattle.station.specs.Station.{station}
 use Rattle.station.specs.Range.{inRange}
-use Rattle.station.proofs.Range.{station-in}
-use Rattle.stretching.proofs.Fold.{Left, rest, left-start, left-turn, left-station, left-sent, left-place, left-words, levels-16}
+use Rattle.station.specs.Entries.{highestLevel}
+use Rattle.station.proofs.Range.{highest-16, station-in}
+use Rattle.stretching.proofs.Fold.{Left, rest, left-start, left-turn, left-station, left-sent, left-place, left-words}
 use borrow.Author.Needs.{needs}
 use Rattle.stretching.proofs.run_all.Statement.{statement}
 use Rattle.stretching.proofs.run_all.Tie as tie
 
 abbrev Inv-loop : tie.InvT-loop
-Inv-loop c chars heard sent₀ words₀ core₀ i₀ n₀ sent words core i n = Left heard chars sent₀ words₀ c (rest c chars core) sent words core i n
+Inv-loop c chars heard bound sent₀ words₀ core₀ i₀ n₀ sent words core i n = Left heard chars sent₀ words₀ c (rest c chars core) sent words core i n
 
 abbrev μ-loop : tie.MeasureT-loop
-μ-loop c chars heard sent₀ words₀ core₀ i₀ n₀ sent words core i n = length heard - i
+μ-loop c chars heard bound sent₀ words₀ core₀ i₀ n₀ sent words core i n = length heard - i
 
 loop-holds : tie.Need-loop-holds Inv-loop μ-loop
 loop-holds c = let p = c .before .before .before .before .pre in left-start _ _ _ _ _ (p .0) (p .1 .0)
@@ -38,14 +40,19 @@ stretch-requires c κs =
     let r = l .room in
     let f = l .fewer in
     let t = c .before .before .before .taken-since .ensures in
+    let h = highest-16 (modeIn (s .args .c)) in
+    let b = p .1 .1 .1 .0 in
     let w : s .args .c .waiting ≤ 256 = station-in (station (s .args .c) (s .args .chars .now)) (p .0) .core-in .waiting-in in
-    (subst (λ (k : ℕ). inRange (station (c .before .before .before .before .before .loop .core) (movedBy k (s .args .chars .now))) ≡ true) (sym t) (l .in-range), (p .1 .0, (omega arith, (levels-16 (modeIn (s .args .c)) _ (p .1 .1 .0), (c .before .before .before .before .loop-test .taken, (omega arith, omega arith))))))
+    (subst (λ (k : ℕ). inRange (station (c .before .before .before .before .before .loop .core) (movedBy k (s .args .chars .now))) ≡ true) (sym t) (l .in-range), (p .1 .0, (omega arith, (p .1 .1 .0, (omega arith, (c .before .before .before .before .loop-test .taken, (omega arith, omega arith)))))))
 
 loop-less : tie.Need-loop-less Inv-loop μ-loop
 loop-less c = let t = c .before .before .before .before .before .stretch .ensures .low in let h = c .before .before .before .before .before .before .before .before .before .before .loop-test .taken in omega arith
 
 loop-again : tie.Need-loop-again Inv-loop μ-loop
-loop-again c = left-turn _ _ _ _ _ _ _ _ _ _ (c .before .before .before .before .before .before .before .before .before .before .before .loop .inv) (c .before .before .before .before .before .before .before .before .before .before .before .before .before .before .before .before .pre .1 .1 .0) _ _ _ _ (c .before .before .before .before .before .before .before .before .before .taken-since .ensures) (c .before .before .before .before .before .stretch .ensures)
+loop-again c =
+    let s = c .before .before .before .before .before .before .before .before .before .before .before .before .before .before .before .before in
+    let h = at-most-more (s .args .bound) (highestLevel (modeIn (s .args .c))) (s .args .heard .now) (s .pre .1 .1 .1 .0) (s .pre .1 .1 .0) in
+    left-turn _ _ _ _ _ _ _ _ _ _ (c .before .before .before .before .before .before .before .before .before .before .before .loop .inv) h _ _ _ _ (c .before .before .before .before .before .before .before .before .before .taken-since .ensures) (c .before .before .before .before .before .stretch .ensures)
 
 taken-since-requires-2 : tie.Need-taken-since-requires-2 Inv-loop μ-loop
 taken-since-requires-2 c κs = let f = c .before .before .loop .inv .fewer in omega arith

@@ -44,8 +44,8 @@ codes-requires c κs =
     let e : (over && (wait && room)) ≡ true = sym (c .before .before .follows .ensures) ∙ c .before .if1 .taken in
     let w = ltb-true 0 (t .args .c .waiting) (and-left wait room (and-right over (wait && room) e)) in
     let r = leb-true (longest (modeIn (t .args .c))) (length (t .args .heard .now) - t .args .i) (and-right wait room (and-right over (wait && room) e)) in
-    let h = q .1 .0 in
-    (p .0, (p .1 .0, (p .1 .1 .0, (and-left over (wait && room) e, (omega arith, (omega arith, q .1 .1 .0))))))
+    let h = q .1 .1 .0 in
+    (p .0, (p .1 .0, (p .1 .1 .0, (and-left over (wait && room) e, (omega arith, (omega arith, q .1 .1 .1 .0))))))
 
 same-length : tie.Need-same-length
 same-length c = search needs
@@ -65,7 +65,7 @@ begin-requires c κs =
     let p = t .pre in
     let q = p .1 .1 .1 in
     let f = front-in (now t) (moved-by-length (t .args .taken) (t .args .chars .now) ∙ p .1 .0) (p .0) in
-    (core-in t, ((λ (w : 1 ≤ t .args .c .waiting). let b = f w in let e = c .before .before .front-after .ensures in omega arith), (q .1 .0, (q .1 .1 .0, omega arith))))
+    (core-in t, ((λ (w : 1 ≤ t .args .c .waiting). let b = f w in let e = c .before .before .front-after .ensures in omega arith), (q .1 .1 .0, (q .1 .1 .1 .0, omega arith))))
 
 same-length-2 : tie.Need-same-length-2
 same-length-2 c = search needs
@@ -82,7 +82,7 @@ wait-requires c κs =
     let q = t .pre .1 .1 .1 in
     let i = c .before .if3 .taken in
     let m = sends-not (t .args .c) (sym (c .before .before .before .before .may-send .ensures) ∙ c .before .before .before .if2 .left) in
-    (core-in t, (m .0, (m .1, (omega arith, (q .1 .0, q .1 .1 .0)))))
+    (core-in t, (m .0, (m .1, (omega arith, (q .1 .1 .0, q .1 .1 .1 .0)))))
 
 same-length-4 : tie.Need-same-length-4
 same-length-4 c = search needs
