@@ -1,13 +1,13 @@
--- Ms that are all alike: what stands at one place stands at every one.
+-- Ms that are all alike.
 use mathlib.Core.Path.{_≡_, _∙_, sym}
 use mathlib.Core.Bool.{true}
 use mathlib.Core.List.{List}
-use Prim.Native.Nat.{ℕ, _+_, _≤_, _<_}
+use Prim.Native.Nat.{ℕ, _≤_, _<_}
 use native.Mathlib.Omega.{arith}
 use lib.ListN.{length, getD}
 use Rattle.lists.specs.Lists.{allAtMost, allAtLeast}
 use Rattle.lists.proofs.Lists.{at-most-at, at-least-at}
-use Rattle.hearing.specs.Runs.{Alike, Until, Through, Back}
+use Rattle.hearing.specs.Runs.{Alike, Through}
 
 -- all of one level
 pub alike : (heard : List ℕ) (level : ℕ) → ((k : ℕ) → k < length heard → getD heard k 0 ≡ level) → Alike heard
@@ -21,25 +21,10 @@ pub alike-at : (heard : List ℕ) (bound : ℕ) → allAtMost bound heard ≡ tr
 alike-at heard bound e f =
     alike heard bound (λ (k : ℕ) (h : k < length heard). let m = at-most-at bound heard e k h in let n = at-least-at bound heard f k h in omega arith)
 
-module _ (heard : List ℕ) (a : Alike heard) (from end level : ℕ) where
-  pub until-none : from < end → end ≤ length heard → (getD heard from 0 ≡ level → ⊥) → Until heard from end level end
-  until-none h l n = record {
-    low = omega arith;
-    high = omega arith;
-    others = λ (k : ℕ) (p : from ≤ k) (q : k < end) (e : getD heard k 0 ≡ level). n (a .same from k (omega arith) (omega arith) ∙ e);
-  }
-
-  pub through-all : from < end → end ≤ length heard → getD heard from 0 ≡ level → Through heard from end level end
-  through-all h l e = record {
-    low = omega arith;
-    high = omega arith;
-    same = λ (k : ℕ) (p : from ≤ k) (q : k < end). a .same k from (omega arith) (omega arith) ∙ e;
-  }
-
-  pub back-all : from ≤ end → end < length heard → getD heard end 0 ≡ level → Back heard from end level from
-  back-all h l e = record {
-    low = omega arith;
-    high = h;
-    same = λ (k : ℕ) (p : from ≤ k) (q : k < end). a .same k end (omega arith) l ∙ e;
-    other = λ (k : ℕ) (p : from ≤ k) (q : k + 1 ≡ from) (f : getD heard k 0 ≡ level). omega arith;
-  }
+-- from a place to the end
+pub alike-through : (heard : List ℕ) → Alike heard → (from : ℕ) → from < length heard → (level : ℕ) → level ≡ getD heard from 0 → Through heard from (length heard) level (length heard)
+alike-through heard a from h level e = record {
+  low = omega arith;
+  high = omega arith;
+  same = λ (k : ℕ) (p : from ≤ k) (q : k < length heard). a .same k from q h ∙ sym e;
+}

@@ -11,12 +11,14 @@ use borrow.Author.Tests.{eqb-true, ne-eqb}
 use Rattle.lists.specs.Lists.{allAtMost}
 use Rattle.alphabet.specs.declared.Mode.the-variants.{Dtmf}
 use Rattle.keys.specs.declared.Keys.{Keys}
-use Rattle.keys.specs.Keys.{keysAt, needs, counts, nthMs, keyStep}
+use Rattle.keys.specs.Range.{KeysIn}
+use Rattle.keys.specs.Keys.{keysAt, ready, needs, counts, nthMs, keyStep}
 use Rattle.line.specs.declared.Event.the-variants.{Nothing}
 use Rattle.line.specs.declared.Reader.{Reader}
-use Rattle.line.specs.Reader.{ends, withKey, prefixAfter, keyEvent, hear}
+use Rattle.line.specs.Reader.{fresh, ends, withKey, prefixAfter, keyEvent, hear}
 use Rattle.line.specs.Range.{ReaderIn}
 use Rattle.line.specs.Words.{readerAfter, words}
+use Rattle.line.proofs.Range.{fresh-in}
 use Rattle.lists.specs.Places.{UpTo}
 use Rattle.hearing.specs.Runs.{Through}
 use Rattle.hearing.specs.declared.skipping.Keyed.{Keyed}
@@ -29,16 +31,20 @@ none-counts : (r : Reader) (x : ℕ) (k : Keys) → keyStep (r .keys) x ≡ coun
 unfolding hear prefixAfter keyEvent
 none-counts r x k e = ap (withKey r) e
 
-module _ (k : Keys) (x : ℕ) where
-  still-step : k .needed ≡ 40 → (x ≡ 0 → ⊥) → keyStep k x ≡ counts (needs 40) 0
-  unfolding keyStep
-  still-step n e = rw (n, ne-eqb x 0 e) refl
-
-needed-step : (n x : ℕ) → 1 ≤ n → x ≡ 0 → keyStep (needs n) x ≡ counts (needs (n - 1)) 0
+-- a quiet ms, and one of a key while quiet is needed
+pub quiet-step : (k : Keys) (x : ℕ) → x ≡ 0 → keyStep k x ≡ counts (needs (k .needed - 1)) 0
 unfolding keyStep
-needed-step n x h e = rw (ne-eqb n 0 (λ (z : n ≡ 0). omega arith), e) refl
+quiet-step k x e = rw e (go (eqb (k .needed) 0) refl)
+  where
+    go : (b : Bool) → eqb (k .needed) 0 ≡ b → cond b (counts ready 0) (counts (needs (k .needed - 1)) 0) ≡ counts (needs (k .needed - 1)) 0
+    go true z = let y = eqb-true (k .needed) 0 z in rw y refl
+    go false z = refl
 
-next-step : (key ms x : ℕ) → (msNext key ms x ≡ 40 → ⊥) → keyStep (keysAt key ms 0) x ≡ counts (keysAt x (msNext key ms x) 0) 0
+pub still-step : (k : Keys) (x : ℕ) → (k .needed ≡ 0 → ⊥) → (x ≡ 0 → ⊥) → keyStep k x ≡ counts (needs 40) 0
+unfolding keyStep
+still-step k x n e = rw (ne-eqb (k .needed) 0 n, ne-eqb x 0 e) refl
+
+pub next-step : (key ms x : ℕ) → (msNext key ms x ≡ 40 → ⊥) → keyStep (keysAt key ms 0) x ≡ counts (keysAt x (msNext key ms x) 0) 0
 unfolding keyStep msNext
 next-step key ms x = go (eqb x 0) refl (eqb x key)
   where
@@ -63,7 +69,7 @@ record Counting (heard : List ℕ) (r : Reader) (i key ms to : ℕ) : Type 0 whe
 
 module _ (heard : List ℕ) (levels : allAtMost 16 heard ≡ true) (r : Reader) (h : ReaderIn Dtmf r) (i : ℕ) where
   -- the keys are f k after k ms
-  keys-skip : (f : ℕ → Keys) → f 0 ≡ r .keys → (to : ℕ) → i ≤ to → to ≤ length heard
+  pub keys-skip : (f : ℕ → Keys) → f 0 ≡ r .keys → (to : ℕ) → i ≤ to → to ≤ length heard
       → ((k : ℕ) → k < to - i → keyStep (f k) (getD heard (i + k) 0) ≡ counts (f (suc k)) 0)
       → (q : Reader) → q ≡ readerWith r (f (to - i)) → Skips Dtmf heard r i (record { reader = q; to = to })
   keys-skip f e to l m s q p =
@@ -79,7 +85,7 @@ module _ (heard : List ℕ) (levels : allAtMost 16 heard ≡ true) (r : Reader) 
       let same : (n : ℕ) → r .keys .needed ≡ n → keysAt 0 0 n ≡ r .keys = λ (n : ℕ) (c : r .keys .needed ≡ n). λ j. keysAt (sym a j) (sym b j) (sym c j) in
       keys-skip (λ (k : ℕ). r .keys) refl to (t .low) (t .high)
       (λ (k : ℕ) (g : k < to - i). let n = t .still (omega arith) in
-      still-step (r .keys) (getD heard (i + k) 0) n (t .others (i + k) (omega arith) (omega arith)) ∙ ap (λ (x : Keys). counts x 0) (same 40 n)) r refl
+      still-step (r .keys) (getD heard (i + k) 0) (λ (z : r .keys .needed ≡ 0). omega arith) (t .others (i + k) (omega arith) (omega arith)) ∙ ap (λ (x : Keys). counts x 0) (same 40 n)) r refl
 
   module _ (end to : ℕ) where
     needed-skips : r .keys .key ≡ 0 → r .keys .ms ≡ 0 → UpTo i (r .keys .needed) (length heard) end → Through heard i end 0 to
@@ -92,7 +98,7 @@ module _ (heard : List ℕ) (levels : allAtMost 16 heard ≡ true) (r : Reader) 
         let z : n - 0 ≡ n = omega arith in
         keys-skip (λ (k : ℕ). needs (n - k)) (λ j. keysAt (sym a j) (sym b j) (z j)) to (t .low) (omega arith)
         (λ (k : ℕ) (g : k < to - i). let y : n - k - 1 ≡ n - suc k = omega arith in
-        needed-step (n - k) (getD heard (i + k) 0) (omega arith) (t .same (i + k) (omega arith) (omega arith)) ∙ ap (λ (m : ℕ). counts (needs m) 0) y) q p
+        quiet-step (needs (n - k)) (getD heard (i + k) 0) (t .same (i + k) (omega arith) (omega arith)) ∙ ap (λ (m : ℕ). counts (needs m) 0) y) q p
 
   -- a key and its ms in a row, at each place
   counting-start : r .keys .needed ≡ 0 → i ≤ length heard → Counting heard r i (r .keys .key) (r .keys .ms) i
@@ -144,6 +150,21 @@ module _ (heard : List ℕ) (levels : allAtMost 16 heard ≡ true) (r : Reader) 
 -- keys that need no quiet
 pub needs-none : (heard : List ℕ) (k : Keyed) → k .needed ≡ 0 → (q : Keyed) → PassesKeys heard (record { key = k .key; ms = k .ms; needed = 0; to = k .to }) q → PassesKeys heard k q
 needs-none heard k n q p = subst (λ (m : ℕ). PassesKeys heard (record { key = k .key; ms = k .ms; needed = m; to = k .to }) q) (sym n) p
+
+-- ms, and ms behind them
+pub passes-chain : (heard : List ℕ) → allAtMost 16 heard ≡ true → (k p q : Keyed) → PassesKeys heard k p → PassesKeys heard p q → PassesKeys heard k q
+passes-chain heard levels k p q a b = record {
+  skips = λ (r : Reader) (h : ReaderIn Dtmf (readerWith r (keysOf k))).
+      let s = a .skips r h in
+      skip-chain Dtmf heard levels _ _ _ _ s _ (b .skips r (s .in-range));
+}
+
+-- the keys behind them, with a reader that has them
+pub keys-after : (heard : List ℕ) (k p : Keyed) → KeysIn (keysOf k) → PassesKeys heard k p → KeysIn (keysOf p) × (p .to ≤ length heard)
+keys-after heard k p h a =
+    let f = fresh-in Dtmf in
+    let s = a .skips fresh (record { frame-in = f .frame-in; keys-in = h; shift-low = f .shift-low; shift-in = f .shift-in; prefix-in = f .prefix-in }) in
+    (s .in-range .keys-in, s .high)
 
 -- Up to a place, no key counts; there, a key is heard, so many ms in a row.
 pub record Counted (heard : List ℕ) (k : Keyed) (key ms to : ℕ) : Type 0 where

@@ -6,3 +6,4 @@ pub mod Passing
 pub mod Framing
 pub mod Rows
 pub mod Keying
+pub mod Holding

@@ -12,7 +12,7 @@ use Rattle.hearing.specs.Skipping.{msNext, keyAfter, msAfter}
 
 -- ---- one ms
 
-next-same : (key ms x : ℕ) → (x ≡ 0 → ⊥) → x ≡ key → msNext key ms x ≡ ms + 1
+pub next-same : (key ms x : ℕ) → (x ≡ 0 → ⊥) → x ≡ key → msNext key ms x ≡ ms + 1
 unfolding msNext
 next-same key ms x n e = rw (ne-eqb x 0 n, eq-eqb x key e) refl
 

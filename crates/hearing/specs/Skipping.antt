@@ -57,6 +57,10 @@ keysOf k = keysAt (k .key) (k .ms) (k .needed)
 abbrev pub readerWith : Reader → Keys → Reader
 readerWith r k = reader (r .frame) k (r .shift) (r .prefix)
 
+-- The ms in a row of a level, so far.
+abbrev pub rowOf : Keys → ℕ → ℕ
+rowOf k level = cond (eqb level (k .key)) (k .ms) 0
+
 -- Ms that end in nothing, and take any reader from some keys to others.
 pub record PassesKeys (heard : List ℕ) (k q : Keyed) : Type 0 where
   pub skips : (r : Reader) → ReaderIn Dtmf (readerWith r (keysOf k)) → Skips Dtmf heard (readerWith r (keysOf k)) (k .to) (record { reader = readerWith r (keysOf q); to = q .to })

@@ -14,7 +14,6 @@ ghost use Rattle.line.specs.Words.{readerAfter, words as wordsHeard};
 ghost use Rattle.hearing.specs.Runs.{Alike};
 ghost use Rattle.hearing.specs.Skipping.{Skips};
 
-pub mod alike;
 pub mod runs;
 pub mod samples;
 pub mod skipping;

@@ -1,6 +1,5 @@
 // Ms that end in nothing.
 use crate::Skipped;
-use crate::alike;
 use crate::runs;
 use crate::samples;
 use crate::samples::Effect;
@@ -10,15 +9,16 @@ use keys::Keys;
 use line::Reader;
 ghost use mathlib.Core.Path.{_≡_};
 ghost use mathlib.Core.Bool.{true};
-ghost use Prim.Native.Nat.{suc, _+_, _-_, _≤_, _<_};
+ghost use mathlib.Core.List.{List};
+ghost use Prim.Native.Nat.{ℕ, suc, _+_, _-_, _≤_, _<_};
 ghost use lib.ListN.{length};
 ghost use Rattle.lists.specs.Lists.{allAtMost};
 ghost use Rattle.alphabet.specs.declared.Mode.the-variants as mode;
 ghost use Rattle.frames.specs.Range.{FrameOf};
 ghost use Rattle.keys.specs.Range.{KeysIn};
 ghost use Rattle.line.specs.Range.{ReaderIn};
-ghost use Rattle.hearing.specs.Runs.{Alike};
-ghost use Rattle.hearing.specs.Skipping.{frameAt, readerAt, keysOf, readerWith, placeAfter, msAfter, Framed, Skips, Passes, PassesKeys, QuietFrom, Stays};
+ghost use Rattle.hearing.specs.Runs.{Alike, Through};
+ghost use Rattle.hearing.specs.Skipping.{frameAt, readerAt, keysOf, readerWith, rowOf, placeAfter, msAfter, Framed, Skips, Passes, PassesKeys, QuietFrom, Stays};
 
 // A reader of frames before a ms, and whether it may pass more.
 struct Passed {
@@ -183,8 +183,7 @@ struct Keyed {
 }
 
 // The ms in a row of what is heard on the last ms, if no key counts before it: 0 for quiet.
-fn ms_after(heard: &[u8], alike: bool, to: usize, key: u8, ms: usize, last: usize) -> usize
-    requires { ⌜ (alike ≡ true → Alike (now heard)) ⌝ }
+fn ms_after(heard: &[u8], to: usize, key: u8, ms: usize, last: usize) -> usize
     requires { ⌜ to ≤ last ⌝ }
     requires { ⌜ last < length (now heard) ⌝ }
     requires { ⌜ ms + (last - to) < 40 ⌝ }
@@ -194,7 +193,7 @@ fn ms_after(heard: &[u8], alike: bool, to: usize, key: u8, ms: usize, last: usiz
     if x == 0 {
         return 0;
     }
-    let from = alike::back(heard, alike, to, last, x);
+    let from = runs::back(heard, to, last, x);
     let n = last + 1 - from;
     if to < from {
         return n;
@@ -206,8 +205,7 @@ fn ms_after(heard: &[u8], alike: bool, to: usize, key: u8, ms: usize, last: usiz
 }
 
 // DTMF, while no quiet is needed: up to the ms in which a key counts. Each turn goes to the first ms in which one can.
-fn pass_count(heard: &[u8], alike: bool, k: Keyed) -> Keyed
-    requires { ⌜ (alike ≡ true → Alike (now heard)) ⌝ }
+fn pass_count(heard: &[u8], k: Keyed) -> Keyed
     requires { ⌜ KeysIn (keysOf k) ⌝ }
     requires { ⌜ allAtMost 16 (now heard) ≡ true ⌝ }
     requires { ⌜ k .to ≤ length (now heard) ⌝ }
@@ -221,7 +219,7 @@ fn pass_count(heard: &[u8], alike: bool, k: Keyed) -> Keyed
     let mut to = k.to;
     while to < heard.len() {
         let last = lists::places::up_to(to, 39 - ms, heard.len() - 1);
-        let n = ms_after(heard, alike, to, key, ms, last);
+        let n = ms_after(heard, to, key, ms, last);
         if n == 40 {
             return Keyed {
                 key: heard[last],
@@ -243,20 +241,18 @@ fn pass_count(heard: &[u8], alike: bool, k: Keyed) -> Keyed
 }
 
 // Where quiet begins, after a key that counted; the place itself if it has begun.
-fn quiet_from(heard: &[u8], alike: bool, needed: usize, i: usize) -> usize
-    requires { ⌜ (alike ≡ true → Alike (now heard)) ⌝ }
+fn quiet_from(heard: &[u8], needed: usize, i: usize) -> usize
     requires { ⌜ i ≤ length (now heard) ⌝ }
     ensures { λ r. ⌜ QuietFrom (now (heard .entry)) needed i r ⌝ }
 {
     if needed != 40 {
         return i;
     }
-    alike::until(heard, alike, i, heard.len(), 0)
+    runs::until(heard, i, heard.len(), 0)
 }
 
 // DTMF, while quiet is needed: up to where quiet begins, and the quiet ms.
-fn pass_quiet(heard: &[u8], alike: bool, k: Keyed) -> Keyed
-    requires { ⌜ (alike ≡ true → Alike (now heard)) ⌝ }
+fn pass_quiet(heard: &[u8], k: Keyed) -> Keyed
     requires { ⌜ KeysIn (keysOf k) ⌝ }
     requires { ⌜ allAtMost 16 (now heard) ≡ true ⌝ }
     requires { ⌜ k .to ≤ length (now heard) ⌝ }
@@ -271,9 +267,9 @@ fn pass_quiet(heard: &[u8], alike: bool, k: Keyed) -> Keyed
     if k.ms != 0 {
         return k;
     }
-    let from = quiet_from(heard, alike, k.needed, k.to);
+    let from = quiet_from(heard, k.needed, k.to);
     let end = lists::places::up_to(from, k.needed, heard.len());
-    let to = alike::through(heard, alike, from, end, 0);
+    let to = runs::through(heard, from, end, 0);
     Keyed {
         key: 0,
         ms: 0,
@@ -303,7 +299,77 @@ fn with_keys(r: Reader, k: Keyed) -> Skipped
     }
 }
 
-// DTMF: the quiet that is needed, then up to the ms in which a key counts.
+// The ms in a row of a level, so far.
+fn row(k: Keyed, level: u8) -> usize
+    ensures { λ r. ⌜ r ≡ rowOf (keysOf k) level ⌝ }
+{
+    if level == k.key {
+        return k.ms;
+    }
+    0
+}
+
+// A reader that needs quiet, before the ms at a place.
+fn needing(needed: usize, to: usize) -> Keyed
+    ensures { λ q. ⌜ q ≡ record { key = 0; ms = 0; needed = needed; to = to } ⌝ }
+{
+    Keyed {
+        key: 0,
+        ms: 0,
+        needed,
+        to,
+    }
+}
+
+// DTMF, where one level stands up to the end: to the end, or up to the ms in which the key counts.
+fn pass_held(k: Keyed, level: u8, end: usize) -> Keyed
+    requires { ⌜ KeysIn (keysOf k) ⌝ }
+    requires { ⌜ k .to < end ⌝ }
+    ensures { λ q. ⌜ ((heard : List ℕ) → allAtMost 16 heard ≡ true → end ≤ length heard → Through heard (k .to) end level end → PassesKeys heard k q) ⌝ }
+{
+    let n = end - k.to;
+    if level == 0 {
+        return needing(k.needed - lists::places::up_to(0, k.needed, n), end);
+    }
+    if k.needed != 0 {
+        return needing(40, end);
+    }
+    let ms = row(k, level);
+    if n < 40 - ms {
+        return Keyed {
+            key: level,
+            ms: ms + n,
+            needed: 0,
+            to: end,
+        };
+    }
+    Keyed {
+        key: level,
+        ms: 39,
+        needed: 0,
+        to: k.to + (39 - ms),
+    }
+}
+
+// DTMF: the quiet that is needed, then up to the ms in which a key counts. Ms that are all alike are passed at once.
+fn pass_keys(heard: &[u8], alike: bool, k: Keyed) -> Keyed
+    requires { ⌜ (alike ≡ true → Alike (now heard)) ⌝ }
+    requires { ⌜ KeysIn (keysOf k) ⌝ }
+    requires { ⌜ allAtMost 16 (now heard) ≡ true ⌝ }
+    requires { ⌜ k .to ≤ length (now heard) ⌝ }
+    ensures { λ q. ⌜ PassesKeys (now (heard .entry)) k q ⌝ }
+{
+    if !alike {
+        return pass_count(heard, pass_quiet(heard, k));
+    }
+    let at = k.to;
+    if at == heard.len() {
+        return k;
+    }
+    pass_held(k, heard[at], heard.len())
+}
+
+// DTMF: up to the ms in which a key counts.
 pub fn skip_keys(r: Reader, heard: &[u8], alike: bool, i: usize) -> Skipped
     requires { ⌜ ReaderIn mode.Dtmf r ⌝ }
     requires { ⌜ (alike ≡ true → Alike (now heard)) ⌝ }
@@ -318,6 +384,5 @@ pub fn skip_keys(r: Reader, heard: &[u8], alike: bool, i: usize) -> Skipped
         needed: k.needed as usize,
         to: i,
     };
-    let quiet = pass_quiet(heard, alike, first);
-    with_keys(r, pass_count(heard, alike, quiet))
+    with_keys(r, pass_keys(heard, alike, first))
 }

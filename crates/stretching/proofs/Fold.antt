@@ -9,8 +9,7 @@ use lib.ListN.{length, drop, drop-of-length-le, take-append-drop, length-append}
 use lib.Seq.{sets, length-sets, drop-drop}
 use Rattle.lists.specs.Lists.{allAtMost}
 use Rattle.lists.specs.Steps.{stateAfter, outputs}
-use Rattle.lists.proofs.Lists.{sets-append, at-most-more, at-most-drop}
-use Rattle.alphabet.specs.declared.Mode.{Mode}
+use Rattle.lists.proofs.Lists.{sets-append, at-most-drop}
 use Rattle.line.specs.Words.{wordsOf}
 use Rattle.access.specs.declared.Core.{Core}
 use Rattle.access.specs.Core.{modeIn}

@@ -9,16 +9,16 @@ use Rattle.hearing.proofs.skipping.pass_count.Statement.{statement}
 use Rattle.hearing.proofs.skipping.pass_count.Tie as tie
 
 abbrev Inv-loop : tie.InvT-loop
-Inv-loop heard alike key₀ ms₀ to₀ key ms to = Counted heard (record { key = key₀; ms = ms₀; needed = 0; to = to₀ }) key ms to
+Inv-loop heard key₀ ms₀ to₀ key ms to = Counted heard (record { key = key₀; ms = ms₀; needed = 0; to = to₀ }) key ms to
 
 abbrev μ-loop : tie.MeasureT-loop
-μ-loop heard alike key₀ ms₀ to₀ key ms to = length heard - to
+μ-loop heard key₀ ms₀ to₀ key ms to = length heard - to
 
 returns : tie.Need-returns Inv-loop μ-loop
-returns c = let p = c .before .before .before .pre in passes-none _ (p .1 .1 .0) _ (p .1 .1 .1)
+returns c = let p = c .before .before .before .pre in passes-none _ (p .1 .0) _ (p .1 .1)
 
 loop-holds : tie.Need-loop-holds Inv-loop μ-loop
-loop-holds c = let p = c .before .before .before .pre in counted-start _ (p .1 .1 .0) _ (p .1 .0 .ms-in) refl (p .1 .1 .1)
+loop-holds c = let p = c .before .before .before .pre in counted-start _ (p .1 .0) _ (p .0 .ms-in) refl (p .1 .1)
 
 sub-up-to : tie.Need-sub-up-to Inv-loop μ-loop
 sub-up-to c = let f = c .before .loop .inv .few in omega arith
@@ -36,10 +36,10 @@ ms-after-requires c κs =
     let u = c .up-to .ensures in
     let few = u .few in
     let high = u .high in
-    (c .before .before .before .before .before .before .pre .0, (u .low, (omega arith, omega arith)))
+    (u .low, (omega arith, omega arith))
 
-shared-slice-read-t15 : tie.Need-shared-slice-read-t15 Inv-loop μ-loop
-shared-slice-read-t15 c = search needs
+shared-slice-read-t14 : tie.Need-shared-slice-read-t14 Inv-loop μ-loop
+shared-slice-read-t14 c = search needs
 
 returns-2 : tie.Need-returns-2 Inv-loop μ-loop
 returns-2 c =
@@ -50,7 +50,7 @@ returns-2 c =
     let few = u .few in
     let high = u .high in
     let small = l .few in
-    needs-none _ k (c .before .before .before .before .before .before .if1 .left) _ (counted-40 _ (c .before .before .before .before .before .before .before .before .before .pre .1 .1 .0) _ _ _ _ _ l (u .low) (omega arith) (omega arith) _ (c .before .before .ms-after .ensures) (c .before .if2 .taken))
+    needs-none _ k (c .before .before .before .before .before .before .if1 .left) _ (counted-40 _ (c .before .before .before .before .before .before .before .before .before .pre .1 .0) _ _ _ _ _ l (u .low) (omega arith) (omega arith) _ (c .before .before .ms-after .ensures) (c .before .if2 .taken))
 
 shared-slice-read-key : tie.Need-shared-slice-read-key Inv-loop μ-loop
 shared-slice-read-key c = search needs
@@ -69,7 +69,7 @@ loop-again c =
     let few = u .few in
     let high = u .high in
     let small = l .few in
-    counted-row _ (c .before .before .before .before .before .before .before .before .before .pre .1 .1 .0) _ _ _ _ _ l (u .low) (omega arith) (omega arith) _ (c .before .before .ms-after .ensures) (c .before .if2 .left)
+    counted-row _ (c .before .before .before .before .before .before .before .before .before .pre .1 .0) _ _ _ _ _ l (u .low) (omega arith) (omega arith) _ (c .before .before .ms-after .ensures) (c .before .if2 .left)
 
 returns-3 : tie.Need-returns-3 Inv-loop μ-loop
 returns-3 c = needs-none _ (c .before .before .before .before .before .args .k) (c .before .before .if1 .left) _ (c .before .loop .inv .passes)
@@ -86,7 +86,7 @@ pass-count-spec =
     sub-up-to-2
     up-to-requires
     ms-after-requires
-    shared-slice-read-t15
+    shared-slice-read-t14
     returns-2
     shared-slice-read-key
     add-to

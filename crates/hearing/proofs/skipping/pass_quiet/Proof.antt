@@ -6,13 +6,13 @@ use Rattle.hearing.proofs.skipping.pass_quiet.Statement.{statement}
 use Rattle.hearing.proofs.skipping.pass_quiet.Tie as tie
 
 returns : tie.Need-returns
-returns c = let p = c .before .before .before .pre in passes-none _ (p .1 .1 .0) _ (p .1 .1 .1)
+returns c = let p = c .before .before .before .pre in passes-none _ (p .1 .0) _ (p .1 .1)
 
 returns-2 : tie.Need-returns-2
-returns-2 c = let p = c .before .before .before .before .before .pre in passes-none _ (p .1 .1 .0) _ (p .1 .1 .1)
+returns-2 c = let p = c .before .before .before .before .before .pre in passes-none _ (p .1 .0) _ (p .1 .1)
 
 returns-3 : tie.Need-returns-3
-returns-3 c = let p = c .before .before .before .before .before .before .before .pre in passes-none _ (p .1 .1 .0) _ (p .1 .1 .1)
+returns-3 c = let p = c .before .before .before .before .before .before .before .pre in passes-none _ (p .1 .0) _ (p .1 .1)
 
 quiet-from-requires : tie.Need-quiet-from-requires
 quiet-from-requires c κs = search needs
@@ -23,15 +23,15 @@ up-to-requires c κs = search needs
 through-requires : tie.Need-through-requires
 through-requires c κs = search needs
 
+sub-t7 : tie.Need-sub-t7
+sub-t7 c = search needs
+
 sub-t8 : tie.Need-sub-t8
 sub-t8 c = search needs
 
-sub-t9 : tie.Need-sub-t9
-sub-t9 c = search needs
-
 returns-4 : tie.Need-returns-4
 returns-4 c =
-    passes-quiet _ (c .before .before .before .before .before .before .before .before .before .before .before .pre .1 .1 .0) _ (c .before .before .before .before .before .before .if2 .left) (c .before .before .before .before .if3 .left) _ _ _
+    passes-quiet _ (c .before .before .before .before .before .before .before .before .before .before .before .pre .1 .0) _ (c .before .before .before .before .before .before .if2 .left) (c .before .before .before .before .if3 .left) _ _ _
     (c .before .before .before .quiet-from .ensures) (c .before .before .up-to .ensures) (c .before .through .ensures) _ refl
 
 pub pass-quiet-spec : {M : Type 1} → statement M
@@ -44,6 +44,6 @@ pass-quiet-spec =
     quiet-from-requires
     up-to-requires
     through-requires
+    sub-t7
     sub-t8
-    sub-t9
     returns-4)

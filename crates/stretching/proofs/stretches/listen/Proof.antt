@@ -8,7 +8,7 @@ use lib.Dec.{eqb}
 use lib.ListN.{length}
 use lib.Seq.{sets}
 use Rattle.lists.specs.Lists.{allAtMost}
-use Rattle.lists.proofs.Lists.{and-left, and-right, at-most-drop, at-most-more}
+use Rattle.lists.proofs.Lists.{and-left, and-right, at-most-drop}
 use Rattle.access.specs.Core.{modeIn}
 use Rattle.cores.specs.Cores.{silenceFor, atRest}
 use Rattle.stretching.specs.Stretches.{between}
