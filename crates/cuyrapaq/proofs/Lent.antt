@@ -28,9 +28,9 @@ use denote.Struct.Declared.{shape}
 use denote.Struct.Members.{Member, rowsOf, partsAt}
 use denote.Struct.Parts.{shapeOf, PartsBack, struct-parts}
 use denote.Struct.Laws as LL
-use Rattle.access.specs.declared.Core.{Core}
-use Rattle.access.proofs.Core as K
-use Rattle.access.proofs.Core.Laws as K′
+use Rattle.half_duplex.specs.declared.Core.{Core}
+use Rattle.half_duplex.proofs.Core as K
+use Rattle.half_duplex.proofs.Core.Laws as K′
 use Rattle.station.specs.declared.Station.{Station}
 use Rattle.station.specs.Station.{station}
 use Rattle.station.proofs.Station as T

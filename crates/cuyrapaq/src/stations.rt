@@ -50,7 +50,7 @@ pub extern "C" fn cq_station_run(
         × (now (words .exit) ≡ wordsAfter (now (station .entry)) (now (heard .entry)) (length (now (sent .entry))) (now (words .entry))))) ⌝ }
 {
     let c = station.core;
-    let r = running::run(c, &mut station.chars, heard, sent, words);
+    let r = station_entry::run(c, &mut station.chars, heard, sent, words);
     station.core = r.core;
     StationRan {
         answer: r.answer,

@@ -11,9 +11,9 @@ use Rattle.lists.specs.Steps.{stateAfter}
 use Rattle.lists.proofs.Lists.{at-most-front, at-most-behind}
 use Rattle.lists.proofs.Steps.{after-append, outputs-append}
 use Rattle.alphabet.specs.declared.Mode.{Mode}
-use Rattle.line.specs.Words.{wordsOf}
-use Rattle.line.proofs.WordLists.{words-append}
-use Rattle.access.specs.Core.{coreFrom}
+use Rattle.reader.specs.Words.{wordsOf}
+use Rattle.reader.proofs.WordLists.{words-append}
+use Rattle.half_duplex.specs.Core.{coreFrom}
 use Rattle.station.specs.declared.Station.{Station}
 use Rattle.station.specs.Station.{modeOfStation, stationMs, sentMs, eventOf, stationAfter, sentBy, eventsBy, wordsBy}
 use Rattle.station.specs.Entries.{highestLevel, runAnswer}

@@ -13,8 +13,8 @@ use Rattle.alphabet.specs.declared.Mode.the-variants.{Baudot45, Baudot50, Dtmf,
 use Rattle.alphabet.specs.Normal.{allChars}
 use Rattle.frames.specs.Samples.{placed, samplesOf, baudotKinds, edtKinds}
 use Rattle.frames.specs.Range.{lastMs}
-use Rattle.line.specs.declared.Reader.{Reader}
-use Rattle.access.specs.declared.Core.{Core}
+use Rattle.reader.specs.declared.Reader.{Reader}
+use Rattle.half_duplex.specs.declared.Core.{Core}
 use Rattle.queue.specs.Queue.{Queue, QueueOffered, room, offered, offerOf as queueOffer}
 use Rattle.station.specs.declared.Station.{Station}
 use Rattle.station.specs.Station.{station, alphabetOfStation, queueOf, hasDel, readerOffered, coreWith, offeredTo}

@@ -6,8 +6,8 @@ use native.Mathlib.Omega.{arith}
 use lib.ListN.{length, length-append}
 use Rattle.lists.specs.Steps.{outputs}
 use Rattle.lists.proofs.Steps.{outputs-length}
-use Rattle.line.specs.Words.{wordOf, wordsOf}
-use Rattle.line.proofs.WordLists.{one-word}
+use Rattle.reader.specs.Words.{wordOf, wordsOf}
+use Rattle.reader.proofs.WordLists.{one-word}
 use Rattle.station.specs.declared.Station.{Station}
 use Rattle.station.specs.Station.{stationMs, sentMs, eventOf, sentBy, wordsBy}
 

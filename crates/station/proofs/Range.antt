@@ -26,15 +26,15 @@ use Rattle.frames.specs.Samples.{samplesOf}
 use Rattle.frames.specs.Range.{lastMs, frameCodes, FrameOf}
 use Rattle.keys.specs.declared.Keys.{Keys}
 use Rattle.keys.specs.Range.{KeysIn}
-use Rattle.line.specs.declared.Reader.{Reader}
-use Rattle.line.specs.Reader.{reader}
-use Rattle.line.specs.Range.{ReaderIn}
-use Rattle.line.proofs.Range as line
-use Rattle.access.specs.declared.OnLine.{OnLine}
-use Rattle.access.specs.Line.{partMs}
-use Rattle.access.specs.Core.{modeIn, settled, coreFrom}
-use Rattle.access.specs.Range.{LineIn, SenderIn, CoreIn}
-use Rattle.access.proofs.Range.{blank-in, takes-waiting, core-after-in}
+use Rattle.reader.specs.declared.Reader.{Reader}
+use Rattle.reader.specs.Reader.{reader}
+use Rattle.reader.specs.Range.{ReaderIn}
+use Rattle.reader.proofs.Range as line
+use Rattle.half_duplex.specs.declared.OnLine.{OnLine}
+use Rattle.half_duplex.specs.Line.{partMs}
+use Rattle.half_duplex.specs.Core.{modeIn, settled, coreFrom}
+use Rattle.half_duplex.specs.Range.{LineIn, SenderIn, CoreIn}
+use Rattle.half_duplex.proofs.Range.{blank-in, takes-waiting, core-after-in}
 use Rattle.queue.specs.Queue.{Queue, queue, waits, waiters, allWait, waitingOf, moved, room, offered, taken, inRange as queueIn}
 use Rattle.queue.proofs.Laws as queue
 use Rattle.station.specs.declared.Station.{Station}

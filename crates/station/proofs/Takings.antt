@@ -5,8 +5,8 @@ use mathlib.Core.List.{List, [], _∷_}
 use Prim.Native.Nat.{ℕ, _+_, _-_, _≤_}
 use native.Mathlib.Omega.{arith}
 use Rattle.lists.specs.Steps.{stateAfter}
-use Rattle.access.specs.Core.{settled, waitingAfter, coreFrom}
-use Rattle.access.proofs.Range.{takes-waiting}
+use Rattle.half_duplex.specs.Core.{settled, waitingAfter, coreFrom}
+use Rattle.half_duplex.proofs.Range.{takes-waiting}
 use Rattle.queue.specs.Queue.{movedBy}
 use Rattle.queue.proofs.Moves.{moved-by-more}
 use Rattle.station.specs.declared.Station.{Station}

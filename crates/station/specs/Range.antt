@@ -12,12 +12,12 @@ use Rattle.frames.specs.Samples.{samplesOf}
 use Rattle.frames.specs.Range.{lastMs, frameCodes}
 use Rattle.keys.specs.declared.Keys.{Keys}
 use Rattle.keys.specs.Keys.{keyMs, quietMs}
-use Rattle.line.specs.declared.Reader.{Reader}
-use Rattle.access.specs.declared.Core.{Core}
-use Rattle.access.specs.declared.OnLine.{OnLine}
-use Rattle.access.specs.Rules.{freeMs, afterMs}
-use Rattle.access.specs.Line.{partMs}
-use Rattle.access.specs.Core.{modeIn}
+use Rattle.reader.specs.declared.Reader.{Reader}
+use Rattle.half_duplex.specs.declared.Core.{Core}
+use Rattle.half_duplex.specs.declared.OnLine.{OnLine}
+use Rattle.half_duplex.specs.Rules.{freeMs, afterMs}
+use Rattle.half_duplex.specs.Line.{partMs}
+use Rattle.half_duplex.specs.Core.{modeIn}
 use Rattle.queue.specs.Queue.{inRange as queueIn}
 use Rattle.station.specs.declared.Station.{Station}
 use Rattle.station.specs.Station.{queueOf, alphabetOfStation}

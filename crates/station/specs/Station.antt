@@ -10,12 +10,12 @@ use Rattle.alphabet.specs.declared.Alphabet.the-variants.{Baudot, Dtmf, Edt}
 use Rattle.alphabet.specs.declared.Mode.{Mode}
 use Rattle.alphabet.specs.Baudot.{letters}
 use Rattle.alphabet.specs.Modes.{alphabetOf}
-use Rattle.line.specs.declared.Event.{Event}
-use Rattle.line.specs.declared.Reader.{Reader}
-use Rattle.line.specs.Reader.{reader}
-use Rattle.line.specs.Words.{wordsOf}
-use Rattle.access.specs.declared.Core.{Core}
-use Rattle.access.specs.Core.{core, freshCore, modeIn, settled, sentIn, eventIn, coreAfter}
+use Rattle.reader.specs.declared.Event.{Event}
+use Rattle.reader.specs.declared.Reader.{Reader}
+use Rattle.reader.specs.Reader.{reader}
+use Rattle.reader.specs.Words.{wordsOf}
+use Rattle.half_duplex.specs.declared.Core.{Core}
+use Rattle.half_duplex.specs.Core.{core, freshCore, modeIn, settled, sentIn, eventIn, coreAfter}
 use Rattle.queue.specs.Queue.{Queue, queue, offered, moved}
 use Rattle.station.specs.declared.Station.{Station}
 

@@ -1,12 +1,12 @@
 // Question 1: are the station's numbers in range?
-use access::Core;
-use access::OnLine;
+use half_duplex::Core;
+use half_duplex::OnLine;
 use alphabet::Alphabet;
 use alphabet::Mode;
 use baudot::Sender;
 use frames::Frame;
 use keys::Keys;
-use line::Reader;
+use reader::Reader;
 ghost use mathlib.Core.Path.{_≡_};
 ghost use lib.Dec.{ltb};
 ghost use Rattle.baudot.specs.Sending.{inRange as senderIn};
@@ -102,7 +102,7 @@ fn line_in(mode: Mode, l: OnLine) -> bool
     if !code_in(mode.alphabet(), l.code) {
         return false;
     }
-    l.at <= access::sending::part_ms(mode, l)
+    l.at <= half_duplex::sending::part_ms(mode, l)
 }
 
 fn sender_in(s: Sender) -> bool
@@ -123,10 +123,10 @@ fn core_in(c: Core) -> bool
     if 4 < c.mode {
         return false;
     }
-    if access::FREE < c.silence {
+    if half_duplex::FREE < c.silence {
         return false;
     }
-    if access::INHIBITED < c.inhibited {
+    if half_duplex::INHIBITED < c.inhibited {
         return false;
     }
     let mode = Mode::of(c.mode);

@@ -1,13 +1,13 @@
 // A station: opening, offers and runs.
-use access::Core;
-use access::OnLine;
+use half_duplex::Core;
+use half_duplex::OnLine;
 use alphabet::Alphabet;
 use alphabet::Mode;
 use baudot::Sender;
-use line::Reader;
+use reader::Reader;
 ghost use mathlib.Core.Path.{_≡_};
 ghost use Rattle.alphabet.specs.declared.Alphabet.the-variants.{Baudot};
-ghost use Rattle.access.specs.Core.{freshCore};
+ghost use Rattle.half_duplex.specs.Core.{freshCore};
 ghost use Rattle.station.specs.Station.{station, hasDel, readerOffered, coreWith};
 ghost use Rattle.station.specs.Entries.{openOf, offerOf};
 
@@ -40,7 +40,7 @@ fn fresh(mode: u8) -> Core
     let reader = Reader::fresh();
     Core {
         waiting: 0,
-        silence: access::FREE,
+        silence: half_duplex::FREE,
         inhibited: 0,
         line: OnLine {
             at: 0,

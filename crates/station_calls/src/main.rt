@@ -3,7 +3,7 @@
 // count are ms to be heard; u and a sign, then l and a sign, are the high and the low digit of a character to be offered, each
 // that many behind 0; n and a count offer the last one so many times more; o and any byte is the offer; r and a sign is the run, with the slices that the
 // sign says. A count is the byte less 32. The expected output is what the reference prints.
-use access::Core;
+use half_duplex::Core;
 use libc::STDIN_FILENO;
 use libc::STDOUT_FILENO;
 use station::Answered;
@@ -220,9 +220,9 @@ fn run_first(
     words: &mut [u32],
 ) -> Ran {
     if heard.len() < n {
-        return running::run(c, chars, heard, sent, words);
+        return station_entry::run(c, chars, heard, sent, words);
     }
-    running::run(c, chars, &heard[..n], sent, words)
+    station_entry::run(c, chars, &heard[..n], sent, words)
 }
 
 fn run(x: Play, chars: &mut [u8; 256], heard: &[u8], sent: &mut [u8], words: &mut [u32]) -> Play {

@@ -2,7 +2,7 @@
 use borrow.Author.Needs.{needs}
 use Rattle.station.proofs.fresh.Statement.{statement}
 use Rattle.station.proofs.fresh.Tie as tie
-use Rattle.line.proofs.Reader.fresh.Reads as fresh-reads
+use Rattle.reader.proofs.Reader.fresh.Reads as fresh-reads
 
 fresh-requires : tie.Need-fresh-requires
 fresh-requires c κs = search needs

@@ -4,7 +4,7 @@ use lib.Seq.{length-take-le}
 use borrow.Author.Needs.{needs}
 use Rattle.station_calls.proofs.run_first.Statement.{statement}
 use Rattle.station_calls.proofs.run_first.Tie as tie
-use Rattle.running.proofs.run.Reads as run-reads
+use Rattle.station_entry.proofs.run.Reads as run-reads
 
 run-requires : tie.Need-run-requires
 run-requires c κs = search needs

@@ -38,8 +38,8 @@ use denote.Triple.Table.{entered, cited}
 use denote.Triple.Walked.{says, Stays, stay-ref, stay-none, walkOf, AllGo, goes-none, goes-ref, Walks, ends-at, walked, walk-meets}
 use denote.Exit.{yes}
 use denote.Triple.Clauses.{ensured, lasts}
-use Rattle.access.proofs.Core as K
-use Rattle.access.proofs.Core.Laws as K′
+use Rattle.half_duplex.proofs.Core as K
+use Rattle.half_duplex.proofs.Core.Laws as K′
 use Rattle.station.specs.declared.Station.{Station}
 use Rattle.station.specs.declared.Answered.{Answered}
 use Rattle.station.specs.Station.{station}

@@ -40,9 +40,9 @@ use denote.Triple.Table.{entered, cited}
 use denote.Triple.Walked.{says, Stays, stay-ref, stay-none-slice, gave-slice, walkOf, AllGo, goes-none-slice, goes-gave-slice, goes-ref, Walks, ends-at, walked, walk-meets}
 use denote.Exit.{yes}
 use denote.Triple.Clauses.{ensured, lasts}
-use Rattle.access.specs.declared.Core.{Core}
-use Rattle.access.proofs.Core as K
-use Rattle.access.proofs.Core.Laws as K′
+use Rattle.half_duplex.specs.declared.Core.{Core}
+use Rattle.half_duplex.proofs.Core as K
+use Rattle.half_duplex.proofs.Core.Laws as K′
 use Rattle.station.specs.declared.Station.{Station}
 use Rattle.station.specs.declared.Ran.{Ran}
 use Rattle.station.specs.Station.{station}
@@ -50,10 +50,10 @@ use Rattle.station.specs.Entries.{ranOf, sentAfter, wordsAfter}
 use Rattle.station.proofs.Ran as R
 use Rattle.station.proofs.Ran.Laws as R′
 use Rattle.station.proofs.Station as T
-use Rattle.running.proofs.run as g
-use Rattle.running.proofs.run.Symbol as g-def
-use Rattle.running.proofs.run.Symbol.{name as #running·run}
-use Rattle.running.proofs.run.Met as g-thm
+use Rattle.station_entry.proofs.run as g
+use Rattle.station_entry.proofs.run.Symbol as g-def
+use Rattle.station_entry.proofs.run.Symbol.{name as #station_entry·run}
+use Rattle.station_entry.proofs.run.Met as g-thm
 use Rattle.cuyrapaq.proofs.Lent.{Chars, chars-ty, core-vals, past, lent-ref, lends-on, takes-back}
 use Rattle.cuyrapaq.specs.declared.stations.StationRan.{StationRan}
 use Rattle.cuyrapaq.proofs.stations.StationRan as S
@@ -175,7 +175,7 @@ module _ {M : Type 1} (𝓤 : URA M) (H : Heap 𝓤) (A : Atoms 𝓤) (W : Given
         ∷ ShrSlice (named 1) κ₁ u8 ∷ MutSlice (named 2) κ₂ u8 ∷ MutSlice (named 3) κ₃ u32 ∷ []) args arg-vals) ∷ []) ∵
         join ! $ frame ! $ done !
 
-  module _ (C : Calls 𝓤 H) (Λ : Loops 𝓤 H) (fm : FmC 𝓤 H (W .laws) C) (known : Triple 𝓤 (C #running·run) (G 𝓤 H A at-mem run)) where
+  module _ (C : Calls 𝓤 H) (Λ : Loops 𝓤 H) (fm : FmC 𝓤 H (W .laws) C) (known : Triple 𝓤 (C #station_entry·run) (G 𝓤 H A at-mem run)) where
     walk : Is (ShrSlice (named 1) κ₁ u8) t (tv ∷ []) → Is (MutSlice (named 2) κ₂ u8) s (sv ∷ []) → Is (MutSlice (named 3) κ₃ u32) w (wv ∷ [])
         → ent 𝓤 (onEntry 𝓤 H A f.signature (κ, (κ₁, (κ₂, (κ₃, tt)))) (q, (q₁, (q₂, (q₃, tt)))) x at)
         (WpFn 𝓤 H C Λ code.function (vptr b o ∷ tv ∷ sv ∷ wv ∷ []) Post)
@@ -258,7 +258,7 @@ module _ {M : Type 1} (𝓤 : URA M) (H : Heap 𝓤) (A : Atoms 𝓤) (W : Given
         (LL.owes S.the-type S′.the-laws (given r) (parts .1)))))))))))))))))))))))))))))
 
 module _ {M : Type 1} (𝓤 : URA M) (H : Heap 𝓤) (A : Atoms 𝓤) (W : Given 𝓤 H A) (at-mem : Memory → SProp 𝓤) (run : Routine → Fun 𝓤) where
-  walks : (C : Calls 𝓤 H) (Λ : Loops 𝓤 H) → FmC 𝓤 H (W .laws) C → Triple 𝓤 (C #running·run) (G 𝓤 H A at-mem run)
+  walks : (C : Calls 𝓤 H) (Λ : Loops 𝓤 H) → FmC 𝓤 H (W .laws) C → Triple 𝓤 (C #station_entry·run) (G 𝓤 H A at-mem run)
       → Walks 𝓤 H A f.ended stayed (WpFn 𝓤 H C Λ code.function) (f.clauses 𝓤 H A at-mem run)
   walks C Λ fm known =
       walked 𝓤 H A f.ended stayed (f.clauses 𝓤 H A at-mem run) (WpFn 𝓤 H C Λ code.function)
@@ -284,7 +284,7 @@ module _ {M : Type 1} (𝓤 : URA M) (H : Heap 𝓤) (A : Atoms 𝓤) (W : Given
     ),
   )
 
-  meets : (𝓣 : Tables 𝓤 H) → Triple 𝓤 (𝓣 .C #running·run) (G 𝓤 H A at-mem run)
+  meets : (𝓣 : Tables 𝓤 H) → Triple 𝓤 (𝓣 .C #station_entry·run) (G 𝓤 H A at-mem run)
       → Meets 𝓤 H A f.signature (WpFn 𝓤 H (𝓣 .C) (𝓣 .Λ) code.function) (f.spec 𝓤 H A at-mem run)
   meets 𝓣 known =
       walk-meets 𝓤 H A f.ended stayed W goes (f.clauses 𝓤 H A at-mem run) (WpFn 𝓤 H (𝓣 .C) (𝓣 .Λ) code.function)
@@ -296,4 +296,4 @@ cq-station-run-spec 𝓤 H 𝓜 𝓖 𝓡 =
     entered 𝓤 H (tripleOf 𝓤 H (𝓖 .A) f.signature (f.spec 𝓤 H (𝓖 .A) (𝓜 .mem) (𝓡 .run)))
     (tables 𝓤 H 𝓜 𝓡 code.env .C) (tables 𝓤 H 𝓜 𝓡 code.env .Λ) #cuyrapaq·stations·cq-station-run code.function (code.unfolded 𝓤 H 𝓜 𝓡)
     (meets 𝓤 H (𝓖 .A) (givenOf 𝓤 H 𝓜 𝓖) (𝓜 .mem) (𝓡 .run) (tablesOf 𝓤 H 𝓜 (tables 𝓤 H 𝓜 𝓡 code.env))
-    (cited 𝓤 H (G 𝓤 H (𝓖 .A) (𝓜 .mem) (𝓡 .run)) 𝓜 𝓡 code.env #running·run g-def.routine code.calls-running·run (g-thm.met 𝓤 H 𝓜 𝓖 𝓡)))
+    (cited 𝓤 H (G 𝓤 H (𝓖 .A) (𝓜 .mem) (𝓡 .run)) 𝓜 𝓡 code.env #station_entry·run g-def.routine code.calls-station_entry·run (g-thm.met 𝓤 H 𝓜 𝓖 𝓡)))

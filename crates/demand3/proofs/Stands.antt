@@ -1,0 +1,173 @@
+-- What a station has on the line, in numbers, beside what its model has there.
+use mathlib.Core.Path.{_≡_, _∙_, refl, sym, ap, subst}
+use mathlib.Core.Bool.{Bool, true, false, cond, not, _&&_, true≢false}
+use mathlib.Core.List.{List, [], _∷_}
+use Prim.Native.Nat.{ℕ, zero, suc, _+_, _<_, _≤_}
+use native.Mathlib.Omega.{arith}
+use native.Mathlib.Numerals.{add-one}
+use lib.Dec.{eqb, leb, ltb}
+use lib.ListN.{length, getD, drop, drop-of-length-le}
+use lib.Seq.{drop-cons}
+use borrow.Author.Tests.{leb-true, leb-false, ltb-true, ltb-false, lt-ltb}
+use Rattle.alphabet.specs.declared.Mode.{Mode}
+use Rattle.alphabet.specs.declared.Sends.{Sends}
+use Rattle.alphabet.specs.declared.Sends.the-variants.{Nothing, Code}
+use Rattle.alphabet.specs.Modes.{alphabetOf}
+use Rattle.alphabet.specs.Normal.{sends, isCode}
+use Rattle.baudot.specs.declared.Sender.{Sender}
+use Rattle.baudot.specs.Sending.{shiftCode, shifted}
+use Rattle.signal.specs.Signal.{preamble}
+use Rattle.half_duplex.specs.declared.OnLine.{OnLine as Line}
+use Rattle.half_duplex.specs.declared.Loaded.{Loaded as LoadedLine}
+use Rattle.half_duplex.specs.Rules.{mayEnd}
+use Rattle.half_duplex.specs.Line as line
+use Rattle.half_duplex.specs.Line.{onLine, idle, partMs, shiftWanted}
+use Rattle.demand3.specs.Model.{Part, Preamble, ShiftCode, OwnCode, OnLine, Idle, Sending, Loaded, isCodePart, begun, loaded, ownBegins, shiftBegins, codeBegins, nextCode, levelOn, inBurst, oneGone, closed}
+
+-- the number of a part
+pub data PartNo : Part → ℕ → Type 0 where
+  preamble-1 : PartNo Preamble 1
+  shift-2 : PartNo ShiftCode 2
+  own-2 : PartNo OwnCode 2
+
+no-burst : {part : Part} {n : ℕ} → PartNo part n → not (eqb n 0) ≡ true
+no-burst preamble-1 = refl
+no-burst shift-2 = refl
+no-burst own-2 = refl
+
+no-code : {part : Part} {n : ℕ} → PartNo part n → eqb n 2 ≡ isCodePart part
+no-code preamble-1 = refl
+no-code shift-2 = refl
+no-code own-2 = refl
+
+-- the numbers stand for what the model has on the line
+pub data Stands (mode : Mode) : Line → OnLine → Type 0 where
+  rests : Stands mode idle Idle
+  sending : {part : Part} {n : ℕ} → PartNo part n → (code at : ℕ) → Stands mode (onLine n code at) (Sending part (drop at (partMs mode (onLine n code at))))
+
+module _ (mode : Mode) where
+  pub burst-same : {l : Line} {on : OnLine} → Stands mode l on → line.inBurst l ≡ inBurst on
+  burst-same rests = refl
+  burst-same (sending p code at) = no-burst p
+
+  -- the level
+  level-any : (part : Part) (ms : List ℕ) (p : ℕ) → getD ms p 0 ≡ levelOn (Sending part (drop p ms))
+  unfolding levelOn
+  level-any part [] zero = refl
+  level-any part [] (suc p) = refl
+  level-any part (x ∷ ms) zero = refl
+  level-any part (x ∷ ms) (suc p) = level-any part ms p
+
+  pub level-same : {l : Line} {on : OnLine} → Stands mode l on → line.levelOn mode l ≡ levelOn on
+  unfolding line.levelOn levelOn partMs
+  level-same rests = refl
+  level-same (sending {part} {n} p code at) = level-any part (partMs mode (onLine n code at)) at
+
+  -- one ms has gone
+  gone-at : (part : Part) (ms : List ℕ) (at : ℕ) → at < length ms → oneGone (Sending part (drop at ms)) ≡ Sending part (drop (suc at) ms)
+  unfolding oneGone
+  gone-at part ms at h = rw (drop-cons ms at 0 h) refl
+
+  pub gone-stands : {l : Line} {on : OnLine} → Stands mode l on → Stands mode (line.oneGone mode l) (oneGone on)
+  unfolding line.oneGone oneGone partMs
+  gone-stands rests = rests
+  gone-stands (sending {part} {n} p code at) = go (ltb at (length ms)) refl
+    where
+      ms : List ℕ
+      ms = partMs mode (onLine n code at)
+
+      go : (b : Bool) → ltb at (length ms) ≡ b → Stands mode (cond b (onLine n code (at + 1)) (onLine n code at)) (oneGone (Sending part (drop at ms)))
+      go true e =
+          subst (Stands mode (onLine n code (at + 1))) (ap (λ (k : ℕ). Sending part (drop k ms)) (add-one at) ∙ sym (gone-at part ms at (ltb-true at (length ms) e))) (sending p code (at + 1))
+      go false e =
+          let z = drop-of-length-le ms (ltb-false at (length ms) e) in
+          subst (Stands mode (onLine n code at)) (rw z refl) (sending p code at)
+
+  -- the burst ends, or goes on
+  stays-closed : (ws : List ℕ) (part : Part) (ms : List ℕ) (at : ℕ) → at < length ms → closed ws (Sending part (drop at ms)) ≡ Sending part (drop at ms)
+  unfolding closed
+  stays-closed ws part ms at h = rw (drop-cons ms at 0 h) refl
+
+  over-closed : (ws : List ℕ) (part : Part) (ms : List ℕ) (at : ℕ) → length ms ≤ at
+      → closed ws (Sending part (drop at ms)) ≡ cond (mayEnd (isCodePart part) (length ws)) Idle (Sending part (drop at ms))
+  unfolding closed
+  over-closed ws part ms at h = rw (drop-of-length-le ms h) refl
+
+  pub closed-stands : {l : Line} {on : OnLine} (ws : List ℕ) → Stands mode l on → Stands mode (line.closed mode (length ws) l) (closed ws on)
+  unfolding line.closed line.isOver closed
+  closed-stands ws rests = rests
+  closed-stands ws (sending {part} {n} p code at) = rw (no-burst p, no-code p) (go (leb (length ms) at) refl (mayEnd (isCodePart part) (length ws)) refl)
+    where
+      ms : List ℕ
+      ms = partMs mode (onLine n code at)
+
+      go : (b : Bool) → leb (length ms) at ≡ b → (c : Bool) → mayEnd (isCodePart part) (length ws) ≡ c → Stands mode (cond (b && c) idle (onLine n code at)) (closed ws (Sending part (drop at ms)))
+      go true e true f = rw (over-closed ws part ms at (leb-true (length ms) at e), f) rests
+      go true e false f = rw (over-closed ws part ms at (leb-true (length ms) at e), f) (sending p code at)
+      go false e c f = rw (stays-closed ws part ms at (leb-false (length ms) at e)) (sending p code at)
+
+  -- a burst begins, or what is on the line goes on
+  preamble-stands : Stands mode (onLine 1 0 0) (Sending Preamble (preamble mode))
+  unfolding partMs
+  preamble-stands = sending preamble-1 0 0
+
+  pub begun-stands : {l : Line} {on : OnLine} (may : Bool) → Stands mode l on → Stands mode (line.begun may l) (begun mode may on)
+  unfolding line.begun begun
+  begun-stands true rests = preamble-stands
+  begun-stands false rests = rests
+  begun-stands true (sending p code at) = rw (no-burst p) (sending p code at)
+  begun-stands false (sending p code at) = sending p code at
+
+  -- what a ms starts with; ws wait before it
+  pub record LoadedLike (ws : List ℕ) (x : LoadedLine) (y : Loaded) : Type 0 where
+    pub line-is : Stands mode (x .line) (y .onLine)
+    pub sender-is : x .sender ≡ y .sender
+    pub waiting-is : y .waiting ≡ cond (x .takes) (drop 1 ws) ws
+
+  -- a code begins: the front character sends one
+  begins-like : (c : ℕ) (cs : List ℕ) (l : Line) (s : Sender) (x : Sends) → isCode x ≡ true → LoadedLike (c ∷ cs) (line.codeBegins (alphabetOf mode) l s x) (codeBegins mode c cs s x)
+  unfolding line.codeBegins codeBegins partMs
+  begins-like c cs l s Nothing h = absurd (true≢false (sym h))
+  begins-like c cs l s (Code own k) h = go (eqb w 0)
+    where
+      w : ℕ
+      w = shiftWanted (alphabetOf mode) s own
+
+      go : (b : Bool) → LoadedLike (c ∷ cs) (cond b (line.loaded (onLine 2 (k .0) 0) (line.senderAfterOwn (alphabetOf mode) s) true) (line.loaded (onLine 2 (shiftCode w) 0) (shifted s w) false)) (cond b (ownBegins mode c cs s k) (shiftBegins mode c cs s w))
+      go true = record { line-is = sending own-2 (k .0) 0; sender-is = refl; waiting-is = refl }
+      go false = record { line-is = sending shift-2 (shiftCode w) 0; sender-is = refl; waiting-is = refl }
+
+  stays-next : (ws : List ℕ) (part : Part) (ms : List ℕ) (at : ℕ) (s : Sender) → at < length ms → nextCode mode ws (Sending part (drop at ms)) s ≡ loaded ws (Sending part (drop at ms)) s []
+  unfolding nextCode
+  stays-next ws part ms at s h = rw (drop-cons ms at 0 h) refl
+
+  over-none : (part : Part) (ms : List ℕ) (at : ℕ) (s : Sender) → length ms ≤ at → nextCode mode [] (Sending part (drop at ms)) s ≡ loaded [] (Sending part (drop at ms)) s []
+  unfolding nextCode
+  over-none part ms at s h = rw (drop-of-length-le ms h) refl
+
+  over-some : (c : ℕ) (cs : List ℕ) (part : Part) (ms : List ℕ) (at : ℕ) (s : Sender) → length ms ≤ at
+      → nextCode mode (c ∷ cs) (Sending part (drop at ms)) s ≡ codeBegins mode c cs s (sends (alphabetOf mode) c)
+  unfolding nextCode
+  over-some c cs part ms at s h = rw (drop-of-length-le ms h) refl
+
+  -- a number and a front character stand for those waiting; each sends a code
+  pub data Heads : ℕ → ℕ → List ℕ → Type 0 where
+    none : (front : ℕ) → Heads 0 front []
+    some : (c : ℕ) (cs : List ℕ) → isCode (sends (alphabetOf mode) c) ≡ true → Heads (suc (length cs)) c (c ∷ cs)
+
+  pub next-like : {l : Line} {on : OnLine} {waiting front : ℕ} {ws : List ℕ} (s : Sender) → Heads waiting front ws → Stands mode l on → LoadedLike ws (line.nextCode mode waiting front l s) (nextCode mode ws on s)
+  unfolding line.nextCode line.isOver nextCode
+  next-like s h rests = record { line-is = rests; sender-is = refl; waiting-is = refl }
+  next-like s h (sending {part} {n} p code at) = rw (no-burst p) (go h (leb (length ms) at) refl)
+    where
+      ms : List ℕ
+      ms = partMs mode (onLine n code at)
+
+      l : Line
+      l = onLine n code at
+
+      go : {waiting front : ℕ} {ws : List ℕ} → Heads waiting front ws → (b : Bool) → leb (length ms) at ≡ b
+          → LoadedLike ws (cond (b && ltb 0 waiting) (line.codeBegins (alphabetOf mode) l s (sends (alphabetOf mode) front)) (line.loaded l s false)) (nextCode mode ws (Sending part (drop at ms)) s)
+      go {ws = ws} h false e = rw (stays-next ws part ms at s (leb-false (length ms) at e)) (record { line-is = sending p code at; sender-is = refl; waiting-is = refl })
+      go (none front) true e = rw (over-none part ms at s (leb-true (length ms) at e)) (record { line-is = sending p code at; sender-is = refl; waiting-is = refl })
+      go (some c cs g) true e = rw (lt-ltb 0 (suc (length cs)) (omega arith), over-some c cs part ms at s (leb-true (length ms) at e)) (begins-like c cs l s (sends (alphabetOf mode) c) g)

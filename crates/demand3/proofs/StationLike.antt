@@ -1,0 +1,238 @@
+-- The station in numbers goes with its model and reader: fresh, after an offer that succeeds, and ms by ms.
+use mathlib.Core.Path.{_≡_, _∙_, refl, sym, ap, subst}
+use mathlib.Core.Bool.{Bool, true, false, cond, _&&_}
+use mathlib.Core.List.{List, [], _∷_, _++_}
+use Prim.Native.Nat.{ℕ, zero, suc, _≤_}
+use native.Mathlib.Omega.{arith}
+use native.Mathlib.Numerals.{add-one}
+use lib.Dec.{eqb, leb, ltb}
+use lib.ListN.{length, getD, take, drop}
+use lib.Seq.{length-take-le}
+use borrow.Author.Tests.{eqb-true, eqb-false, leb-true, le-leb, ltb-true, ltb-false}
+use Rattle.lists.proofs.Lists.{and-left, and-right}
+use Rattle.alphabet.specs.declared.Mode.{Mode}
+use Rattle.alphabet.specs.declared.Mode.the-variants.{Baudot45, Baudot50, Dtmf, Edt}
+use Rattle.alphabet.specs.Modes.{modeNumber, modeOf, alphabetOf}
+use Rattle.alphabet.specs.Normal.{sends, isCode}
+use Rattle.reader.specs.declared.Reader.{Reader}
+use Rattle.reader.specs.Reader.{fresh}
+use Rattle.half_duplex.specs.declared.Loaded.{Loaded as LoadedLine}
+use Rattle.half_duplex.specs.Rules.{mayBegin, inhibitedAfter, isSilent, isInhibited as inhibitedBy}
+use Rattle.half_duplex.specs.Line as line
+use Rattle.half_duplex.specs.Core as core
+use Rattle.half_duplex.specs.Core.{readerMs, eventMs, settled, coreFrom}
+use Rattle.queue.specs.Queue.{waits, waiters, waitingOf, taken}
+use Rattle.queue.proofs.Laws.{waiting-offered, waiting-taken}
+use Rattle.station.specs.declared.Station.{Station}
+use Rattle.station.specs.Station.{modeOfStation, alphabetOfStation, queueOf, freshStation, readerOffered, offeredTo, front, charsAfter, stationMs, sentMs, eventOf}
+use Rattle.station.specs.Range.{inRange}
+use Rattle.station.specs.Entries.{answered, isMode, openOf, offerAnswer, highestLevel}
+use Rattle.station.proofs.Range.{core-in, front-waits, fresh-in, fresh-full, ms-in, ms-full, accepted, offered-in, offered-full}
+use Rattle.half_duplex.proofs.Range.{takes-waiting}
+use Rattle.demand3.specs.Model.{Model, Loaded, freshModel, offered, begun, nextCode, load, inBurst, oneGone, closed, isInhibited, silenceAfter, did, msAfter}
+use Rattle.demand3.specs.Calls.{opened}
+use Rattle.demand3.proofs.Stands.{Stands, rests, LoadedLike, Heads, none, some, burst-same, level-same, gone-stands, closed-stands, begun-stands, next-like}
+
+-- the station's silence stops at 300: it is the model's, or both are at least 300
+pub data Capped : ℕ → ℕ → Type 0 where
+  same : (n : ℕ) → n ≤ 300 → Capped n n
+  over : (n : ℕ) → 300 ≤ n → Capped n 300
+
+capped-may : {n s : ℕ} → Capped n s → leb 300 n ≡ leb 300 s
+capped-may (same n h) = refl
+capped-may (over n h) = rw (le-leb 300 n h) refl
+
+capped-next : {n s : ℕ} → Capped n s → Capped (suc n) (cond (ltb s 300) (suc s) s)
+capped-next (same n h) = go (ltb n 300) refl
+  where
+    go : (b : Bool) → ltb n 300 ≡ b → Capped (suc n) (cond b (suc n) n)
+    go true e = let l = ltb-true n 300 e in same (suc n) (omega arith)
+    go false e =
+        let l = ltb-false n 300 e in
+        let z : n ≡ 300 = omega arith in
+        subst (λ (k : ℕ). Capped (suc n) k) (sym z) (over (suc n) (omega arith))
+capped-next (over n h) = over (suc n) (omega arith)
+
+capped-after : (silent : Bool) {n s : ℕ} → Capped n s → Capped (silenceAfter silent n) (core.silenceAfter silent s)
+unfolding core.silenceAfter
+capped-after true c = rw add-one (capped-next c)
+capped-after false c = same 0 (omega arith)
+
+-- the station is as the model and the reader say
+pub record Like (mode : Mode) (s : Station) (m : Model) (r : Reader) : Type 0 where
+  pub in-range : inRange s ≡ true
+  pub full : length (s .chars) ≡ 256
+  pub mode-is : s .core .mode ≡ modeNumber mode
+  pub waiting-is : m .waiting ≡ waitingOf (queueOf s)
+  pub line-is : Stands mode (s .core .line) (m .onLine)
+  pub sender-is : s .core .sender ≡ m .sender
+  pub silence-is : Capped (m .silence) (s .core .silence)
+  pub inhibited-is : s .core .inhibited ≡ m .inhibitedMs
+  pub reader-is : s .core .reader ≡ r
+
+mode-of : (mode : Mode) → modeOf (modeNumber mode) ≡ mode
+mode-of Baudot45 = refl
+mode-of Baudot50 = refl
+mode-of Dtmf = refl
+mode-of Edt = refl
+
+number-in : (mode : Mode) → isMode (modeNumber mode) ≡ true
+number-in Baudot45 = refl
+number-in Baudot50 = refl
+number-in Dtmf = refl
+number-in Edt = refl
+
+-- those that wait are as many as the number says
+count-is : (s : Station) → length (s .chars) ≡ 256 → inRange s ≡ true → length (waitingOf (queueOf s)) ≡ s .core .waiting
+count-is s full i = let h = core-in s i .waiting-in in length-take-le (s .core .waiting) (s .chars) (omega arith)
+
+heads : (mode : Mode) (n : ℕ) (cs : List ℕ) → n ≤ length cs → (1 ≤ n → isCode (sends (alphabetOf mode) (getD cs 0 0)) ≡ true) → Heads mode n (getD cs 0 0) (take n cs)
+heads mode zero cs h w = none (getD cs 0 0)
+heads mode (suc n) [] h w = absurd (omega arith)
+heads mode (suc n) (c ∷ cs) h w =
+    let e = length-take-le n cs (omega arith) in
+    subst (λ (k : ℕ). Heads mode (suc k) c (c ∷ take n cs)) e (some c (take n cs) (w (omega arith)))
+
+module _ (mode : Mode) (s : Station) (m : Model) (r : Reader) (h : Like mode s m r) where
+  pub mode-same : modeOfStation s ≡ mode
+  mode-same = ap modeOf (h .mode-is) ∙ mode-of mode
+
+  pub count-same : s .core .waiting ≡ length (m .waiting)
+  count-same = sym (count-is s (h .full) (h .in-range)) ∙ ap length (sym (h .waiting-is))
+
+  may-same : mayBegin (s .core .waiting) (s .core .silence) ≡ mayBegin (length (m .waiting)) (m .silence)
+  unfolding mayBegin
+  may-same = λ i. ltb 0 (count-same i) && sym (capped-may (h .silence-is)) i
+
+  heads-are : Heads mode (s .core .waiting) (front s) (m .waiting)
+  heads-are =
+      let c = core-in s (h .in-range) .waiting-in in
+      let f = h .full in
+      let w : 1 ≤ s .core .waiting → waits (alphabetOf mode) (front s) ≡ true = λ o. subst (λ (d : Mode). waits (alphabetOf d) (front s) ≡ true) mode-same (front-waits s f (h .in-range) o) in
+      subst (Heads mode (s .core .waiting) (front s)) (sym (h .waiting-is))
+      (heads mode (s .core .waiting) (s .chars) (omega arith) (λ o. and-right (leb (front s) 0x7f) (isCode (sends (alphabetOf mode) (front s))) (w o)))
+
+  -- sending is settled
+  abbrev x : LoadedLine
+  x = settled (s .core) (front s)
+
+  abbrev y : Loaded
+  y = load mode m
+
+  settled-like : LoadedLike mode (m .waiting) x y
+  unfolding settled load
+  settled-like =
+      let c = s .core in
+      let l = line.begun (mayBegin (c .waiting) (c .silence)) (c .line) in
+      let in-mode : line.nextCode mode (c .waiting) (front s) l (c .sender) ≡ x = sym (ap (λ (d : Mode). line.nextCode d (c .waiting) (front s) l (c .sender)) mode-same) in
+      let in-model : nextCode mode (m .waiting) (begun mode (mayBegin (c .waiting) (c .silence)) (m .onLine)) (c .sender) ≡ y = λ i. nextCode mode (m .waiting) (begun mode (may-same i) (m .onLine)) (h .sender-is i) in
+      subst (λ (z : LoadedLine). LoadedLike mode (m .waiting) z y) in-mode
+      (subst (LoadedLike mode (m .waiting) (line.nextCode mode (c .waiting) (front s) l (c .sender))) in-model
+      (next-like mode (c .sender) heads-are (begun-stands mode (mayBegin (c .waiting) (c .silence)) (h .line-is))))
+
+  burst-is : line.inBurst (x .line) ≡ inBurst (y .onLine)
+  burst-is = burst-same mode (settled-like .line-is)
+
+  inhibited-same : core.inhibitedIn (s .core) (front s) ≡ isInhibited mode m
+  unfolding isInhibited
+  inhibited-same = λ i. inhibitedBy (burst-is i) (h .inhibited-is i)
+
+  module _ (heard : ℕ) where
+    pub sent-same : sentMs s heard ≡ did mode m .sent
+    unfolding sentMs did
+    sent-same = ap (λ (d : Mode). line.levelOn d (x .line)) mode-same ∙ level-same mode (settled-like .line-is)
+
+    pub event-same : eventOf s heard ≡ eventMs mode (isInhibited mode m) r heard
+    unfolding eventOf
+    event-same = λ i. eventMs (mode-same i) (inhibited-same i) (h .reader-is i) heard
+
+    -- those that wait after the ms
+    waiting-after : y .waiting ≡ waitingOf (queueOf (stationMs s heard))
+    unfolding stationMs coreFrom taken
+    waiting-after = settled-like .waiting-is ∙ go (x .takes) refl
+      where
+        go : (b : Bool) → x .takes ≡ b → cond b (drop 1 (m .waiting)) (m .waiting) ≡ take (core.waitingAfter b (s .core .waiting)) (charsAfter b (s .chars))
+        go true e =
+            let o = takes-waiting (s .core) (front s) e in
+            ap (drop 1) (h .waiting-is) ∙ sym (waiting-taken (alphabetOfStation s) (queueOf s) (h .full) o (core-in s (h .in-range) .waiting-in))
+        go false e = h .waiting-is
+
+    pub ms-like : heard ≤ highestLevel mode → Like mode (stationMs s heard) (msAfter mode m heard) (readerMs mode (isInhibited mode m) r heard)
+    unfolding stationMs coreFrom msAfter
+    ms-like l =
+        let i = ms-in s heard (h .full) (h .in-range) (subst (λ (d : Mode). heard ≤ highestLevel d) (sym mode-same) l) in
+        let f = ms-full s heard (h .full) in
+        let n : core.waitingAfter (x .takes) (s .core .waiting) ≡ length (y .waiting) = sym (count-is (stationMs s heard) f i) ∙ ap length (sym waiting-after) in
+        record {
+          in-range = i;
+          full = f;
+          mode-is = h .mode-is;
+          waiting-is = waiting-after;
+          line-is =
+              subst (λ (d : Mode). Stands mode (line.closed d (core.waitingAfter (x .takes) (s .core .waiting)) (line.oneGone d (x .line))) (closed (y .waiting) (oneGone (y .onLine)))) (sym mode-same)
+              (subst (λ (k : ℕ). Stands mode (line.closed mode k (line.oneGone mode (x .line))) (closed (y .waiting) (oneGone (y .onLine)))) (sym n)
+              (closed-stands mode (y .waiting) (gone-stands mode (settled-like .line-is))));
+          sender-is = settled-like .sender-is;
+          silence-is = subst (λ (b : Bool). Capped (silenceAfter (isSilent (isInhibited mode m) heard) (m .silence)) (core.silenceAfter (isSilent b heard) (s .core .silence))) (sym inhibited-same) (capped-after (isSilent (isInhibited mode m) heard) (h .silence-is));
+          inhibited-is = λ j. inhibitedAfter (burst-is j) (h .inhibited-is j);
+          reader-is = λ j. readerMs (mode-same j) (inhibited-same j) (h .reader-is j) heard;
+        }
+
+  -- an offer that succeeds
+  pub offer-like : (cs : List ℕ) → offerAnswer s cs ≡ 0 → Like mode (offeredTo s cs) (offered mode cs m) (readerOffered (alphabetOf mode) cs r)
+  unfolding offeredTo offered
+  offer-like cs z =
+      let t = accepted s cs z in
+      let w = waiting-offered (alphabetOfStation s) (queueOf s) (h .full) cs (t .space) in
+      record {
+        in-range = offered-in s cs (h .full) z;
+        full = offered-full s cs (h .full);
+        mode-is = h .mode-is;
+        waiting-is = (λ i. h .waiting-is i ++ waiters (alphabetOf (sym mode-same i)) cs) ∙ sym w;
+        line-is = h .line-is;
+        sender-is = h .sender-is;
+        silence-is = h .silence-is;
+        inhibited-is = h .inhibited-is;
+        reader-is = λ i. readerOffered (alphabetOf (mode-same i)) cs (h .reader-is i);
+      }
+
+-- ---- the opening
+
+fresh-like : (mode : Mode) → Like mode (freshStation (modeNumber mode)) freshModel fresh
+unfolding freshStation
+fresh-like mode = record {
+  in-range = fresh-in (modeNumber mode) (number-in mode);
+  full = fresh-full (modeNumber mode);
+  mode-is = refl;
+  waiting-is = refl;
+  line-is = rests;
+  sender-is = refl;
+  silence-is = same 300 (omega arith);
+  inhibited-is = refl;
+  reader-is = refl;
+}
+
+opened-is : (n : ℕ) → opened n ≡ freshStation (modeNumber (modeOf n))
+unfolding openOf
+opened-is n = go (eqb n 2) (eqb n 3) (eqb n 4) refl refl refl
+  where
+    -- 1, or no mode's number
+    first : (b : Bool) → isMode n ≡ b → eqb n 2 ≡ false → eqb n 3 ≡ false → eqb n 4 ≡ false → cond b (answered (freshStation n) 0) (answered (freshStation 1) 2) .station ≡ freshStation 1
+    first true e p q r =
+        let l = leb-true 1 n (and-left (leb 1 n) (leb n 4) e) in
+        let h = leb-true n 4 (and-right (leb 1 n) (leb n 4) e) in
+        let x = eqb-false n 2 p in
+        let y = eqb-false n 3 q in
+        let z = eqb-false n 4 r in
+        let o : n ≡ 1 = omega arith in
+        ap freshStation o
+    first false e p q r = refl
+
+    go : (a b c : Bool) → eqb n 2 ≡ a → eqb n 3 ≡ b → eqb n 4 ≡ c → opened n ≡ freshStation (modeNumber (cond a Baudot50 (cond b Dtmf (cond c Edt Baudot45))))
+    go true b c p q r = ap opened (eqb-true n 2 p)
+    go false true c p q r = ap opened (eqb-true n 3 q)
+    go false false true p q r = ap opened (eqb-true n 4 r)
+    go false false false p q r = first (isMode n) refl p q r
+
+pub opened-like : (n : ℕ) → Like (modeOf n) (opened n) freshModel fresh
+opened-like n = subst (λ (s : Station). Like (modeOf n) s freshModel fresh) (sym (opened-is n)) (fresh-like (modeOf n))

@@ -1,0 +1,110 @@
+-- Document 01, "Demand 3 is a single claim": lists of offers and runs. Each call is played by the definitions that the contracts
+-- of the station's entries cite, on the station that the last call returned or left.
+use Prim.Native.Nat.{ℕ, zero, suc, _+_, _-_}
+use mathlib.Core.Bool.{Bool, cond, _&&_}
+use mathlib.Core.List.{List, [], _∷_, _++_, map}
+use lib.Dec.{eqb, leb}
+use lib.ListN.{length, take}
+use Rattle.lists.specs.Lists.{allAtMost}
+use Rattle.alphabet.specs.declared.Mode.{Mode}
+use Rattle.alphabet.specs.Modes.{alphabetOf}
+use Rattle.alphabet.specs.Normal.{allChars}
+use Rattle.queue.specs.Queue.{waiters}
+use Rattle.station.specs.declared.Station.{Station}
+use Rattle.station.specs.Entries.{openOf, offerOf, highestLevel, ranOf, sentAfter, wordsAfter}
+use Rattle.demand3.specs.Model.{Model, Step, Offer, Ms, modelAfter, heardIn}
+
+-- An offer of some bytes. A run on some heard ms, with a sent slice and a word slice. Each is of any length and content.
+pub data Call : Type 0 where
+  OfferCall : List ℕ → Call
+  RunCall : List ℕ → List ℕ → List ℕ → Call
+
+-- A list starts with the station an opening gave.
+abbrev pub opened : ℕ → Station
+opened mode = openOf mode .station
+
+-- The answer to a call, and the station that it returns or leaves.
+abbrev pub answer : Station → Call → ℕ
+answer s (OfferCall text) = offerOf s text .answer
+answer s (RunCall heard sent words) = ranOf s heard (length sent) (length words) .answer
+
+abbrev pub left : Station → Call → Station
+left s (OfferCall text) = offerOf s text .station
+left s (RunCall heard sent words) = ranOf s heard (length sent) (length words) .station
+
+abbrev pub succeeds : Station → Call → Bool
+succeeds s c = eqb (answer s c) 0
+
+-- What a call hands out if it succeeds: the front of its sent slice, one ms for each heard; the front of its word slice, as many
+-- words as the run counts.
+abbrev pub sentIf : Station → Call → List ℕ
+sentIf s (OfferCall text) = []
+sentIf s (RunCall heard sent words) = take (length heard) (sentAfter s heard (length words) sent)
+
+abbrev pub wordsIf : Station → Call → List ℕ
+wordsIf s (OfferCall text) = []
+wordsIf s (RunCall heard sent words) =
+    take (ranOf s heard (length sent) (length words) .words) (wordsAfter s heard (length sent) words)
+
+-- What goes into the send model if it succeeds: an offer with its text, a run ms by ms.
+abbrev pub stepsIf : Call → List Step
+stepsIf (OfferCall text) = Offer text ∷ []
+stepsIf (RunCall heard sent words) = map Ms heard
+
+-- A refused call hands out nothing, changes nothing and takes no ms.
+abbrev pub sentFor : Station → Call → List ℕ
+sentFor s c = cond (succeeds s c) (sentIf s c) []
+
+abbrev pub wordsFor : Station → Call → List ℕ
+wordsFor s c = cond (succeeds s c) (wordsIf s c) []
+
+abbrev pub stepsFor : Station → Call → List Step
+stepsFor s c = cond (succeeds s c) (stepsIf c) []
+
+-- A list of calls: the station that it leaves; what its successful runs hand out, end to end; the steps of its model.
+unfoldable pub leftBy : Station → List Call → Station
+leftBy s [] = s
+leftBy s (c ∷ cs) = leftBy (left s c) cs
+
+unfoldable pub sentBy : Station → List Call → List ℕ
+sentBy s [] = []
+sentBy s (c ∷ cs) = sentFor s c ++ sentBy (left s c) cs
+
+unfoldable pub wordsBy : Station → List Call → List ℕ
+wordsBy s [] = []
+wordsBy s (c ∷ cs) = wordsFor s c ++ wordsBy (left s c) cs
+
+unfoldable pub stepsBy : Station → List Call → List Step
+stepsBy s [] = []
+stepsBy s (c ∷ cs) = stepsFor s c ++ stepsBy (left s c) cs
+
+-- How many ms there are in some steps.
+abbrev pub msIn : List Step → ℕ
+msIn steps = length (heardIn steps)
+
+-- A call that succeeds, cut after n ms: a run on the first n ms that it heard.
+abbrev pub cutIf : Call → ℕ → Call
+cutIf (OfferCall text) n = OfferCall text
+cutIf (RunCall heard sent words) n = RunCall (take n heard) sent words
+
+abbrev pub cutFor : Station → Call → ℕ → Call
+cutFor s c n = cond (succeeds s c) (cutIf c n) c
+
+-- The calls up to a cut after the first n ms.
+unfoldable pub upTo : Station → List Call → ℕ → List Call
+upTo s [] n = []
+upTo s (c ∷ cs) zero = []
+upTo s (c ∷ cs) (suc n) = cutFor s c (suc n) ∷ upTo (left s c) cs (suc n - msIn (stepsFor s c))
+
+-- Besides: which calls succeed, told by the send model. Questions 3 and 4, the latter by those that wait in the model; 5 to 8.
+-- (After calls on a fresh station the answer to question 1 is yes.)
+unfoldable pub accepts : Mode → Model → Call → Bool
+accepts mode m (OfferCall text) = allChars text && leb (length (m .waiting) + length (waiters (alphabetOf mode) text)) 256
+accepts mode m (RunCall heard sent words) =
+    leb (length heard) 4_096 && allAtMost (highestLevel mode) heard && leb (length heard) (length sent) && leb (length heard) (length words)
+
+unfoldable pub modelSteps : Mode → Model → List Call → List Step
+modelSteps mode m [] = []
+modelSteps mode m (c ∷ cs) =
+    let steps = cond (accepts mode m c) (stepsIf c) [] in
+    steps ++ modelSteps mode (modelAfter mode m steps) cs

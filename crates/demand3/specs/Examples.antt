@@ -1,0 +1,180 @@
+-- Demand 3, computed: for each mode two lists of calls for which the premises hold, refused calls among them, and what B reads.
+use Prim.Native.Nat.{ℕ, _+_}
+use mathlib.Core.Path.{_≡_}
+use mathlib.Core.List.{List, [], _∷_, _++_}
+use lib.ListN.{length, take, drop, replicate}
+use Rattle.alphabet.specs.declared.Mode.the-variants.{Baudot45, Baudot50, Edt}
+use Rattle.signal.specs.Signal.{signals, preamble}
+use Rattle.reader.specs.Words.{faultWord}
+use Rattle.line_theorems.specs.Examples.{chars}
+use Rattle.demand3.specs.Model.{takenIn}
+use Rattle.demand3.specs.Reading.{EndsIdle}
+use Rattle.demand3.specs.Calls.{Call, OfferCall, RunCall}
+use Rattle.demand3.specs.Demand3.{Lists, Premises, followsA, synchronized, wordsBefore}
+
+-- The lists; the characters that A takes after the idle period up to the synchronizing code's last ms; the words of B after it.
+pub record Example : Type 0 where
+  pub lists : Lists
+  pub before : List ℕ
+  pub words : List ℕ
+
+pub record Holds (e : Example) : Type 0 where
+  pub premises : Premises (e .lists)
+  pub ends-idle : EndsIdle (followsA (e .lists))
+  pub before-is : takenIn (take (synchronized (e .lists)) (followsA (e .lists))) ≡ e .before
+  pub words-are : wordsBefore (e .lists) (e .lists .asked + 1) ≡ wordsBefore (e .lists) (e .lists .start + 300 + synchronized (e .lists)) ++ e .words
+
+-- n ms, heard as x; a run on some ms, with slices that are just long enough
+abbrev pub ms : ℕ → ℕ → List ℕ
+ms n x = replicate n x
+
+abbrev pub run : List ℕ → Call
+run heard = RunCall heard (ms (length heard) 0) (ms (length heard) 0)
+
+-- Baudot 45.45. A's burst of e ends with ms 1479. A byte above 127, a level that is none and a sent slice that is too short are
+-- refused. B has sent b, has heard 11011 and then space, so that it is in figures and waits: it takes TOO for 599, and is right
+-- from the shift code ahead of 1 on. Offers to it are refused or empty.
+unfoldable pub callsA45 : List Call
+callsA45 =
+    OfferCall (chars "e") ∷
+    OfferCall (0x41 ∷ 0x80 ∷ []) ∷
+    run (ms 500 2) ∷
+    run (ms 5 3) ∷
+    run (ms 280 0) ∷
+    OfferCall (chars "too1a") ∷
+    run (ms 600 2) ∷
+    RunCall (ms 600 0) (ms 599 0) (ms 600 0) ∷
+    run (ms 600 1) ∷
+    run (ms 106 2) ∷
+    []
+
+-- what A sends from ms 1740 on
+unfoldable pub line45 : List ℕ
+line45 = ms 40 0 ++ preamble Baudot45 ++ signals Baudot45 (0b10000 ∷ 0b11000 ∷ 0b11000 ∷ 0b11011 ∷ 0b10111 ∷ 0b11111 ∷ 0b00011 ∷ []) ++ 0 ∷ []
+
+unfoldable pub callsB45 : List Call
+callsB45 =
+    OfferCall (chars "b") ∷
+    run (ms 800 0 ++ signals Baudot45 (0b11011 ∷ []) ++ ms 515 1) ∷
+    OfferCall (0x41 ∷ 0x80 ∷ []) ∷
+    run (ms 260 2) ∷
+    OfferCall [] ∷
+    run (take 500 line45) ∷
+    RunCall (ms 50 0) (ms 50 0) [] ∷
+    run (drop 500 line45) ∷
+    []
+
+unfoldable pub baudot45 : Example
+baudot45 = record {
+  lists = record { mode = 1; callsA = callsA45; callsB = callsB45; openA = 1_000; openB = 0; start = 1_480; asked = 3_085 };
+  before = chars "too";
+  words = chars "1A";
+}
+
+-- Baudot 50. More characters than there is space for are refused, and so are more than 4,096 ms. After e and 71 more, the shift
+-- code is repeated ahead of the 73rd: B, in figures, is wrong about the 71 and right from there on. DEL has put it in letters
+-- before it heard 11011.
+unfoldable pub callsA50 : List Call
+callsA50 =
+    OfferCall (chars "e") ∷
+    run (ms 750 0) ∷
+    OfferCall (ms 257 0x65) ∷
+    OfferCall (ms 71 0x65 ++ chars "too1") ∷
+    run (ms 4_096 0) ∷
+    run (ms 4_097 0) ∷
+    run (ms 4_096 2) ∷
+    run (ms 3_509 1) ∷
+    []
+
+-- what A sends from ms 710 on: in three parts
+unfoldable pub line50 : List ℕ
+line50 = ms 40 0 ++ preamble Baudot50 ++ signals Baudot50 (ms 24 0b00001)
+
+unfoldable pub laterLine50 : List ℕ
+laterLine50 = signals Baudot50 (ms 26 0b00001)
+
+unfoldable pub lastLine50 : List ℕ
+lastLine50 = signals Baudot50 (ms 21 0b00001 ++ 0b11111 ∷ 0b10000 ∷ 0b11000 ∷ 0b11000 ∷ 0b11011 ∷ 0b10111 ∷ []) ++ 0 ∷ []
+
+unfoldable pub callsB50 : List Call
+callsB50 =
+    OfferCall (0x7f ∷ []) ∷
+    run (signals Baudot50 (0b11011 ∷ []) ++ ms 100 0) ∷
+    run (ms 260 2) ∷
+    run line50 ∷
+    OfferCall (ms 257 0x65) ∷
+    run laterLine50 ∷
+    run lastLine50 ∷
+    []
+
+unfoldable pub baudot50 : Example
+baudot50 = record {
+  lists = record { mode = 2; callsA = callsA50; callsB = callsB50; openA = 0; openB = 200; start = 450; asked = 12_450 };
+  before = ms 71 0x65;
+  words = chars "TOO1";
+}
+
+-- DTMF. B is opened in the idle period and hears ** in it, so that it takes b for +. Key 17 is refused.
+unfoldable pub callsAKeys : List Call
+callsAKeys =
+    run (ms 300 5) ∷
+    run (ms 9 17) ∷
+    run (ms 300 0) ∷
+    OfferCall (chars "b:") ∷
+    OfferCall (chars "b") ∷
+    run (ms 601 5) ∷
+    []
+
+abbrev pub key : ℕ → List ℕ
+key k = ms 70 k ++ ms 50 0
+
+unfoldable pub callsBKeys : List Call
+callsBKeys =
+    run (ms 70 11 ++ ms 40 0 ++ ms 50 11) ∷
+    OfferCall (0x62 ∷ 0xff ∷ []) ∷
+    run (ms 40 0 ++ key 1 ++ key 11 ++ key 11 ++ key 4 ++ key 1 ++ 0 ∷ []) ∷
+    []
+
+unfoldable pub dtmf : Example
+dtmf = record {
+  lists = record { mode = 3; callsA = callsAKeys; callsB = callsBKeys; openA = 500; openB = 900; start = 800; asked = 1_700 };
+  before = chars "b";
+  words = chars ":b";
+}
+
+-- EDT. B is in a frame when the line falls quiet; it reads from the first character on.
+unfoldable pub callsAEdt : List Call
+callsAEdt =
+    run (ms 300 0) ∷
+    OfferCall (chars "Ab") ∷
+    run (ms 300 2) ∷
+    run (ms 300 3) ∷
+    OfferCall (chars "1") ∷
+    run (ms 301 1) ∷
+    []
+
+unfoldable pub callsBEdt : List Call
+callsBEdt =
+    run (ms 200 1 ++ ms 60 2) ∷
+    run (ms 40 0 ++ preamble Edt) ∷
+    RunCall (ms 10 0) [] [] ∷
+    run (signals Edt (chars "Ab1") ++ 0 ∷ []) ∷
+    []
+
+unfoldable pub edt : Example
+edt = record {
+  lists = record { mode = 4; callsA = callsAEdt; callsB = callsBEdt; openA = 0; openB = 0; start = 0; asked = 900 };
+  before = [];
+  words = chars "Ab1";
+}
+
+-- The first: what B makes of TOO, and of the space before.
+abbrev pub Mistaken : Type 0
+Mistaken = wordsBefore (baudot45 .lists) (1_780 + synchronized (baudot45 .lists)) ≡ faultWord ∷ chars "599"
+
+pub record AllHold : Type 0 where
+  pub baudot45-holds : Holds baudot45
+  pub baudot50-holds : Holds baudot50
+  pub dtmf-holds : Holds dtmf
+  pub edt-holds : Holds edt
+  pub mistaken : Mistaken

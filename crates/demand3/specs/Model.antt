@@ -1,0 +1,189 @@
+-- Document 01, "Demand 3 is a single claim": the send model (there: a station's book), ms by ms. It is kept from offers that
+-- succeed and heard ms alone, and never looks at a station.
+use Prim.Native.Nat.{ℕ, suc}
+use mathlib.Core.Bool.{Bool, true, false, cond}
+use mathlib.Core.List.{List, [], _∷_, _++_, map}
+use lib.Dec.{eqb}
+use lib.ListN.{length}
+use Rattle.alphabet.specs.declared.LineCode.{LineCode}
+use Rattle.alphabet.specs.declared.Mode.{Mode}
+use Rattle.alphabet.specs.declared.Sends.{Sends}
+use Rattle.alphabet.specs.declared.Sends.the-variants.{Nothing, Code}
+use Rattle.alphabet.specs.Modes.{alphabetOf}
+use Rattle.alphabet.specs.Normal.{sends}
+use Rattle.baudot.specs.declared.Sender.{Sender}
+use Rattle.baudot.specs.Sending.{fresh, shiftCode, shifted}
+use Rattle.signal.specs.Signal.{quiet, signal, preamble}
+use Rattle.half_duplex.specs.Rules.{freeMs, mayBegin, mayEnd, isInhibited as inhibitedBy, inhibitedAfter, isSilent}
+use Rattle.half_duplex.specs.Line.{shiftWanted, senderAfterOwn}
+use Rattle.queue.specs.Queue.{waiters}
+
+-- What is on the line in a burst: the preamble (there: lead), a shift code (there: case code), a character's own code.
+pub data Part : Type 0 where
+  Preamble ShiftCode OwnCode : Part
+
+-- In no burst; or in one, with the part on the line and the ms of it that are left.
+pub data OnLine : Type 0 where
+  Idle : OnLine
+  Sending : Part → List ℕ → OnLine
+
+-- The characters that wait, front first; what is on the line; the sender; the ms of silence in a row; the inhibited ms that
+-- are still to come after a burst.
+pub record Model : Type 0 where
+  pub waiting : List ℕ
+  pub onLine : OnLine
+  pub sender : Sender
+  pub silence : ℕ
+  pub inhibitedMs : ℕ
+
+-- It starts with none waiting, no burst, a fresh sender and 300 ms of silence.
+abbrev pub freshModel : Model
+freshModel = record { waiting = []; onLine = Idle; sender = fresh; silence = freeMs; inhibitedMs = 0 }
+
+-- An offer that succeeds puts those that send something behind those waiting; the others never wait.
+unfoldable pub offered : Mode → List ℕ → Model → Model
+offered mode cs m = record {
+  waiting = m .waiting ++ waiters (alphabetOf mode) cs;
+  onLine = m .onLine;
+  sender = m .sender;
+  silence = m .silence;
+  inhibitedMs = m .inhibitedMs;
+}
+
+-- The preamble is no code.
+abbrev pub isCodePart : Part → Bool
+isCodePart Preamble = false
+isCodePart ShiftCode = true
+isCodePart OwnCode = true
+
+-- In no burst, one begins with its preamble if it may.
+unfoldable pub begun : Mode → Bool → OnLine → OnLine
+begun mode may Idle = cond may (Sending Preamble (preamble mode)) Idle
+begun mode may (Sending part left) = Sending part left
+
+-- What a ms starts with: those waiting, what is on the line, the sender, and what is taken.
+pub record Loaded : Type 0 where
+  pub waiting : List ℕ
+  pub onLine : OnLine
+  pub sender : Sender
+  pub taken : List ℕ
+
+abbrev pub loaded : List ℕ → OnLine → Sender → List ℕ → Loaded
+loaded waiting onLine sender taken = record { waiting = waiting; onLine = onLine; sender = sender; taken = taken }
+
+-- A shift code takes no character; an own code takes its own.
+abbrev pub shiftBegins : Mode → ℕ → List ℕ → Sender → ℕ → Loaded
+shiftBegins mode c cs s w = loaded (c ∷ cs) (Sending ShiftCode (signal mode (shiftCode w))) (shifted s w) []
+
+abbrev pub ownBegins : Mode → ℕ → List ℕ → Sender → LineCode → Loaded
+ownBegins mode c cs s k = loaded cs (Sending OwnCode (signal mode (k .0))) (senderAfterOwn (alphabetOf mode) s) (c ∷ [])
+
+-- The next code: a shift code where one is wanted ahead of the front character, else its own code. (A character that sends
+-- nothing never waits.)
+unfoldable pub codeBegins : Mode → ℕ → List ℕ → Sender → Sends → Loaded
+codeBegins mode c cs s Nothing = loaded cs (Sending OwnCode []) s (c ∷ [])
+codeBegins mode c cs s (Code own k) =
+    let w = shiftWanted (alphabetOf mode) s own in
+    cond (eqb w 0) (ownBegins mode c cs s k) (shiftBegins mode c cs s w)
+
+-- In a burst with no ms of a part left, the next code begins in that ms.
+unfoldable pub nextCode : Mode → List ℕ → OnLine → Sender → Loaded
+nextCode mode waiting Idle s = loaded waiting Idle s []
+nextCode mode waiting (Sending part (x ∷ left)) s = loaded waiting (Sending part (x ∷ left)) s []
+nextCode mode [] (Sending part []) s = loaded [] (Sending part []) s []
+nextCode mode (c ∷ cs) (Sending part []) s = codeBegins mode c cs s (sends (alphabetOf mode) c)
+
+-- Within each ms, sending is settled first.
+unfoldable pub load : Mode → Model → Loaded
+load mode m = nextCode mode (m .waiting) (begun mode (mayBegin (length (m .waiting)) (m .silence)) (m .onLine)) (m .sender)
+
+-- The level that is sent: quiet outside a burst.
+unfoldable pub levelOn : OnLine → ℕ
+levelOn Idle = quiet
+levelOn (Sending part []) = quiet
+levelOn (Sending part (x ∷ left)) = x
+
+abbrev pub inBurst : OnLine → Bool
+inBurst Idle = false
+inBurst (Sending part left) = true
+
+-- One ms of it has gone.
+unfoldable pub oneGone : OnLine → OnLine
+oneGone Idle = Idle
+oneGone (Sending part []) = Sending part []
+oneGone (Sending part (x ∷ left)) = Sending part left
+
+-- The part that has no ms left, if one is on the line.
+unfoldable pub ended : OnLine → List Part
+ended Idle = []
+ended (Sending part []) = part ∷ []
+ended (Sending part (x ∷ left)) = []
+
+-- If the last ms of a part has come, the burst ends with that ms if it may.
+unfoldable pub closed : List ℕ → OnLine → OnLine
+closed waiting Idle = Idle
+closed waiting (Sending part []) = cond (mayEnd (isCodePart part) (length waiting)) Idle (Sending part [])
+closed waiting (Sending part (x ∷ left)) = Sending part (x ∷ left)
+
+-- The receiver is inhibited in the ms.
+unfoldable pub isInhibited : Mode → Model → Bool
+isInhibited mode m = inhibitedBy (inBurst (load mode m .onLine)) (m .inhibitedMs)
+
+-- Silence grows by a ms without signal; otherwise it is 0 again.
+abbrev pub silenceAfter : Bool → ℕ → ℕ
+silenceAfter silent silence = cond silent (suc silence) 0
+
+-- What a ms does: the level sent, whether in a burst, the character taken, the part that ended with it.
+pub record Did : Type 0 where
+  pub sent : ℕ
+  pub burst : Bool
+  pub taken : List ℕ
+  pub ended : List Part
+
+unfoldable pub did : Mode → Model → Did
+did mode m =
+    let l = load mode m in
+    record { sent = levelOn (l .onLine); burst = inBurst (l .onLine); taken = l .taken; ended = ended (oneGone (l .onLine)) }
+
+-- The model after a ms.
+unfoldable pub msAfter : Mode → Model → ℕ → Model
+msAfter mode m heard =
+    let l = load mode m in
+    let burst = inBurst (l .onLine) in
+    record {
+      waiting = l .waiting;
+      onLine = closed (l .waiting) (oneGone (l .onLine));
+      sender = l .sender;
+      silence = silenceAfter (isSilent (isInhibited mode m) heard) (m .silence);
+      inhibitedMs = inhibitedAfter burst (m .inhibitedMs);
+    }
+
+-- What a model is kept from: an offer that succeeds, and a ms with the level heard.
+pub data Step : Type 0 where
+  Offer : List ℕ → Step
+  Ms : ℕ → Step
+
+-- The model after some steps, and what each of their ms does.
+unfoldable pub modelAfter : Mode → Model → List Step → Model
+modelAfter mode m [] = m
+modelAfter mode m (Offer cs ∷ steps) = modelAfter mode (offered mode cs m) steps
+modelAfter mode m (Ms heard ∷ steps) = modelAfter mode (msAfter mode m heard) steps
+
+unfoldable pub does : Mode → Model → List Step → List Did
+does mode m [] = []
+does mode m (Offer cs ∷ steps) = does mode (offered mode cs m) steps
+does mode m (Ms heard ∷ steps) = did mode m ∷ does mode (msAfter mode m heard) steps
+
+-- The levels heard in some steps.
+unfoldable pub heardIn : List Step → List ℕ
+heardIn [] = []
+heardIn (Offer cs ∷ steps) = heardIn steps
+heardIn (Ms heard ∷ steps) = heard ∷ heardIn steps
+
+-- The levels sent and the characters taken in some ms, in order.
+abbrev pub sentIn : List Did → List ℕ
+sentIn ds = map (λ (d : Did). d .sent) ds
+
+unfoldable pub takenIn : List Did → List ℕ
+takenIn [] = []
+takenIn (d ∷ ds) = d .taken ++ takenIn ds

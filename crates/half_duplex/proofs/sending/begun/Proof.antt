@@ -1,0 +1,22 @@
+-- `sending::begun` meets its contract.
+use Rattle.half_duplex.specs.Line.{begun}
+use borrow.Author.Tests.{eq-eqb, ne-eqb, not-true, not-false}
+use Rattle.half_duplex.proofs.sending.begun.Statement.{statement}
+use Rattle.half_duplex.proofs.sending.begun.Tie as tie
+
+returns : tie.Need-returns
+unfolding begun
+returns c = simp (not-true (c .before .args .may) (c .if1 .taken))
+
+returns-2 : tie.Need-returns-2
+unfolding begun
+returns-2 c = let s = c .before .before .before .args in
+    simp (not-false (s .may) (c .before .before .if1 .left), ne-eqb _ _ (c .if2 .taken))
+
+returns-3 : tie.Need-returns-3
+unfolding begun
+returns-3 c = let s = c .before .before .before .args in
+    simp (not-false (s .may) (c .before .before .if1 .left), eq-eqb _ _ (c .if2 .left))
+
+pub begun-spec : {M : Type 1} → statement M
+begun-spec = tie.close (tie.spec returns returns-2 returns-3)

@@ -1,0 +1,94 @@
+-- One ms of a station, beside its queue: of those waiting it sees how many there are and the one in front.
+use Prim.Native.Nat.{ℕ, _+_, _-_}
+use mathlib.Core.Bool.{Bool, cond}
+use lib.Dec.{ltb}
+use Rattle.alphabet.specs.declared.Mode.{Mode}
+use Rattle.alphabet.specs.Modes.{modeOf}
+use Rattle.baudot.specs.declared.Sender.{Sender}
+use Rattle.baudot.specs.Sending.{fresh as freshSender}
+use Rattle.reader.specs.declared.Event.{Event}
+use Rattle.reader.specs.declared.Event.the-variants.{Nothing}
+use Rattle.reader.specs.declared.Reader.{Reader}
+use Rattle.reader.specs.Reader.{fresh as freshReader, hear, inhibited}
+use Rattle.half_duplex.specs.declared.Core.{Core}
+use Rattle.half_duplex.specs.declared.OnLine.{OnLine}
+use Rattle.half_duplex.specs.declared.Loaded.{Loaded}
+use Rattle.half_duplex.specs.declared.Stepped.{Stepped}
+use Rattle.half_duplex.specs.Rules.{freeMs, mayBegin, isInhibited, inhibitedAfter, isSilent}
+use Rattle.half_duplex.specs.Line.{idle, inBurst, begun, nextCode, levelOn, oneGone, closed}
+
+-- How many wait, the silence (in ms, up to 300), the inhibited ms to come, what is on the line, the sender, the reader, the
+-- mode's number.
+abbrev pub core : ℕ → ℕ → ℕ → OnLine → Sender → Reader → ℕ → Core
+core waiting silence inhibitedMs line sender reader mode = record {
+  waiting = waiting;
+  silence = silence;
+  inhibited = inhibitedMs;
+  line = line;
+  sender = sender;
+  reader = reader;
+  mode = mode;
+}
+
+-- A fresh line is free.
+abbrev pub freshCore : ℕ → Core
+freshCore mode = core 0 freeMs 0 idle freshSender freshReader mode
+
+-- Silence grows by a ms without signal; otherwise it is 0 again. No rule asks for more than 300.
+unfoldable pub silenceAfter : Bool → ℕ → ℕ
+silenceAfter silent silence = cond silent (cond (ltb silence freeMs) (silence + 1) silence) 0
+
+-- One ms of the reader, and what it ends in.
+abbrev pub readerMs : Mode → Bool → Reader → ℕ → Reader
+readerMs mode isInhibited r heard = cond isInhibited (inhibited r) (hear mode r heard .reader)
+
+abbrev pub eventMs : Mode → Bool → Reader → ℕ → Event
+eventMs mode isInhibited r heard = cond isInhibited Nothing (hear mode r heard .event)
+
+abbrev pub modeIn : Core → Mode
+modeIn c = modeOf (c .mode)
+
+-- Within each ms, sending is settled first.
+unfoldable pub settled : Core → ℕ → Loaded
+settled c front = nextCode (modeIn c) (c .waiting) front (begun (mayBegin (c .waiting) (c .silence)) (c .line)) (c .sender)
+
+-- What is sent in the ms, and whether it is inhibited.
+abbrev pub sentIn : Core → ℕ → ℕ
+sentIn c front = levelOn (modeIn c) (settled c front .line)
+
+abbrev pub inhibitedIn : Core → ℕ → Bool
+inhibitedIn c front = isInhibited (inBurst (settled c front .line)) (c .inhibited)
+
+-- What it ends in.
+abbrev pub eventIn : Core → ℕ → ℕ → Event
+eventIn c front heard = eventMs (modeIn c) (inhibitedIn c front) (c .reader) heard
+
+-- One character fewer waits if it is taken.
+abbrev pub waitingAfter : Bool → ℕ → ℕ
+waitingAfter takes waiting = cond takes (waiting - 1) waiting
+
+-- The core after what a ms starts with.
+unfoldable pub coreFrom : Core → Loaded → ℕ → Core
+coreFrom c l heard =
+    let burst = inBurst (l .line) in
+    let deaf = isInhibited burst (c .inhibited) in
+    let waiting = waitingAfter (l .takes) (c .waiting) in
+    core waiting
+    (silenceAfter (isSilent deaf heard) (c .silence))
+    (inhibitedAfter burst (c .inhibited))
+    (closed (modeIn c) waiting (oneGone (modeIn c) (l .line)))
+    (l .sender)
+    (readerMs (modeIn c) deaf (c .reader) heard)
+    (c .mode)
+
+-- The core after a ms.
+abbrev pub coreAfter : Core → ℕ → ℕ → Core
+coreAfter c front heard = coreFrom c (settled c front) heard
+
+-- All that a ms does, after what it starts with.
+abbrev pub stepped : Core → Loaded → ℕ → Stepped
+stepped c l heard = record {
+  core = coreFrom c l heard;
+  sent = levelOn (modeIn c) (l .line);
+  event = eventMs (modeIn c) (isInhibited (inBurst (l .line)) (c .inhibited)) (c .reader) heard;
+}

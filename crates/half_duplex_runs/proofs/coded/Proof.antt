@@ -1,0 +1,30 @@
+-- `coded` meets its contract.
+use Prim.Native.Nat.{_-_}
+use Rattle.half_duplex.specs.Core.{core}
+use Rattle.half_duplex_runs.specs.Cores.{codedCore}
+use Rattle.half_duplex_runs.proofs.Laws.{burst-some}
+use borrow.Author.Needs.{needs}
+use Rattle.half_duplex_runs.proofs.coded.Statement.{statement}
+use Rattle.half_duplex_runs.proofs.coded.Tie as tie
+
+cast-t8 : tie.Need-cast-t8
+cast-t8 c = search needs
+
+sub-t9 : tie.Need-sub-t9
+sub-t9 c = search needs
+
+silence-for-requires : tie.Need-silence-for-requires
+silence-for-requires c κs = search needs
+
+deaf-reader-requires : tie.Need-deaf-reader-requires
+deaf-reader-requires c κs = search needs
+
+returns : tie.Need-returns
+unfolding codedCore
+returns c =
+    let t = c .before .before .before .before in
+    let s = t .args .c in
+    λ j. core (s .waiting - t .args .taken) (c .before .silence-for .ensures j) (burst-some (s .inhibited) (t .args .n) (t .pre .0) j) (t .args .line) (t .args .sender) (c .deaf-reader .ensures j) (s .mode)
+
+pub coded-spec : {M : Type 1} → statement M
+coded-spec = tie.close (tie.spec cast-t8 sub-t9 silence-for-requires deaf-reader-requires returns)

@@ -1,0 +1,19 @@
+-- `loaded` meets its contract.
+use Rattle.half_duplex.specs.Core.{core}
+use Rattle.half_duplex_runs.specs.Cores.{loadedCore}
+use borrow.Author.Needs.{needs}
+use Rattle.half_duplex_runs.proofs.loaded.Statement.{statement}
+use Rattle.half_duplex_runs.proofs.loaded.Tie as tie
+
+waiting-after-requires : tie.Need-waiting-after-requires
+waiting-after-requires c κs = search needs
+
+returns : tie.Need-returns
+unfolding loadedCore
+returns c =
+    let s = c .before .before .before .before .args .c in
+    let l = c .before .before .before .before .args .l in
+    λ j. core (c .waiting-after .ensures j) (s .silence) (s .inhibited) (l .line) (l .sender) (s .reader) (s .mode)
+
+pub loaded-spec : {M : Type 1} → statement M
+loaded-spec = tie.close (tie.spec waiting-after-requires returns)

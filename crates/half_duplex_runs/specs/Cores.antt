@@ -1,0 +1,70 @@
+-- A core after some ms that go alike.
+use Prim.Native.Nat.{ℕ, zero, suc, _+_, _-_}
+use mathlib.Core.Bool.{Bool, false, cond, _&&_}
+use mathlib.Core.List.{List}
+use lib.Dec.{eqb, ltb}
+use Rattle.lists.specs.Steps.{stateAfter}
+use Rattle.baudot.specs.declared.Sender.{Sender}
+use Rattle.frames.specs.Frames.{hunting}
+use Rattle.keys.specs.Keys.{needs}
+use Rattle.reader.specs.declared.Reader.{Reader}
+use Rattle.reader.specs.Reader.{reader}
+use Rattle.half_duplex.specs.declared.Core.{Core}
+use Rattle.half_duplex.specs.declared.OnLine.{OnLine}
+use Rattle.half_duplex.specs.declared.Loaded.{Loaded}
+use Rattle.half_duplex.specs.Rules.{freeMs, afterMs, isSilent}
+use Rattle.half_duplex.specs.Line.{further, closed}
+use Rattle.half_duplex.specs.Core.{core, modeIn, silenceAfter, waitingAfter}
+
+-- The silence after n ms without signal, and after ms that the receiver hears.
+abbrev pub silenceFor : ℕ → ℕ → ℕ
+silenceFor silence n = cond (ltb (silence + n) freeMs) (silence + n) freeMs
+
+abbrev pub silenceNext : ℕ → ℕ → ℕ
+silenceNext silence heard = silenceAfter (isSilent false heard) silence
+
+abbrev pub silenceOver : ℕ → List ℕ → ℕ
+silenceOver silence heard = stateAfter silenceNext silence heard
+
+-- A reader at rest: hunting, with no key heard and no quiet needed.
+unfoldable pub atRest : Reader → Bool
+atRest r =
+    eqb (r .frame .place) 0 && eqb (r .frame .digits) 0 && eqb (r .keys .key) 0 && eqb (r .keys .ms) 0 && eqb (r .keys .needed) 0
+
+-- A reader after n inhibited ms.
+unfoldable pub deafReader : Reader → ℕ → Reader
+deafReader r zero = r
+deafReader r (suc n) = reader hunting (needs (r .keys .needed - suc n)) (r .shift) (r .prefix)
+
+-- The inhibited ms to come after n ms of a burst.
+unfoldable pub burstLeft : ℕ → ℕ → ℕ
+burstLeft inhibitedMs zero = inhibitedMs
+burstLeft inhibitedMs (suc n) = afterMs
+
+-- In which what a ms starts with is loaded already.
+unfoldable pub loadedCore : Core → Loaded → Core
+loadedCore c l =
+    core (waitingAfter (l .takes) (c .waiting)) (c .silence) (c .inhibited) (l .line) (l .sender) (c .reader) (c .mode)
+
+-- After n ms of a part; after n inhibited ms in no burst; after ms that the receiver hears.
+unfoldable pub sentFor : Core → ℕ → Core
+sentFor c n =
+    core (c .waiting)
+    (silenceFor (c .silence) n)
+    (burstLeft (c .inhibited) n)
+    (closed (modeIn c) (c .waiting) (further (c .line) n))
+    (c .sender)
+    (deafReader (c .reader) n)
+    (c .mode)
+
+-- After whole codes: so many characters are taken, a sender, what is on the line, and the ms that went.
+unfoldable pub codedCore : Core → ℕ → Sender → OnLine → ℕ → Core
+codedCore c taken sender line n =
+    core (c .waiting - taken) (silenceFor (c .silence) n) (burstLeft (c .inhibited) n) line sender (deafReader (c .reader) n) (c .mode)
+
+unfoldable pub deafFor : Core → ℕ → Core
+deafFor c n =
+    core (c .waiting) (silenceFor (c .silence) n) (c .inhibited - n) (c .line) (c .sender) (deafReader (c .reader) n) (c .mode)
+
+unfoldable pub listened : Core → ℕ → Reader → Core
+listened c silence r = core (c .waiting) silence (c .inhibited) (c .line) (c .sender) r (c .mode)

@@ -1,7 +1,0 @@
--- What the functions of this crate hand to one another.
-use Prim.Native.Nat.{ℕ}
-use Rattle.line.specs.declared.Event.{Event}
-use Rattle.line.specs.declared.Outcome.{Outcome}
-
-abbrev pub outcome : ℕ → Event → Outcome
-outcome next event = record { next = next; event = event }

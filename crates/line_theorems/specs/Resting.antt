@@ -1,0 +1,27 @@
+-- Ms that are quiet or inhibited.
+use Prim.Native.Nat.{ℕ}
+use mathlib.Core.Bool.{Bool, cond}
+use mathlib.Core.List.{List, [], _∷_}
+use Rattle.alphabet.specs.declared.Mode.{Mode}
+use Rattle.alphabet.specs.declared.Mode.the-variants.{Baudot45, Baudot50, Dtmf, Edt}
+use Rattle.reader.specs.declared.Reader.{Reader}
+use Rattle.signal.specs.Signal.{quiet}
+use Rattle.frames.specs.Frames.{hunting}
+use Rattle.keys.specs.Keys.{ready}
+use Rattle.reader.specs.Reader.{hear, inhibited}
+use mathlib.Core.Path.{_≡_}
+
+-- One such ms: inhibited, or heard as quiet.
+abbrev pub rests : Mode → Reader → Bool → Reader
+rests mode r b = cond b (inhibited r) (hear mode r quiet .reader)
+
+unfoldable pub restsAll : Mode → Reader → List Bool → Reader
+restsAll mode r [] = r
+restsAll mode r (b ∷ bs) = restsAll mode (rests mode r b) bs
+
+-- The reader hunts (Baudot, EDT) or needs no more quiet (DTMF).
+abbrev pub Settled : Mode → Reader → Type 0
+Settled Baudot45 r = r .frame ≡ hunting
+Settled Baudot50 r = r .frame ≡ hunting
+Settled Dtmf r = r .keys ≡ ready
+Settled Edt r = r .frame ≡ hunting

@@ -1,0 +1,133 @@
+// The samples of a frame, by their numbers.
+use alphabet::Mode;
+ghost use mathlib.Core.Path.{_≡_};
+ghost use Prim.Native.Nat.{_<_};
+ghost use lib.ListN.{getD};
+ghost use Rattle.frames.specs.declared.Sample.the-variants as kind;
+ghost use Rattle.frames.specs.Samples.{baudotKinds, edtKinds};
+ghost use Rattle.reader_runs.specs.Samples.{numberAt, sampleMs, kindOf, Does};
+
+// What a sample does: the frame goes on with some digits; the reader hunts; something may be found.
+pub enum Effect {
+    On(usize),
+    Hunts,
+    Finds,
+}
+
+// The number of the first sample from a ms on.
+pub fn number_at(mode: Mode, m: usize) -> usize
+    requires { ⌜ m < 256 ⌝ }
+    ensures { λ r. ⌜ r ≡ numberAt mode m ⌝ }
+{
+    match mode {
+        Mode::Baudot45 => (m + 10) / 22,
+        Mode::Baudot50 => (m + 9) / 20,
+        Mode::Dtmf => m,
+        Mode::Edt => (11 * m + 49) / 100,
+    }
+}
+
+// The ms of a sample.
+pub fn sample_ms(mode: Mode, j: usize) -> usize
+    requires { ⌜ j < 256 ⌝ }
+    ensures { λ r. ⌜ r ≡ sampleMs mode j ⌝ }
+{
+    match mode {
+        Mode::Baudot45 => 22 * j + 11,
+        Mode::Baudot50 => 20 * j + 10,
+        Mode::Dtmf => j,
+        Mode::Edt => (100 * j + 50) / 11,
+    }
+}
+
+// The sample of the start.
+fn start(digits: usize, heard: u8) -> Effect
+    ensures { λ r. ⌜ Does kind.Start digits heard r ⌝ }
+{
+    if heard == 2 {
+        return Effect::On(digits);
+    }
+    Effect::Hunts
+}
+
+// The sample of a digit. Mark and space are not told apart by a branch, since what comes is not foreseen.
+fn digit(top: usize, digits: usize, heard: u8) -> Effect
+    requires { ⌜ top < 128 ⌝ }
+    requires { ⌜ digits < 128 ⌝ }
+    ensures { λ r. ⌜ Does (kind.Digit top) digits heard r ⌝ }
+{
+    if heard == 0 {
+        return Effect::Finds;
+    }
+    Effect::On(digits / 2 + top * (heard == 1) as usize)
+}
+
+// The sample of the parity: 1 as mark.
+fn parity(digits: usize, heard: u8) -> Effect
+    requires { ⌜ digits < 128 ⌝ }
+    ensures { λ r. ⌜ Does kind.Parity digits heard r ⌝ }
+{
+    if heard == 0 {
+        return Effect::Finds;
+    }
+    if signal::parity(digits as u8) == (heard == 1) as u8 {
+        return Effect::On(digits);
+    }
+    Effect::Finds
+}
+
+// The sample of the first stop.
+fn stop(digits: usize, heard: u8) -> Effect
+    ensures { λ r. ⌜ Does kind.Stop digits heard r ⌝ }
+{
+    if heard == 1 {
+        return Effect::On(digits);
+    }
+    Effect::Finds
+}
+
+// A sample of Baudot.
+fn baudot_effect(j: usize, digits: usize, heard: u8) -> Effect
+    requires { ⌜ digits < 128 ⌝ }
+    ensures { λ r. ⌜ Does (getD baudotKinds j kind.None) digits heard r ⌝ }
+{
+    if j == 0 {
+        return start(digits, heard);
+    }
+    if j < 6 {
+        return digit(16, digits, heard);
+    }
+    Effect::Finds
+}
+
+// A sample of EDT.
+fn edt_effect(j: usize, digits: usize, heard: u8) -> Effect
+    requires { ⌜ digits < 128 ⌝ }
+    ensures { λ r. ⌜ Does (getD edtKinds j kind.None) digits heard r ⌝ }
+{
+    if j == 0 {
+        return start(digits, heard);
+    }
+    if j < 8 {
+        return digit(64, digits, heard);
+    }
+    match j {
+        8 => parity(digits, heard),
+        9 => stop(digits, heard),
+        _ => Effect::Finds,
+    }
+}
+
+// A sample of a mode's frame.
+pub fn effect_of(mode: Mode, j: usize, digits: usize, heard: u8) -> Effect
+    requires { ⌜ j < 11 ⌝ }
+    requires { ⌜ digits < 128 ⌝ }
+    ensures { λ r. ⌜ Does (kindOf mode j) digits heard r ⌝ }
+{
+    match mode {
+        Mode::Baudot45 => baudot_effect(j, digits, heard),
+        Mode::Baudot50 => baudot_effect(j, digits, heard),
+        Mode::Dtmf => Effect::Finds,
+        Mode::Edt => edt_effect(j, digits, heard),
+    }
+}

@@ -1,0 +1,52 @@
+-- How many codes an alphabet has, and how many ms a part.
+use mathlib.Core.Bool.{Bool, true, false, cond}
+use mathlib.Core.List.{[]}
+use Prim.Native.Nat.{ℕ, _≤_}
+use native.Mathlib.Omega.{arith}
+use lib.ListN.{length, length-replicate}
+use Rattle.alphabet.specs.declared.Mode.{Mode}
+use Rattle.alphabet.specs.declared.Mode.the-variants.{Baudot45, Baudot50, Dtmf, Edt}
+use Rattle.alphabet.specs.declared.Alphabet.{Alphabet}
+use Rattle.alphabet.specs.declared.Alphabet.the-variants as alphabet
+use Rattle.alphabet.specs.Modes.{alphabetOf, preambleOf}
+use Rattle.alphabet.specs.Packing.{codes}
+use Rattle.signal.specs.Signal.{signal, preamble}
+use Rattle.signal.specs.Packing.{longest}
+use Rattle.half_duplex.specs.declared.OnLine.{OnLine}
+use Rattle.half_duplex.specs.Line.{isCode, inBurst, partMs}
+use Rattle.half_duplex.specs.Range.{LineIn}
+use Rattle.half_duplex.proofs.Laws.{within}
+
+pub few-codes : (a : Alphabet) → codes a ≤ 256
+few-codes alphabet.Baudot = omega arith
+few-codes alphabet.Dtmf = omega arith
+few-codes alphabet.Edt = omega arith
+
+pub longest-480 : (mode : Mode) → longest mode ≤ 480
+longest-480 Baudot45 = omega arith
+longest-480 Baudot50 = omega arith
+longest-480 Dtmf = omega arith
+longest-480 Edt = omega arith
+
+preamble-480 : (mode : Mode) → preambleOf mode ≤ 480
+preamble-480 Baudot45 = omega arith
+preamble-480 Baudot50 = omega arith
+preamble-480 Dtmf = omega arith
+preamble-480 Edt = omega arith
+
+-- no part is longer than four keys
+pub part-most : (mode : Mode) (l : OnLine) → LineIn mode l → length (partMs mode l) ≤ 480
+unfolding partMs
+part-most mode l i =
+    let f = few-codes (alphabetOf mode) in
+    let k = i .code-in in
+    let a = within mode (l .code) (omega arith) in
+    let b = longest-480 mode in
+    let p = length-replicate {A = ℕ} (preambleOf mode) 1 in
+    let q = preamble-480 mode in
+    go (isCode l) (inBurst l) (omega arith) (omega arith)
+  where
+    go : (a b : Bool) → length (signal mode (l .code)) ≤ 480 → length (preamble mode) ≤ 480 → length (cond a (signal mode (l .code)) (cond b (preamble mode) [])) ≤ 480
+    go true b p q = p
+    go false true p q = q
+    go false false p q = omega arith

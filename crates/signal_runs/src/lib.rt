@@ -1,0 +1,307 @@
+// The levels of a part, written to a slice.
+use half_duplex::OnLine;
+use alphabet::LineCode;
+use alphabet::Mode;
+ghost use mathlib.Core.Path.{_≡_};
+ghost use mathlib.Core.Bool.{true};
+ghost use Prim.Native.Nat.{_+_, _-_, _*_, _/_, _%_, _^_, _≤_, _<_};
+ghost use lib.ListN.{length, replicate};
+ghost use lib.Seq.{sets};
+ghost use Rattle.lists.specs.Tables.{tabulate};
+ghost use Rattle.alphabet.specs.Modes.{alphabetOf};
+ghost use Rattle.alphabet.specs.Packing.{codes};
+ghost use Rattle.signal.specs.Signal.{levelOf, digits, held, baudotSignal, signal};
+ghost use Rattle.half_duplex.specs.Line.{inBurst, partMs};
+ghost use Rattle.half_duplex.specs.Range.{LineIn};
+ghost use Rattle.alphabet.specs.declared.Mode.the-variants as mode;
+ghost use Rattle.signal_runs.specs.Levels.{evenMs, elementAt, elementEnd, frameOf, Run, Framed, codeLevel, partLevel};
+
+const MARK: u8 = 1;
+
+const SPACE: u8 = 2;
+
+// So many ms of a level, written from a place on. The compiler makes a few stores of it where the number is a constant.
+fn fill_ms(sent: &mut [u8], from: usize, n: usize, level: u8)
+    requires { ⌜ from + n ≤ length (now sent) ⌝ }
+    ensures { λ r. ⌜ now (sent .exit) ≡ sets (now (sent .entry)) from (replicate n level) ⌝ }
+{
+    let mut k: usize = 0;
+    while k < n {
+        sent[from + k] = level;
+        k += 1;
+    }
+}
+
+// A level, written by n ms at the front and n at the end, which meet or overlap.
+fn fill_ends(sent: &mut [u8], from: usize, to: usize, n: usize, level: u8)
+    requires { ⌜ from + n ≤ to ⌝ }
+    requires { ⌜ to ≤ from + 2 * n ⌝ }
+    requires { ⌜ to ≤ length (now sent) ⌝ }
+    ensures { λ r. ⌜ now (sent .exit) ≡ sets (now (sent .entry)) from (replicate (to - from) level) ⌝ }
+{
+    fill_ms(sent, from, n, level);
+    fill_ms(sent, to - n, n, level);
+}
+
+// At most 64 ms of a level.
+fn fill_few(sent: &mut [u8], from: usize, to: usize, level: u8)
+    requires { ⌜ from < to ⌝ }
+    requires { ⌜ to ≤ from + 64 ⌝ }
+    requires { ⌜ to ≤ length (now sent) ⌝ }
+    ensures { λ r. ⌜ now (sent .exit) ≡ sets (now (sent .entry)) from (replicate (to - from) level) ⌝ }
+{
+    let n = to - from;
+    if 32 <= n {
+        fill_ends(sent, from, to, 32, level);
+        return;
+    }
+    if 16 <= n {
+        fill_ends(sent, from, to, 16, level);
+        return;
+    }
+    if 8 <= n {
+        fill_ends(sent, from, to, 8, level);
+        return;
+    }
+    if 4 <= n {
+        fill_ends(sent, from, to, 4, level);
+        return;
+    }
+    if 2 <= n {
+        fill_ends(sent, from, to, 2, level);
+        return;
+    }
+    fill_ends(sent, from, to, 1, level);
+}
+
+// A level, written from a place to another, by chunks of 64 ms. They overlap, since the compiler makes a call of memset
+// of a loop over neighbouring bytes.
+pub fn fill(sent: &mut [u8], from: usize, to: usize, level: u8)
+    requires { ⌜ from ≤ to ⌝ }
+    requires { ⌜ to ≤ length (now sent) ⌝ }
+    ensures { λ r. ⌜ now (sent .exit) ≡ sets (now (sent .entry)) from (replicate (to - from) level) ⌝ }
+{
+    if from == to {
+        return;
+    }
+    if to - from <= 64 {
+        fill_few(sent, from, to, level);
+        return;
+    }
+    let mut i = from;
+    while 64 < to - i {
+        fill_ms(sent, i, 64, level);
+        i += 63;
+    }
+    fill_ms(sent, to - 64, 64, level);
+}
+
+// How many ms of a DTMF code from one on have its level.
+fn even_ms(at: usize) -> usize
+    ensures { λ r. ⌜ r ≡ evenMs at ⌝ }
+{
+    let m = at % 120;
+    if m < 70 {
+        return 70 - m;
+    }
+    120 - m
+}
+
+// The ms of a DTMF code from one on, written from a place to another.
+fn put_keys(code: u8, at: usize, sent: &mut [u8], from: usize, to: usize)
+    requires { ⌜ code < codes (alphabetOf mode.Dtmf) ⌝ }
+    requires { ⌜ at + (to - from) ≤ length (signal mode.Dtmf code) ⌝ }
+    requires { ⌜ from ≤ to ⌝ }
+    requires { ⌜ to ≤ length (now sent) ⌝ }
+    ensures { λ r. ⌜ now (sent .exit) ≡ sets (now (sent .entry)) from (tabulate (codeLevel mode.Dtmf code at) (to - from) 0) ⌝ }
+{
+    let mut i = from;
+    while i < to {
+        let m = at + (i - from);
+        let end = lists::places::up_to(i, even_ms(m), to);
+        let level = signal::level(Mode::Dtmf, LineCode(code), m as u16);
+        fill(sent, i, end, level);
+        i = end;
+    }
+}
+
+// The element of a frame to which a ms belongs.
+fn element_at(mode: Mode, m: usize) -> usize
+    requires { ⌜ m < 480 ⌝ }
+    ensures { λ r. ⌜ r ≡ elementAt mode m ⌝ }
+{
+    match mode {
+        Mode::Baudot45 => m / 22,
+        Mode::Baudot50 => m / 20,
+        Mode::Dtmf => m,
+        Mode::Edt => 11 * m / 100,
+    }
+}
+
+// The ms behind an element.
+fn element_end(mode: Mode, j: usize) -> usize
+    requires { ⌜ j < 16 ⌝ }
+    ensures { λ r. ⌜ r ≡ elementEnd mode j ⌝ }
+{
+    match mode {
+        Mode::Baudot45 => 22 * (j + 1),
+        Mode::Baudot50 => 20 * (j + 1),
+        Mode::Dtmf => j + 1,
+        Mode::Edt => (100 * (j + 1) + 10) / 11,
+    }
+}
+
+// A frame as a number.
+fn frame_of(mode: Mode, code: u8) -> u16
+    requires { ⌜ code < codes (alphabetOf mode) ⌝ }
+    ensures { λ r. ⌜ r ≡ frameOf mode code ⌝ }
+{
+    match mode {
+        Mode::Baudot45 => signal::baudot_frame(LineCode(code)),
+        Mode::Baudot50 => signal::baudot_frame(LineCode(code)),
+        Mode::Dtmf => 0,
+        Mode::Edt => signal::edt_frame(LineCode(code)),
+    }
+}
+
+// The last of the elements from one on that have its level.
+fn run_end(frame: u16, j: usize, level: u8) -> usize
+    requires { ⌜ j < 16 ⌝ }
+    requires { ⌜ level ≡ levelOf (frame / 2 ^ j % 2) ⌝ }
+    ensures { λ r. ⌜ Run frame j r ⌝ }
+{
+    let mut k = j;
+    while k < 15 {
+        if signal::frame_level(frame, k as u16 + 1) != level {
+            return k;
+        }
+        k += 1;
+    }
+    k
+}
+
+// The ms of a frame from one on, written from a place to another.
+fn put_frame(mode: Mode, code: u8, at: usize, sent: &mut [u8], from: usize, to: usize)
+    requires { ⌜ Framed mode ⌝ }
+    requires { ⌜ code < codes (alphabetOf mode) ⌝ }
+    requires { ⌜ at + (to - from) ≤ length (signal mode code) ⌝ }
+    requires { ⌜ from < to ⌝ }
+    requires { ⌜ to ≤ length (now sent) ⌝ }
+    ensures { λ r. ⌜ now (sent .exit) ≡ sets (now (sent .entry)) from (tabulate (codeLevel mode code at) (to - from) 0) ⌝ }
+{
+    let frame = frame_of(mode, code);
+    let mut j = element_at(mode, at);
+    let mut i = from;
+    while i < to {
+        let level = signal::frame_level(frame, j as u16);
+        let last = run_end(frame, j, level);
+        let end = lists::places::up_to(from, element_end(mode, last) - at, to);
+        fill(sent, i, end, level);
+        i = end;
+        j = last + 1;
+    }
+}
+
+// The ms of a code from one on, written from a place to another.
+fn put_code(mode: Mode, code: u8, at: usize, sent: &mut [u8], from: usize, to: usize)
+    requires { ⌜ code < codes (alphabetOf mode) ⌝ }
+    requires { ⌜ at + (to - from) ≤ length (signal mode code) ⌝ }
+    requires { ⌜ from < to ⌝ }
+    requires { ⌜ to ≤ length (now sent) ⌝ }
+    ensures { λ r. ⌜ now (sent .exit) ≡ sets (now (sent .entry)) from (tabulate (codeLevel mode code at) (to - from) 0) ⌝ }
+{
+    let Mode::Dtmf = mode else {
+        put_frame(mode, code, at, sent, from, to);
+        return;
+    };
+    put_keys(code, at, sent, from, to);
+}
+
+// The next ms of a part, written from a place to another.
+pub fn put(mode: Mode, l: OnLine, sent: &mut [u8], from: usize, to: usize)
+    requires { ⌜ LineIn mode l ⌝ }
+    requires { ⌜ inBurst l ≡ true ⌝ }
+    requires { ⌜ l .at + (to - from) ≤ length (partMs mode l) ⌝ }
+    requires { ⌜ from < to ⌝ }
+    requires { ⌜ to ≤ length (now sent) ⌝ }
+    ensures { λ r. ⌜ now (sent .exit) ≡ sets (now (sent .entry)) from (tabulate (partLevel mode l) (to - from) 0) ⌝ }
+{
+    if l.part == 1 {
+        fill(sent, from, to, MARK);
+        return;
+    }
+    put_code(mode, l.code, l.at as usize, sent, from, to);
+}
+
+// The elements of a code's lowest digits, the lowest first, each of so many ms.
+fn put_elements(code: u8, count: usize, ms: usize, sent: &mut [u8], from: usize)
+    requires { ⌜ from + length (held ms (digits count code)) ≤ length (now sent) ⌝ }
+    ensures { λ r. ⌜ now (sent .exit) ≡ sets (now (sent .entry)) from (held ms (digits count code)) ⌝ }
+{
+    let mut rest = code as u16;
+    let mut left = count;
+    let mut i = from;
+    while 0 < left {
+        fill_ms(sent, i, ms, signal::frame_level(rest, 0));
+        rest = rest / 2;
+        left -= 1;
+        i += ms;
+    }
+}
+
+// A Baudot code: start, five elements, stop.
+fn put_baudot(element: usize, code: u8, sent: &mut [u8], from: usize)
+    requires { ⌜ from + length (baudotSignal element code) ≤ length (now sent) ⌝ }
+    ensures { λ r. ⌜ now (sent .exit) ≡ sets (now (sent .entry)) from (baudotSignal element code) ⌝ }
+{
+    fill_ms(sent, from, element, SPACE);
+    put_elements(code, 5, element, sent, from + element);
+    fill_ms(sent, from + 6 * element, 3 * element / 2, MARK);
+}
+
+// A DTMF code, key by key.
+fn put_dtmf(code: u8, sent: &mut [u8], from: usize)
+    requires { ⌜ from + length (signal mode.Dtmf code) ≤ length (now sent) ⌝ }
+    ensures { λ r. ⌜ now (sent .exit) ≡ sets (now (sent .entry)) from (signal mode.Dtmf code) ⌝ }
+{
+    let end = from + signal::duration(Mode::Dtmf, LineCode(code)) as usize;
+    let mut i = from;
+    let mut k: u8 = 0;
+    while i < end {
+        fill_ms(sent, i, 70, alphabet::dtmf::key(LineCode(code), k));
+        fill_ms(sent, i + 70, 50, 0);
+        i += 120;
+        k += 1;
+    }
+}
+
+// An EDT code: start, seven elements, parity, two stops. The first element has 10 ms, each other 9.
+fn put_edt(code: u8, sent: &mut [u8], from: usize)
+    requires { ⌜ code < codes (alphabetOf mode.Edt) ⌝ }
+    requires { ⌜ from + length (signal mode.Edt code) ≤ length (now sent) ⌝ }
+    ensures { λ r. ⌜ now (sent .exit) ≡ sets (now (sent .entry)) from (signal mode.Edt code) ⌝ }
+{
+    fill_ms(sent, from, 10, SPACE);
+    put_elements(code, 7, 9, sent, from + 10);
+    fill_ms(
+        sent,
+        from + 73,
+        9,
+        signal::frame_level(signal::parity(code) as u16, 0),
+    );
+    fill_ms(sent, from + 82, 18, MARK);
+}
+
+// All ms of a code, written from a place on.
+pub fn put_whole(mode: Mode, code: u8, sent: &mut [u8], from: usize)
+    requires { ⌜ code < codes (alphabetOf mode) ⌝ }
+    requires { ⌜ from + length (signal mode code) ≤ length (now sent) ⌝ }
+    ensures { λ r. ⌜ now (sent .exit) ≡ sets (now (sent .entry)) from (signal mode code) ⌝ }
+{
+    match mode {
+        Mode::Baudot45 => put_baudot(Mode::BAUDOT_45_ELEMENT as usize, code, sent, from),
+        Mode::Baudot50 => put_baudot(Mode::BAUDOT_50_ELEMENT as usize, code, sent, from),
+        Mode::Dtmf => put_dtmf(code, sent, from),
+        Mode::Edt => put_edt(code, sent, from),
+    }
+}

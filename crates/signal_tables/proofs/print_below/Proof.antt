@@ -1,0 +1,34 @@
+-- `print_below` is safe and ends.
+use Prim.Native.Nat.{_-_, _≤_}
+use borrow.Author.Needs.{needs}
+use Rattle.signal_tables.proofs.print_below.Statement.{statement}
+use Rattle.signal_tables.proofs.print_below.Tie as tie
+
+abbrev Inv-loop : tie.InvT-loop
+Inv-loop mode n k₀ k = k ≤ n
+
+abbrev μ-loop : tie.MeasureT-loop
+μ-loop mode n k₀ k = n - k
+
+loop-holds : tie.Need-loop-holds Inv-loop μ-loop
+loop-holds c = search needs
+
+print-row-requires : tie.Need-print-row-requires Inv-loop μ-loop
+print-row-requires c κs = search needs
+
+add-k : tie.Need-add-k Inv-loop μ-loop
+add-k c = search needs
+
+loop-less : tie.Need-loop-less Inv-loop μ-loop
+loop-less c = search needs
+
+loop-again : tie.Need-loop-again Inv-loop μ-loop
+loop-again c = search needs
+
+returns : tie.Need-returns Inv-loop μ-loop
+returns c = search needs
+
+pub print-below-spec : {M : Type 1} → statement M
+print-below-spec =
+    tie.close
+    (tie.spec Inv-loop μ-loop loop-holds print-row-requires add-k loop-less loop-again returns)

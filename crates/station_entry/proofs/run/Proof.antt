@@ -1,0 +1,131 @@
+-- `run` meets its contract: one law for each answer.
+use mathlib.Core.Path.{_≡_, _∙_, sym, ap}
+use mathlib.Core.Bool.{true}
+use Prim.Native.Nat.{ℕ}
+use native.Mathlib.Omega.{arith}
+use lib.ListN.{length}
+use borrow.Author.Tests.{le-leb, lt-leb, not-true, not-false}
+use Rattle.lists.specs.Lists.{allAtMost}
+use Rattle.half_duplex.specs.Core.{modeIn}
+use Rattle.station.specs.Station.{station}
+use Rattle.station.specs.Range.{inRange}
+use Rattle.station.specs.Entries.{highestLevel}
+use Rattle.station.proofs.Answers.{run-1, run-5, run-6, run-7, run-8, run-0}
+use Rattle.station_entry.proofs.Answers.{refused, accepted}
+use borrow.Author.Needs.{needs}
+use Rattle.station_entry.proofs.run.Statement.{statement}
+use Rattle.station_entry.proofs.run.Tie as tie
+use Rattle.alphabet.proofs.Mode.of.Reads as of-reads
+use Rattle.lists.proofs.checks.largest.Reads as largest-reads
+use Rattle.station_entry.proofs.highest_level.Reads as highest-level-reads
+use Rattle.station_entry.proofs.refused.Reads as refused-reads
+use Rattle.station_entry.proofs.in_range.Reads as in-range-reads
+use Rattle.station_runs.proofs.run_all.Reads as run-all-reads
+
+-- question 1 is answered
+in-range : (c : tie.Else1) → inRange (station (c .before .before .before .before .before .before .args .c) (c .before .before .before .before .before .before .args .chars .now)) ≡ true
+in-range c = let r = c .before .in-range in sym (r .ensures) ∙ not-false (r .result) (c .if1 .left)
+
+-- the highest level of the mode, and question 6
+highest : (c : tie.After-highest-level) → c .highest-level .result ≡ highestLevel (modeIn (c .before .before .before .before .before .before .before .before .before .before .args .c))
+highest c = c .highest-level .ensures ∙ ap highestLevel (c .before .of .ensures)
+
+levels : (c : tie.Else3) → allAtMost (highestLevel (modeIn (c .before .before .before .before .before .before .before .before .before .before .before .args .c))) (c .before .before .before .before .before .before .before .before .before .before .before .args .heard .now) ≡ true
+levels c =
+    let h = c .before in
+    ap (λ (n : ℕ). allAtMost n (c .before .before .before .before .before .before .before .before .before .before .before .args .heard .now)) (sym (highest h)) ∙ sym (c .before .before .before .largest .ensures (h .highest-level .result)) ∙ le-leb _ _ (c .if3 .left)
+
+in-range-requires : tie.Need-in-range-requires
+in-range-requires c κs = search needs
+
+refused-requires : tie.Need-refused-requires
+refused-requires c κs = search needs
+
+returns : tie.Need-returns
+returns c =
+    let r = c .before .before .in-range in
+    refused _ _ _ _ 1 (λ z. omega arith) (run-1 _ _ _ _ (sym (r .ensures) ∙ not-true (r .result) (c .before .if1 .taken))) _ (c .refused .ensures)
+
+refused-requires-2 : tie.Need-refused-requires-2
+refused-requires-2 c κs = search needs
+
+returns-2 : tie.Need-returns-2
+returns-2 c = refused _ _ _ _ 5 (λ z. omega arith) (run-5 _ _ _ _ (in-range (c .before .before)) (c .before .if2 .taken)) _ (c .refused2 .ensures)
+
+largest-requires : tie.Need-largest-requires
+largest-requires c κs = search needs
+
+of-requires : tie.Need-of-requires
+of-requires c κs = search needs
+
+highest-level-requires : tie.Need-highest-level-requires
+highest-level-requires c κs = search needs
+
+refused-requires-3 : tie.Need-refused-requires-3
+refused-requires-3 c κs = search needs
+
+returns-3 : tie.Need-returns-3
+returns-3 c =
+    let h = c .before .before in
+    let l = ap (λ (n : ℕ). allAtMost n (c .before .before .before .before .before .before .before .before .before .before .before .before .args .heard .now)) (sym (highest h)) ∙ sym (c .before .before .before .before .largest .ensures (h .highest-level .result)) ∙ lt-leb _ _ (c .before .if3 .taken) in
+    refused _ _ _ _ 6 (λ z. omega arith) (run-6 _ _ _ _ (in-range (c .before .before .before .before .before .before)) (c .before .before .before .before .before .if2 .left) l) _ (c .refused3 .ensures)
+
+refused-requires-4 : tie.Need-refused-requires-4
+refused-requires-4 c κs = search needs
+
+returns-4 : tie.Need-returns-4
+returns-4 c =
+    refused _ _ _ _ 7 (λ z. omega arith) (run-7 _ _ _ _ (in-range (c .before .before .before .before .before .before .before)) (c .before .before .before .before .before .before .if2 .left) (levels (c .before .before)) (c .before .if4 .taken)) _ (c .refused4 .ensures)
+
+refused-requires-5 : tie.Need-refused-requires-5
+refused-requires-5 c κs = search needs
+
+returns-5 : tie.Need-returns-5
+returns-5 c =
+    refused _ _ _ _ 8 (λ z. omega arith) (run-8 _ _ _ _ (in-range (c .before .before .before .before .before .before .before .before)) (c .before .before .before .before .before .before .before .if2 .left) (levels (c .before .before .before)) (c .before .before .if4 .left) (c .before .if5 .taken)) _
+    (c .refused5 .ensures)
+
+run-all-requires : tie.Need-run-all-requires
+run-all-requires c κs =
+    let s = c .before .before .before .before .before .before .before .before .before .before .before .before .before .before .before .before in
+    let t = c .before .before .before .before .before .before .before .before .largest in
+    let h = highest (c .before .before .before .before .before .before) in
+    let b = c .before .before .before .before .before .if3 .left in
+    let f : length (s .args .chars .now) ≡ 256 = search needs in
+    (in-range (c .before .before .before .before .before .before .before .before .before .before), (f, (sym (t .ensures (t .result)) ∙ le-leb (t .result) (t .result) (omega arith), (omega arith, (c .before .before .before .before .if4 .left, c .before .before .before .if5 .left)))))
+
+same-length : tie.Need-same-length
+same-length c = search needs
+
+same-length-2 : tie.Need-same-length-2
+same-length-2 c = search needs
+
+returns-6 : tie.Need-returns-6
+returns-6 c =
+    let s = c .before .before .before .before .before .before .before .before .before .before .if4 .left in
+    let w = c .before .before .before .before .before .before .before .before .before .if5 .left in
+    let x = c .before .before .before .before .before .run-all .ensures in
+    accepted _ _ _ _ (run-0 _ _ _ _ (in-range (c .before .before .before .before .before .before .before .before .before .before .before .before .before .before .before .before)) (c .before .before .before .before .before .before .before .before .before .before .before .before .before .before .before .if2 .left) (levels (c .before .before .before .before .before .before .before .before .before .before .before)) s w) s w _ (λ j. station (x .0 j) (x .1 .1 .0 j)) _ (x .1 .0) _ (x .1 .1 .1 .0) _ (x .1 .1 .1 .1)
+
+pub run-spec : {M : Type 1} → statement M
+run-spec =
+    tie.close
+    (tie.spec
+    in-range-requires
+    refused-requires
+    returns
+    refused-requires-2
+    returns-2
+    largest-requires
+    of-requires
+    highest-level-requires
+    refused-requires-3
+    returns-3
+    refused-requires-4
+    returns-4
+    refused-requires-5
+    returns-5
+    run-all-requires
+    same-length
+    same-length-2
+    returns-6)

@@ -1,0 +1,144 @@
+-- `listen` meets its contract.
+use mathlib.Core.Path.{_≡_, _∙_, sym, ap}
+use mathlib.Core.Bool.{true, _&&_}
+use mathlib.Core.List.{List}
+use Prim.Native.Nat.{ℕ, _-_}
+use native.Mathlib.Omega.{arith}
+use lib.Dec.{eqb}
+use lib.ListN.{length}
+use lib.Seq.{sets}
+use Rattle.lists.specs.Lists.{allAtMost}
+use Rattle.lists.proofs.Lists.{and-left, and-right, at-most-drop}
+use Rattle.half_duplex.specs.Core.{modeIn}
+use Rattle.half_duplex_runs.specs.Cores.{silenceFor, atRest}
+use Rattle.station_runs.specs.Stretches.{between}
+use Rattle.half_duplex_runs.proofs.Laws.{over-quiet}
+use Rattle.station_runs.proofs.Resting.{rests}
+use Rattle.station_runs.proofs.Joining.{between-length, listen-stretch}
+use Rattle.station_runs.proofs.Laws.{at-most-take}
+use borrow.Author.Needs.{needs}
+use borrow.Author.Tests.{eqb-true}
+use Rattle.station_runs.proofs.stretches.listen.Statement.{statement}
+use Rattle.station_runs.proofs.stretches.listen.Tie as tie
+
+-- none of the ms up to a place is above the bound
+levels : (c : tie.Start) (to : ℕ) → allAtMost (c .args .bound) (between (c .args .i) to (c .args .heard .now)) ≡ true
+levels c to = at-most-take (c .args .bound) (to - c .args .i) _ (at-most-drop (c .args .bound) _ (c .args .i) (c .pre .1 .1 .1 .1 .0))
+
+free-end-requires : tie.Need-free-end-requires
+free-end-requires c κs = search needs
+
+fill-requires : tie.Need-fill-requires
+fill-requires c κs = search needs
+
+rests-requires : tie.Need-rests-requires
+rests-requires c κs = search needs
+
+sub-silence-for : tie.Need-sub-silence-for
+sub-silence-for c = search needs
+
+silence-for-requires : tie.Need-silence-for-requires
+silence-for-requires c κs = c .before .before .before .before .before .before .before .before .before .before .before .pre .0 .silence-in
+
+listened-requires : tie.Need-listened-requires
+listened-requires c κs = search needs
+
+same-length : tie.Need-same-length
+same-length c = search needs
+
+returns : tie.Need-returns
+returns c =
+    let s = c .before .before .before .before .before .before .before .before .before .before .before .before .before in
+    let p = s .pre .1 in
+    let f = c .before .before .before .before .before .before .before .before .before .free-end .ensures in
+    let to = c .before .before .before .before .before .before .before .before .before .free-end .result in
+    let xs = between (s .args .i) to (s .args .heard .now) in
+    let r = s .args .c .reader in
+    let still = atRest r in
+    let none = eqb (s .args .bound) 0 in
+    let e : (still && none) ≡ true = sym (c .before .before .before .rests .ensures) ∙ c .before .before .if1 .taken in
+    let quiet = sym (ap (λ (m : ℕ). allAtMost m xs) (eqb-true (s .args .bound) 0 (and-right still none e))) ∙ levels s to in
+    let l = between-length (s .args .heard .now) (s .args .i) to (f .high) in
+    let q = rests (modeIn (s .args .c)) r xs (and-left still none e) quiet in
+    let z = over-quiet (s .args .c .silence) xs (s .pre .0 .silence-in) quiet in
+    let n = ap length (q .none) in
+    λ (chars : List ℕ). listen-stretch _ _ chars _ _ _ _ _ (f .low) (f .high) _ (s .pre .0 .silence-in) (p .0) (p .1 .1 .0) (f .free)
+    _ (c .before .silence-for .ensures ∙ sym (ap (silenceFor (s .args .c .silence)) l) ∙ z) _ (q .after) (c .listened .ensures) _ (c .before .before .before .before .before .before .before .fill .ensures) _ (omega arith) _ (sym (ap (sets (s .args .words .now) (s .args .n)) (q .none)))
+
+of-requires : tie.Need-of-requires
+of-requires c κs = search needs
+
+sub-hear-all : tie.Need-sub-hear-all
+sub-hear-all c = search needs
+
+part-hear-all-start : tie.Need-part-hear-all-start
+part-hear-all-start c = search needs
+
+part-hear-all-end : tie.Need-part-hear-all-end
+part-hear-all-end c = search needs
+
+hear-all-requires : tie.Need-hear-all-requires
+hear-all-requires c κs =
+    let s = c .before .before .before .before .before .before .before .before .before .before .before .before .before .before in
+    let p = s .pre .1 .1 .1 .1 in
+    let to = c .before .before .before .before .before .before .before .before .before .before .free-end .result in
+    let f = c .before .before .before .before .before .before .before .before .before .before .free-end .ensures in
+    let l = between-length (s .args .heard .now) (s .args .i) to (f .high) in
+    let r = p .1 .1 .1 .1 in
+    (rw (c .before .before .of .ensures) (s .pre .0 .reader-in), (levels s to, (p .1 .0, omega arith)))
+
+sub-silence-over : tie.Need-sub-silence-over
+sub-silence-over c = search needs
+
+part-silence-over-start : tie.Need-part-silence-over-start
+part-silence-over-start c = search needs
+
+part-silence-over-end : tie.Need-part-silence-over-end
+part-silence-over-end c = search needs
+
+silence-over-requires : tie.Need-silence-over-requires
+silence-over-requires c κs = let s = c .before .before .before .before .before .before .before .before .before .before .before .before .before .before .before .before .before .before in (s .pre .0 .silence-in, levels s (c .before .before .before .before .before .before .before .before .before .before .before .before .before .before .free-end .result))
+
+listened-requires-2 : tie.Need-listened-requires-2
+listened-requires-2 c κs = search needs
+
+same-length-2 : tie.Need-same-length-2
+same-length-2 c = c .before .before .before .before .before .before .before .before .before .before .before .before .before .before .before .fill .kept .0
+
+same-length-3 : tie.Need-same-length-3
+same-length-3 c = search needs
+
+returns-2 : tie.Need-returns-2
+returns-2 c =
+    let s = c .before .before .before .before .before .before .before .before .before .before .before .before .before .before .before .before .before .before .before .before .before in
+    let f = c .before .before .before .before .before .before .before .before .before .before .before .before .before .before .before .before .before .free-end .ensures in
+    let o = c .before .before .before .before .before .before .before .before .before .of .ensures in
+    let h = c .before .before .before .before .before .before .hear-all .ensures in
+    let p = s .pre .1 in
+    λ (chars : List ℕ). listen-stretch _ _ chars _ _ _ _ _ (f .low) (f .high) _ (s .pre .0 .silence-in) (p .0) (p .1 .1 .0) (f .free) _ (c .before .before .silence-over .ensures) _ (rw o at (h .0)) (c .listened2 .ensures) _ (c .before .before .before .before .before .before .before .before .before .before .before .before .before .before .before .fill .ensures) _ (rw o at (h .1 .0)) _ (rw o at (h .1 .1))
+
+pub listen-spec : {M : Type 1} → statement M
+listen-spec =
+    tie.close
+    (tie.spec
+    free-end-requires
+    fill-requires
+    rests-requires
+    sub-silence-for
+    silence-for-requires
+    listened-requires
+    same-length
+    returns
+    of-requires
+    sub-hear-all
+    part-hear-all-start
+    part-hear-all-end
+    hear-all-requires
+    sub-silence-over
+    part-silence-over-start
+    part-silence-over-end
+    silence-over-requires
+    listened-requires-2
+    same-length-2
+    same-length-3
+    returns-2)

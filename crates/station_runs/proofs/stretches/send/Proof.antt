@@ -1,0 +1,79 @@
+-- `send` meets its contract.
+use mathlib.Core.Path.{_∙_, ap}
+use mathlib.Core.List.{List}
+use Prim.Native.Nat.{ℕ, _-_, _<_}
+use native.Mathlib.Omega.{arith}
+use lib.ListN.{length}
+use lib.Seq.{sets}
+use Rattle.lists.specs.Tables.{tabulate}
+use Rattle.alphabet.specs.declared.Mode.{Mode}
+use Rattle.half_duplex.specs.Line.{partMs}
+use Rattle.half_duplex.specs.Core.{modeIn}
+use Rattle.signal_runs.specs.Levels.{partLevel}
+use Rattle.signal_runs.proofs.Parts.{part-most}
+use Rattle.station_runs.proofs.Laws.{left-burst, left-over, gone-over}
+use Rattle.station_runs.proofs.Joining.{send-stretch}
+use borrow.Author.Needs.{needs}
+use Rattle.station_runs.proofs.stretches.send.Statement.{statement}
+use Rattle.station_runs.proofs.stretches.send.Tie as tie
+
+up-to-requires : tie.Need-up-to-requires
+up-to-requires c κs = let h = c .before .before .before .pre .1 .1 .1 .1 .0 in omega arith
+
+further : (c : tie.After-up-to) → c .before .before .before .before .args .i < c .up-to .result
+further c = let p = c .before .before .before .before .pre .1 .1 in c .up-to .ensures .on (p .0) (p .1 .1 .0)
+
+put-requires : tie.Need-put-requires
+put-requires c κs =
+    let s = c .before .before .before .before .before in
+    let l = s .args .c .line in
+    let p = s .pre .1 .1 in
+    let low = p .0 in
+    let sum = p .1 .0 in
+    let q = p .1 .1 .1 in
+    let m = ap (λ (d : Mode). length (partMs d l)) (s .pre .1 .0) in
+    let e = c .before .up-to .ensures in
+    let on = further (c .before) in
+    (rw (s .pre .1 .0) (s .pre .0 .line-in), (left-burst (modeIn (s .args .c)) l (omega arith), (omega arith, (omega arith, omega arith))))
+
+sub-gone : tie.Need-sub-gone
+sub-gone c = search needs
+
+sent-for-requires : tie.Need-sent-for-requires
+sent-for-requires c κs =
+    let s = c .before .before .before .before .before .before .before .before in
+    let l = s .args .c .line in
+    let p = s .pre .1 .1 in
+    let low = p .0 in
+    let sum = p .1 .0 in
+    let e = c .before .before .before .before .up-to .ensures in
+    let on = further (c .before .before .before .before) in
+    let k = part-most (modeIn (s .args .c)) l (s .pre .0 .line-in) in
+    (omega arith, (gone-over (modeIn (s .args .c)) l (omega arith) _ _ sum (omega arith), (s .pre .0 .silence-in, omega arith)))
+
+same-length : tie.Need-same-length
+same-length c = search needs
+
+returns : tie.Need-returns
+returns c =
+    let s = c .before .before .before .before .before .before .before .before .before in
+    let l = s .args .c .line in
+    let p = s .pre .1 .1 in
+    let low = p .0 in
+    let sum = p .1 .0 in
+    let e = c .before .before .before .before .before .up-to .ensures in
+    let on = further (c .before .before .before .before .before) in
+    let n = c .before .before .before .before .before .up-to .result - s .args .i in
+    let w = c .before .before .before .put .ensures ∙ ap (λ (d : Mode). sets (s .args .sent .now) (s .args .i) (tabulate (partLevel d l) n 0)) (s .pre .1 .0) in
+    λ (chars words : List ℕ). send-stretch _ _ chars _ words _ _ _ on (e .high) _ (s .pre .0 .silence-in) (left-burst (modeIn (s .args .c)) l (omega arith)) (left-over (modeIn (s .args .c)) l (omega arith)) (omega arith) (c .sent-for .ensures) _ w
+
+pub send-spec : {M : Type 1} → statement M
+send-spec =
+    tie.close
+    (tie.spec
+    up-to-requires
+    put-requires
+    sub-gone
+    sent-for-requires
+    same-length
+    returns)
