@@ -23,7 +23,8 @@ use Rattle.alphabet.specs.TableB2.{b2}
 use Rattle.alphabet.specs.Baudot.{printedAt, readBaudot, sendBaudot}
 use Rattle.alphabet.specs.Dtmf.{withMark, codeFrom, marksThenDigit, among, notStruck, remaining, names, firstSign, named, readIn, readDtmf, sendIn, hasRow, sendFrom, sendDtmf}
 use Rattle.alphabet.specs.Normal.{sends, reads}
-use Rattle.alphabet.specs.Packing.{codes, base, alphabetAt}
+use Rattle.alphabet.specs.Modes.{codes}
+use Rattle.alphabet.specs.code.Packing.{base, alphabetAt}
 use Rattle.alphabet.proofs.Same.{sameSends, same-sends, isCharacter, is-character}
 
 -- the shifts of an alphabet's codes are at least this

@@ -7,4 +7,4 @@ pub mod Modes
 pub mod Baudot
 pub mod Dtmf
 pub mod Normal
-pub mod Packing
+pub mod code

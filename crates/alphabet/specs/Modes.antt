@@ -37,3 +37,23 @@ alphabetOf Baudot45 = baudot
 alphabetOf Baudot50 = baudot
 alphabetOf Dtmf = dtmf
 alphabetOf Edt = edt
+
+-- An alphabet's codes are below this: five bits; 16 times the prefix plus the digit's key; seven bits.
+abbrev pub codes : Alphabet → ℕ
+codes baudot = 32
+codes dtmf = 256
+codes edt = 128
+
+-- The digits of a frame are below this; DTMF has no frames.
+abbrev pub frameCodes : Mode → ℕ
+frameCodes Baudot45 = 32
+frameCodes Baudot50 = 32
+frameCodes Dtmf = 1
+frameCodes Edt = 128
+
+-- "Line signal": a heard or sent ms is 0 quiet, 1 mark, 2 space; in DTMF 0 quiet or a key, 1 to 16.
+abbrev pub highestLevel : Mode → ℕ
+highestLevel Baudot45 = 2
+highestLevel Baudot50 = 2
+highestLevel Dtmf = 16
+highestLevel Edt = 2

@@ -4,7 +4,7 @@ ghost use mathlib.Core.Path.{_≡_};
 ghost use Prim.Native.Nat.{_≤_, _<_};
 ghost use lib.ListN.{getD};
 ghost use Rattle.alphabet.specs.Dtmf.{withMark, dtmfCode, keysOf};
-ghost use Rattle.alphabet.specs.Packing.{keyAt};
+ghost use Rattle.alphabet.specs.code.Packing.{keyAt};
 
 // The keys of a prefix, four to each: its marks, then 255 where the digit stands.
 const KEYS: [u8; 64] = [

@@ -1,16 +1,19 @@
 // T.50 characters, line codes and modes: what a character sends, what a code reads as.
 ghost use mathlib.Core.Path.{_≡_};
 ghost use Prim.Native.Nat.{_≤_, _<_};
-ghost use Rattle.alphabet.specs.Modes.{modeNumber, modeOf, elementOf, preambleOf, alphabetOf};
+ghost use Rattle.alphabet.specs.Modes.{modeNumber, modeOf, elementOf, preambleOf, alphabetOf, codes, frameCodes, highestLevel};
+ghost use Rattle.alphabet.specs.code.Numbers.{longest, lastSample};
 
 pub mod dtmf;
 pub mod table;
 
 // A T.50 character, 00 to 7F.
+#[repr(C)]
 pub struct Char(pub u8);
 
 // A line code: a five-bit Baudot code; a DTMF code, 16 times the prefix plus the digit's key; the seven bits of an EDT
 // code.
+#[repr(C)]
 pub struct LineCode(pub u8);
 
 pub enum Alphabet {
@@ -39,14 +42,56 @@ pub enum Reads {
     NoRow,
 }
 
+// A mode's numbers: the constants, and the methods that tell the modes apart. Times are in ms.
 impl Mode {
     pub const BAUDOT_45_ELEMENT: u16 = 22;
 
     pub const BAUDOT_50_ELEMENT: u16 = 20;
 
+    // A Baudot code has a start of one element, five elements, and a stop of one and a half.
+    pub const BAUDOT_45_CODE: u16 = 15 * Self::BAUDOT_45_ELEMENT / 2;
+
+    pub const BAUDOT_50_CODE: u16 = 15 * Self::BAUDOT_50_ELEMENT / 2;
+
+    // It is sampled in the middle of each element; the stop's sample is the last.
+    pub const BAUDOT_45_LAST: u16 = 13 * Self::BAUDOT_45_ELEMENT / 2;
+
+    pub const BAUDOT_50_LAST: u16 = 13 * Self::BAUDOT_50_ELEMENT / 2;
+
     pub const BAUDOT_PREAMBLE: u16 = 150;
 
+    // Five bits.
+    pub const BAUDOT_CODES: u16 = 32;
+
+    // A DTMF key, and the quiet after it.
+    pub const KEY_ON: u16 = 70;
+
+    pub const KEY_OFF: u16 = 50;
+
+    pub const KEY: u16 = Self::KEY_ON + Self::KEY_OFF;
+
+    // A DTMF code has at most three marks and a digit.
+    pub const DTMF_CODE: u16 = 4 * Self::KEY;
+
+    // 16 times the prefix plus the digit's key.
+    pub const DTMF_CODES: u16 = 256;
+
+    pub const LAST_KEY: u8 = 16;
+
+    // An EDT code has eleven elements, which are no whole ms.
+    pub const EDT_CODE: u16 = 100;
+
+    pub const EDT_ELEMENTS: u16 = 11;
+
+    pub const EDT_LAST: u16 = (21 * Self::EDT_CODE / 2) / Self::EDT_ELEMENTS;
+
     pub const EDT_PREAMBLE: u16 = 300;
+
+    // Seven bits.
+    pub const EDT_CODES: u16 = 128;
+
+    // The levels of Baudot and EDT: 0 quiet, 1 mark, 2 space.
+    pub const SPACE: u8 = 2;
 
     // The mode of a number; mode 1 for a number that is no mode's.
     pub fn of(number: u8) -> Mode
@@ -103,6 +148,66 @@ impl Mode {
             Mode::Baudot50 => Alphabet::Baudot,
             Mode::Dtmf => Alphabet::Dtmf,
             Mode::Edt => Alphabet::Edt,
+        }
+    }
+
+    // A mode's codes are below this.
+    pub fn codes(self) -> u16
+        ensures { λ r. ⌜ r ≡ codes (alphabetOf self) ⌝ }
+    {
+        match self {
+            Mode::Baudot45 => Self::BAUDOT_CODES,
+            Mode::Baudot50 => Self::BAUDOT_CODES,
+            Mode::Dtmf => Self::DTMF_CODES,
+            Mode::Edt => Self::EDT_CODES,
+        }
+    }
+
+    // The digits of a frame are below this; DTMF has no frames.
+    pub fn frame_codes(self) -> u16
+        ensures { λ r. ⌜ r ≡ frameCodes self ⌝ }
+    {
+        match self {
+            Mode::Baudot45 => Self::BAUDOT_CODES,
+            Mode::Baudot50 => Self::BAUDOT_CODES,
+            Mode::Dtmf => 1,
+            Mode::Edt => Self::EDT_CODES,
+        }
+    }
+
+    // The ms of its longest code.
+    pub fn longest(self) -> u16
+        ensures { λ r. ⌜ r ≡ longest self ⌝ }
+    {
+        match self {
+            Mode::Baudot45 => Self::BAUDOT_45_CODE,
+            Mode::Baudot50 => Self::BAUDOT_50_CODE,
+            Mode::Dtmf => Self::DTMF_CODE,
+            Mode::Edt => Self::EDT_CODE,
+        }
+    }
+
+    // The ms of a frame's last sample; 0 in DTMF, which has no frames.
+    pub fn last_sample(self) -> u16
+        ensures { λ r. ⌜ r ≡ lastSample self ⌝ }
+    {
+        match self {
+            Mode::Baudot45 => Self::BAUDOT_45_LAST,
+            Mode::Baudot50 => Self::BAUDOT_50_LAST,
+            Mode::Dtmf => 0,
+            Mode::Edt => Self::EDT_LAST,
+        }
+    }
+
+    // The highest level that is heard or sent.
+    pub fn highest_level(self) -> u8
+        ensures { λ r. ⌜ r ≡ highestLevel self ⌝ }
+    {
+        match self {
+            Mode::Baudot45 => Self::SPACE,
+            Mode::Baudot50 => Self::SPACE,
+            Mode::Dtmf => Self::LAST_KEY,
+            Mode::Edt => Self::SPACE,
         }
     }
 }

@@ -11,7 +11,7 @@ ghost use Rattle.alphabet.specs.declared.Reads.the-variants.{Character};
 ghost use Rattle.alphabet.specs.Baudot.{readBaudot};
 ghost use Rattle.alphabet.specs.Dtmf.{readDtmf};
 ghost use Rattle.alphabet.specs.Normal.{sends, reads, readBack};
-ghost use Rattle.alphabet.specs.Packing.{base, sendTable, readTable, shiftOf, dtmfAt};
+ghost use Rattle.alphabet.specs.code.Packing.{base, sendTable, readTable, shiftOf, dtmfAt};
 
 // The 384 entries: 128 for each alphabet. 0 for a character that sends nothing, else 256 times its shift plus its code.
 const SEND: [u16; 384] = [

@@ -17,7 +17,7 @@ use Rattle.baudot.specs.declared.reading.Taken.{Taken}
 use Rattle.baudot.specs.declared.sending.Placed.{Placed}
 use Rattle.baudot.specs.declared.sending.Opening.{Opening}
 use Rattle.baudot.specs.Sending.{sender, inRange, codesOf, senderAfter}
-use Rattle.baudot.specs.Opening.{openingCodes, Opened}
+use Rattle.baudot.specs.code.Opening.{openingCodes, Opened}
 use Rattle.baudot.specs.Reading.{textOf, shiftAfter, allCodes}
 use Rattle.baudot.specs.Entries.{sent, sendAnswer, sentOf, codesAfter, read, readAnswer, readOf, textAfter}
 

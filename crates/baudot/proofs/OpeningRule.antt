@@ -19,7 +19,7 @@ use Rattle.baudot.specs.declared.Sender.{Sender}
 use Rattle.baudot.specs.declared.sending.Opening.{Opening}
 use Rattle.baudot.specs.declared.sending.Placed.{Placed}
 use Rattle.baudot.specs.Sending.{sender, wanted, shifted, shiftCodes, opened, counted, codesFor, senderFor, codesOf, senderAfter, Running}
-use Rattle.baudot.specs.Opening.{Silent, openingCodes, Opened}
+use Rattle.baudot.specs.code.Opening.{Silent, openingCodes, Opened}
 use Rattle.baudot.proofs.SendingRule.{NoneAhead, Ahead, ahead, own-range, codes-twice}
 use Rattle.baudot.proofs.Left.{codes-left, sender-left, codes-end, sender-end}
 

@@ -10,7 +10,7 @@ ghost use lib.ListN.{length};
 ghost use lib.Seq.{sets};
 ghost use Rattle.alphabet.specs.Baudot.{readBaudot};
 ghost use Rattle.alphabet.specs.Normal.{charsOf};
-ghost use Rattle.alphabet.specs.Packing.{readTable};
+ghost use Rattle.alphabet.specs.code.Packing.{readTable};
 ghost use Rattle.baudot.specs.Reading.{shiftBy, textOf, shiftAfter, allCodes};
 ghost use Rattle.baudot.specs.Counting.{shiftOne, shiftsIn, blockEnd};
 ghost use Rattle.baudot.specs.Entries.{read, readOf, textAfter};

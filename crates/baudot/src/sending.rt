@@ -13,9 +13,9 @@ ghost use lib.ListN.{length, drop};
 ghost use lib.Seq.{sets};
 ghost use Rattle.alphabet.specs.declared.Alphabet.the-variants.{Baudot};
 ghost use Rattle.alphabet.specs.Normal.{sends, isCode, allChars};
-ghost use Rattle.alphabet.specs.Packing.{sendTable};
+ghost use Rattle.alphabet.specs.code.Packing.{sendTable};
 ghost use Rattle.baudot.specs.Sending.{sender, shiftCode, shiftCodes, wanted, shifted, codesFor, senderFor, codesOf, senderAfter, Running};
-ghost use Rattle.baudot.specs.Opening.{Opened, openingCodes, Silent};
+ghost use Rattle.baudot.specs.code.Opening.{Opened, openingCodes, Silent};
 ghost use Rattle.baudot.specs.Entries.{sent, sentOf, codesAfter};
 
 // The most characters between two shift codes.

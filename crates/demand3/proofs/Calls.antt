@@ -13,7 +13,7 @@ use Rattle.lists.specs.Lists.{allAtMost}
 use Rattle.lists.specs.Steps.{stateAfter, outputs}
 use Rattle.lists.proofs.Lists.{at-most-head, at-most-tail, at-most-more, at-most-append}
 use Rattle.alphabet.specs.declared.Mode.{Mode}
-use Rattle.alphabet.specs.Modes.{alphabetOf}
+use Rattle.alphabet.specs.Modes.{alphabetOf, highestLevel}
 use Rattle.alphabet.specs.Normal.{allChars}
 use Rattle.reader.specs.declared.Event.{Event}
 use Rattle.reader.specs.declared.Reader.{Reader}
@@ -22,7 +22,7 @@ use Rattle.reader.proofs.WordLists.{words-append}
 use Rattle.queue.specs.Queue.{waiters, room}
 use Rattle.station.specs.declared.Station.{Station}
 use Rattle.station.specs.Station.{alphabetOfStation, queueOf, offeredTo, stationMs, eventOf, stationAfter, eventsBy, sentBy as sentRun, wordsBy as wordsRun}
-use Rattle.station.specs.Entries.{StationAnswered, StationRan, answered, ran, highestLevel, offerAnswer, offerOf, runAnswer, ranOf, sentAfter, wordsAfter}
+use Rattle.station.specs.Entries.{StationAnswered, StationRan, answered, ran, offerAnswer, offerOf, runAnswer, ranOf, sentAfter, wordsAfter}
 use Rattle.station.proofs.Range.{highest-16, runs}
 use Rattle.station.proofs.Lengths.{sent-length}
 use Rattle.station.proofs.Answers.{refused-offer, refused-run}

@@ -12,7 +12,7 @@ use borrow.Author.Tests.{eqb-true, eqb-false, leb-true, le-leb, ltb-true, ltb-fa
 use Rattle.lists.proofs.Lists.{and-left, and-right}
 use Rattle.alphabet.specs.declared.Mode.{Mode}
 use Rattle.alphabet.specs.declared.Mode.the-variants.{Baudot45, Baudot50, Dtmf, Edt}
-use Rattle.alphabet.specs.Modes.{modeNumber, modeOf, alphabetOf}
+use Rattle.alphabet.specs.Modes.{modeNumber, modeOf, alphabetOf, highestLevel}
 use Rattle.alphabet.specs.Normal.{sends, isCode}
 use Rattle.reader.specs.declared.Reader.{Reader}
 use Rattle.reader.specs.Reader.{fresh}
@@ -26,7 +26,7 @@ use Rattle.queue.proofs.Laws.{waiting-offered, waiting-taken}
 use Rattle.station.specs.declared.Station.{Station}
 use Rattle.station.specs.Station.{modeOfStation, alphabetOfStation, queueOf, freshStation, readerOffered, offeredTo, front, charsAfter, stationMs, sentMs, eventOf}
 use Rattle.station.specs.Range.{inRange}
-use Rattle.station.specs.Entries.{answered, isMode, openOf, offerAnswer, highestLevel}
+use Rattle.station.specs.Entries.{answered, isMode, openOf, offerAnswer}
 use Rattle.station.proofs.Range.{core-in, front-waits, fresh-in, fresh-full, ms-in, ms-full, accepted, offered-in, offered-full}
 use Rattle.half_duplex.proofs.Range.{takes-waiting}
 use Rattle.demand3.specs.Model.{Model, Loaded, freshModel, offered, begun, nextCode, load, inBurst, oneGone, closed, isInhibited, silenceAfter, did, msAfter}

@@ -7,11 +7,11 @@ use lib.Dec.{eqb, leb}
 use lib.ListN.{length, take}
 use Rattle.lists.specs.Lists.{allAtMost}
 use Rattle.alphabet.specs.declared.Mode.{Mode}
-use Rattle.alphabet.specs.Modes.{alphabetOf}
+use Rattle.alphabet.specs.Modes.{alphabetOf, highestLevel}
 use Rattle.alphabet.specs.Normal.{allChars}
 use Rattle.queue.specs.Queue.{waiters}
 use Rattle.station.specs.declared.Station.{Station}
-use Rattle.station.specs.Entries.{openOf, offerOf, highestLevel, ranOf, sentAfter, wordsAfter}
+use Rattle.station.specs.Entries.{openOf, offerOf, ranOf, sentAfter, wordsAfter}
 use Rattle.demand3.specs.Model.{Model, Step, Offer, Ms, modelAfter, heardIn}
 
 -- An offer of some bytes. A run on some heard ms, with a sent slice and a word slice. Each is of any length and content.

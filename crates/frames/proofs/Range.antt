@@ -17,10 +17,11 @@ use Rattle.frames.specs.declared.Frame.{Frame}
 use Rattle.frames.specs.declared.Found.{Found}
 use Rattle.frames.specs.declared.Found.the-variants.{Nothing, Fault, Code}
 use Rattle.frames.specs.declared.FrameRead.{FrameRead}
-use Rattle.frames.specs.Packing.{FoundIn}
+use Rattle.frames.specs.code.Bounds.{FoundIn}
 use Rattle.frames.specs.Samples.{Placed, placed, sampleAt, samplesOf, baudotKinds, baudotPlace, baudotSamples, edtKinds, edtPlace, edtSamples}
 use Rattle.frames.specs.Frames.{inFrame, hunting, waiting, gives, goesOn, faulty, parityHeard, withDigit, sampled, frameStep}
-use Rattle.frames.specs.Range.{lastMs, frameCodes, FrameIn, FrameOf}
+use Rattle.alphabet.specs.Modes.{frameCodes}
+use Rattle.frames.specs.Range.{lastMs, FrameIn, FrameOf}
 use Rattle.frames.proofs.Samples.{allKinds, kinds-pass, baudot-on}
 
 pub digits-128 : (mode : Mode) (f : Frame) → FrameOf mode f → f .digits < 128

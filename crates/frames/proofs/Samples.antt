@@ -15,7 +15,7 @@ use Rattle.frames.specs.declared.Sample.the-variants.{None, Start, Digit
 use Rattle.alphabet.specs.declared.Mode.{Mode}
 use Rattle.alphabet.specs.declared.Mode.the-variants.{Baudot45, Baudot50, Dtmf, Edt}
 use Rattle.frames.specs.declared.FrameRead.{FrameRead}
-use Rattle.frames.specs.Packing.{topIn}
+use Rattle.frames.specs.code.Bounds.{topIn}
 use Rattle.frames.specs.Frames.{sampled}
 use Rattle.frames.specs.Samples.{samplesOf, Placed, placed, sampleAt, baudotKinds, baudotPlace, baudotSamples, edtKinds, edtPlace, edtSamples}
 

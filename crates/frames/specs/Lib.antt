@@ -1,4 +1,4 @@
 pub mod Samples
 pub mod Frames
-pub mod Packing
 pub mod Range
+pub mod code

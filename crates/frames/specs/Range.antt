@@ -2,7 +2,7 @@
 use Prim.Native.Nat.{ℕ, _+_, _≤_, _<_}
 use mathlib.Core.List.{List, [], _∷_}
 use Rattle.alphabet.specs.declared.Mode.{Mode}
-use Rattle.alphabet.specs.declared.Mode.the-variants.{Baudot45, Baudot50, Dtmf, Edt}
+use Rattle.alphabet.specs.Modes.{frameCodes}
 use Rattle.frames.specs.declared.Frame.{Frame}
 use Rattle.frames.specs.Samples.{Placed, samplesOf}
 
@@ -11,13 +11,6 @@ unfoldable pub lastMs : List Placed → ℕ
 lastMs [] = 0
 lastMs (s ∷ []) = s .ms
 lastMs (s ∷ (t ∷ ts)) = lastMs (t ∷ ts)
-
--- The digits of a frame are below this; DTMF has no frames.
-abbrev pub frameCodes : Mode → ℕ
-frameCodes Baudot45 = 32
-frameCodes Baudot50 = 32
-frameCodes Dtmf = 1
-frameCodes Edt = 128
 
 -- A place: hunting, waiting, or in a frame up to its last sample, at ms `last`; digits below n.
 pub record FrameIn (last n : ℕ) (f : Frame) : Type 0 where

@@ -8,7 +8,7 @@ ghost use Rattle.frames.specs.Samples.{baudotSamples, edtSamples, sample
 ghost use Rattle.frames.specs.Frames.{gives, goesOn, faulty, sampled, frameStep};
 ghost use Rattle.frames.specs.declared.Found.the-variants as found;
 ghost use Rattle.frames.specs.declared.Sample.the-variants as kind;
-ghost use Rattle.frames.specs.Packing.{InFrame, topIn};
+ghost use Rattle.frames.specs.code.Bounds.{InFrame, topIn};
 
 // What falls on a ms of a frame: no sample, or a sample of a kind. A digit's has the weight of the frame's last digit.
 pub enum Sample {

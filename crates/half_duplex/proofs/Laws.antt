@@ -16,7 +16,7 @@ use Rattle.alphabet.specs.declared.LineCode.{LineCode}
 use Rattle.alphabet.specs.Modes.{preambleOf, alphabetOf}
 use Rattle.alphabet.specs.Normal.{sends}
 use Rattle.signal.specs.Signal.{signal, preamble}
-use Rattle.signal.specs.Packing.{longest}
+use Rattle.alphabet.specs.code.Numbers.{longest}
 use Rattle.signal.proofs.Lengths.{baudot-165, baudot-150, edt-100, dtmf-120, four-keys}
 use Rattle.baudot.specs.declared.Sender.{Sender}
 use Rattle.baudot.specs.Sending.{sender, shiftCode}

@@ -12,9 +12,8 @@ use Rattle.alphabet.specs.declared.Alphabet.the-variants.{Baudot, Dtmf, Edt}
 use Rattle.alphabet.specs.declared.Mode.{Mode}
 use Rattle.alphabet.specs.declared.Sends.{Sends}
 use Rattle.alphabet.specs.declared.Sends.the-variants.{Nothing, Code}
-use Rattle.alphabet.specs.Modes.{alphabetOf}
+use Rattle.alphabet.specs.Modes.{alphabetOf, codes}
 use Rattle.alphabet.specs.Normal.{sends}
-use Rattle.alphabet.specs.Packing.{codes}
 use Rattle.alphabet.proofs.Rule.{leastShift, rule-of}
 use Rattle.baudot.specs.declared.Sender.{Sender}
 use Rattle.baudot.specs.Sending.{sender, differs, wanted, shiftCode, shifted}

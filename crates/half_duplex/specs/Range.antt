@@ -5,9 +5,8 @@ use Rattle.alphabet.specs.declared.Alphabet.{Alphabet}
 use Rattle.alphabet.specs.declared.Mode.{Mode}
 use Rattle.alphabet.specs.declared.Sends.{Sends}
 use Rattle.alphabet.specs.declared.Sends.the-variants.{Nothing, Code}
-use Rattle.alphabet.specs.Modes.{alphabetOf}
+use Rattle.alphabet.specs.Modes.{alphabetOf, codes}
 use Rattle.baudot.specs.declared.Sender.{Sender}
-use Rattle.alphabet.specs.Packing.{codes}
 use Rattle.reader.specs.Range.{ReaderIn}
 use Rattle.half_duplex.specs.declared.Core.{Core}
 use Rattle.half_duplex.specs.declared.OnLine.{OnLine}

@@ -20,7 +20,7 @@ use Rattle.half_duplex.specs.declared.Core.{Core}
 use Rattle.half_duplex.specs.Rules.{mayBegin, isSilent}
 use Rattle.half_duplex.specs.Line.{inBurst}
 use Rattle.half_duplex.specs.Core.{silenceAfter}
-use Rattle.half_duplex_runs.specs.Cores.{silenceFor, silenceNext, silenceOver, deafReader, burstLeft}
+use Rattle.half_duplex_runs.specs.code.Cores.{silenceFor, silenceNext, silenceOver, deafReader, burstLeft}
 
 -- ---- silence
 

@@ -1,1 +1,1 @@
-pub mod Cores
+pub mod code

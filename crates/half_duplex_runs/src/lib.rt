@@ -14,7 +14,7 @@ ghost use lib.Dec.{eqb};
 ghost use Rattle.lists.specs.Lists.{allAtMost};
 ghost use Rattle.half_duplex.specs.Line.{onLine, isOver};
 ghost use Rattle.half_duplex.specs.Core.{modeIn};
-ghost use Rattle.half_duplex_runs.specs.Cores.{silenceFor, silenceOver, atRest, deafReader, loadedCore, sentFor, codedCore, deafFor, listened};
+ghost use Rattle.half_duplex_runs.specs.code.Cores.{silenceFor, silenceOver, atRest, deafReader, loadedCore, sentFor, codedCore, deafFor, listened};
 
 // The silence after n ms without signal.
 pub fn silence_for(silence: u16, n: usize) -> u16

@@ -1,4 +1,4 @@
 pub mod Lists
 pub mod Tables
 pub mod Steps
-pub mod Places
+pub mod code

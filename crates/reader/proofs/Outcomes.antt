@@ -11,7 +11,7 @@ use Rattle.alphabet.specs.declared.LineCode.{LineCode}
 use Rattle.alphabet.specs.declared.Mode.{Mode}
 use Rattle.alphabet.specs.declared.Mode.the-variants.{Baudot45, Baudot50, Dtmf, Edt as edt}
 use Rattle.alphabet.specs.declared.Reads.{Reads}
-use Rattle.alphabet.specs.Modes.{alphabetOf}
+use Rattle.alphabet.specs.Modes.{alphabetOf, frameCodes}
 use Rattle.alphabet.specs.Dtmf.{withMark, dtmfCode}
 use Rattle.alphabet.specs.Normal.{reads}
 use Rattle.frames.specs.declared.Found.{Found}
@@ -19,9 +19,8 @@ use Rattle.frames.specs.declared.Found.the-variants.{Code}
 use Rattle.reader.specs.declared.Event.{Event}
 use Rattle.reader.specs.declared.Event.the-variants.{Fault, Nothing}
 use Rattle.reader.specs.declared.Outcome.{Outcome}
-use Rattle.frames.specs.Packing.{FoundIn}
-use Rattle.reader.specs.Packing.{outcome}
-use Rattle.frames.specs.Range.{frameCodes}
+use Rattle.frames.specs.code.Bounds.{FoundIn}
+use Rattle.reader.specs.code.Outcomes.{outcome}
 use Rattle.reader.specs.Reader.{eventOf, keyEvent, prefixAfter, hearFrame, hearKey, hear}
 use Rattle.reader.specs.declared.Reader.{Reader}
 use Rattle.reader.specs.declared.Reading.{Reading}

@@ -21,7 +21,8 @@ use Rattle.frames.specs.declared.Found.{Found}
 use Rattle.frames.specs.declared.Found.the-variants.{Nothing, Fault, Code}
 use Rattle.frames.specs.Samples.{samplesOf}
 use Rattle.frames.specs.Frames.{frameStep}
-use Rattle.frames.specs.Range.{frameCodes, FrameOf}
+use Rattle.alphabet.specs.Modes.{frameCodes}
+use Rattle.frames.specs.Range.{FrameOf}
 use Rattle.frames.proofs.Range.{frame-45, frame-50, frame-edt}
 use Rattle.keys.specs.Keys.{keyStep}
 use Rattle.keys.proofs.Range.{ready-in, key-step-in}

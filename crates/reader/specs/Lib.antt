@@ -1,4 +1,4 @@
 pub mod Reader
 pub mod Words
-pub mod Packing
 pub mod Range
+pub mod code

@@ -8,12 +8,12 @@ use frames::Frame;
 use keys::Keys;
 ghost use mathlib.Core.Path.{_≡_};
 ghost use Prim.Native.Nat.{_≤_, _<_};
-ghost use Rattle.alphabet.specs.Modes.{alphabetOf};
+ghost use Rattle.alphabet.specs.Modes.{alphabetOf, frameCodes};
 ghost use Rattle.baudot.specs.Reading.{shiftBy};
-ghost use Rattle.frames.specs.Packing.{FoundIn};
-ghost use Rattle.reader.specs.Packing.{outcome};
+ghost use Rattle.frames.specs.code.Bounds.{FoundIn};
+ghost use Rattle.reader.specs.code.Outcomes.{outcome};
 ghost use Rattle.reader.specs.Reader.{fresh, eventOf, foundEvent, foundShift, keyEvent, prefixAfter, hearFrame, hearKey, hear, inhibited};
-ghost use Rattle.frames.specs.Range.{frameCodes, FrameOf};
+ghost use Rattle.frames.specs.Range.{FrameOf};
 ghost use Rattle.keys.specs.Range.{KeysIn};
 ghost use Rattle.reader.specs.Range.{ReaderIn};
 

@@ -7,7 +7,7 @@ use native.Mathlib.Omega.{arith}
 use lib.ListN.{length, getD}
 use Rattle.lists.specs.Lists.{allAtMost, allAtLeast}
 use Rattle.lists.proofs.Lists.{at-most-at, at-least-at}
-use Rattle.reader_runs.specs.Runs.{Alike, Through}
+use Rattle.reader_runs.specs.code.Runs.{Alike, Through}
 
 -- all of one level
 pub alike : (heard : List ℕ) (level : ℕ) → ((k : ℕ) → k < length heard → getD heard k 0 ≡ level) → Alike heard

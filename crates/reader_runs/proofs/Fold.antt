@@ -17,7 +17,7 @@ use Rattle.reader.specs.Range.{ReaderIn}
 use Rattle.reader.specs.Words.{wordOf, wordsOf, readerAfter, words}
 use Rattle.reader.proofs.WordLists.{one-word}
 use Rattle.reader_runs.specs.declared.Skipped.{Skipped}
-use Rattle.reader_runs.specs.Skipping.{Skips}
+use Rattle.reader_runs.specs.code.Skipping.{Skips}
 
 module _ (mode : Mode) (r : Reader) (heard : List ℕ) (i : ℕ) where
   -- a ms, and then the others

@@ -25,9 +25,9 @@ use Rattle.reader.specs.Reader.{fresh, ends, withFrame, hear}
 use Rattle.reader.specs.Range.{ReaderIn}
 use Rattle.reader.proofs.Range.{fresh-in}
 use Rattle.reader_runs.specs.declared.samples.Effect.the-variants.{On, Hunts}
-use Rattle.reader_runs.specs.Runs.{Until, Through}
-use Rattle.reader_runs.specs.Samples.{numberAt, sampleMs, kindOf, Does}
-use Rattle.reader_runs.specs.Skipping.{Skips, Framed, Passes, Stays, frameAt, readerAt, placeAfter}
+use Rattle.reader_runs.specs.code.Runs.{Until, Through}
+use Rattle.reader_runs.specs.code.Samples.{numberAt, sampleMs, kindOf, Does}
+use Rattle.reader_runs.specs.code.Skipping.{Skips, Framed, Passes, Stays, frameAt, readerAt, placeAfter}
 use Rattle.reader_runs.proofs.Numbered.{next-of, number-next, ms-grows}
 use Rattle.reader_runs.proofs.Passing.{skip-one, skip-chain, skip-none, skip-same, skip-to}
 

@@ -8,7 +8,7 @@ use lib.Dec.{eqb, ltb}
 use lib.ListN.{length, getD}
 use borrow.Author.Tests.{eqb-true, eqb-false, ne-eqb, ltb-true, ltb-false}
 use Rattle.lists.specs.Lists.{allAtMost}
-use Rattle.lists.specs.Places.{UpTo}
+use Rattle.lists.specs.code.Places.{UpTo}
 use Rattle.lists.proofs.Lists.{either}
 use Rattle.alphabet.specs.declared.Mode.the-variants.{Dtmf}
 use Rattle.keys.specs.declared.Keys.{Keys}
@@ -16,7 +16,7 @@ use Rattle.keys.specs.Keys.{keysAt, needs, counts, keyStep}
 use Rattle.reader.specs.declared.Reader.{Reader}
 use Rattle.reader.specs.Range.{ReaderIn}
 use Rattle.reader_runs.specs.declared.skipping.Keyed.{Keyed}
-use Rattle.reader_runs.specs.Skipping.{keysOf, readerWith, rowOf, PassesKeys, msNext}
+use Rattle.reader_runs.specs.code.Skipping.{keysOf, readerWith, rowOf, PassesKeys, msNext}
 use Rattle.reader_runs.proofs.Rows.{next-same}
 use Rattle.reader_runs.proofs.Keying.{quiet-step, still-step, next-step, keys-skip, passes-none}
 

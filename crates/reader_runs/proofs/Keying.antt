@@ -19,10 +19,10 @@ use Rattle.reader.specs.Reader.{fresh, ends, withKey, prefixAfter, keyEvent, he
 use Rattle.reader.specs.Range.{ReaderIn}
 use Rattle.reader.specs.Words.{readerAfter, words}
 use Rattle.reader.proofs.Range.{fresh-in}
-use Rattle.lists.specs.Places.{UpTo}
-use Rattle.reader_runs.specs.Runs.{Through}
+use Rattle.lists.specs.code.Places.{UpTo}
+use Rattle.reader_runs.specs.code.Runs.{Through}
 use Rattle.reader_runs.specs.declared.skipping.Keyed.{Keyed}
-use Rattle.reader_runs.specs.Skipping.{Skips, keysOf, readerWith, PassesKeys, QuietFrom, msNext, keyAfter, msAfter}
+use Rattle.reader_runs.specs.code.Skipping.{Skips, keysOf, readerWith, PassesKeys, QuietFrom, msNext, keyAfter, msAfter}
 use Rattle.reader_runs.proofs.Rows.{next-40, after-most}
 use Rattle.reader_runs.proofs.Passing.{skip-one, skip-chain, skip-none, skip-to}
 

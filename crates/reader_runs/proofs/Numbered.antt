@@ -16,8 +16,8 @@ use Rattle.frames.specs.Samples.{placed, sampleAt, samplesOf, baudotKinds, edtK
 use Rattle.frames.specs.Range.{lastMs, FrameOf}
 use Rattle.frames.proofs.Samples.{baudot-on, edt-on}
 use Rattle.reader_runs.specs.declared.samples.Effect.{Effect}
-use Rattle.reader_runs.specs.Samples.{numberAt, sampleMs, kindOf, Does}
-use Rattle.reader_runs.specs.Skipping.{frameAt}
+use Rattle.reader_runs.specs.code.Samples.{numberAt, sampleMs, kindOf, Does}
+use Rattle.reader_runs.specs.code.Skipping.{frameAt}
 
 -- the digits of EDT
 pub edt-digit : (j : ℕ) → (j ≡ 0 → ⊥) → j < 8 → getD edtKinds j None ≡ Digit 64

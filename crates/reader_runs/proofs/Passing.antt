@@ -17,7 +17,7 @@ use Rattle.reader.specs.Range.{ReaderIn}
 use Rattle.reader.specs.Words.{wordOf, readerAfter, words}
 use Rattle.reader.proofs.Range.{hear-in}
 use Rattle.reader_runs.specs.declared.Skipped.{Skipped}
-use Rattle.reader_runs.specs.Skipping.{Skips}
+use Rattle.reader_runs.specs.code.Skipping.{Skips}
 use Rattle.reader_runs.proofs.Fold.{reader-next, words-next}
 
 module _ (mode : Mode) (heard : List ℕ) (levels : allAtMost 16 heard ≡ true) where

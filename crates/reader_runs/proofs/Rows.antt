@@ -7,8 +7,8 @@ use native.Mathlib.Omega.{arith}
 use lib.Dec.{eqb}
 use lib.ListN.{getD}
 use borrow.Author.Tests.{eqb-true, eqb-false, eq-eqb, ne-eqb}
-use Rattle.reader_runs.specs.Runs.{Back}
-use Rattle.reader_runs.specs.Skipping.{msNext, keyAfter, msAfter}
+use Rattle.reader_runs.specs.code.Runs.{Back}
+use Rattle.reader_runs.specs.code.Skipping.{msNext, keyAfter, msAfter}
 
 -- ---- one ms
 

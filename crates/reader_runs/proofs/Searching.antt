@@ -7,7 +7,7 @@ use native.Mathlib.Omega.{arith}
 use lib.Dec.{eqb}
 use lib.ListN.{getD}
 use borrow.Author.Tests.{eqb-true, eqb-false}
-use Rattle.reader_runs.specs.Runs.{Until, Through, Back}
+use Rattle.reader_runs.specs.code.Runs.{Until, Through, Back}
 
 -- what holds at each place before i, and at i, holds at each before i + 1
 one-more : (P : ℕ → Type 0) (from i : ℕ) → ((k : ℕ) → from ≤ k → k < i → P k) → P i → (k : ℕ) → from ≤ k → k < i + 1 → P k

@@ -1,3 +1,1 @@
-pub mod Runs
-pub mod Samples
-pub mod Skipping
+pub mod code

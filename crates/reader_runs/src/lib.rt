@@ -11,8 +11,8 @@ ghost use lib.Seq.{sets};
 ghost use Rattle.lists.specs.Lists.{allAtMost};
 ghost use Rattle.reader.specs.Range.{ReaderIn};
 ghost use Rattle.reader.specs.Words.{readerAfter, words as wordsHeard};
-ghost use Rattle.reader_runs.specs.Runs.{Alike};
-ghost use Rattle.reader_runs.specs.Skipping.{Skips};
+ghost use Rattle.reader_runs.specs.code.Runs.{Alike};
+ghost use Rattle.reader_runs.specs.code.Skipping.{Skips};
 
 pub mod runs;
 pub mod samples;

@@ -1,7 +1,7 @@
 // Places of a list of ms.
 ghost use Prim.Native.Nat.{_≤_};
 ghost use lib.ListN.{length};
-ghost use Rattle.reader_runs.specs.Runs.{Until, Through, Back};
+ghost use Rattle.reader_runs.specs.code.Runs.{Until, Through, Back};
 
 // The first place of a level, from a place to another; the end if it has none.
 pub fn until(heard: &[u8], from: usize, end: usize, level: u8) -> usize

@@ -5,7 +5,7 @@ ghost use Prim.Native.Nat.{_<_};
 ghost use lib.ListN.{getD};
 ghost use Rattle.frames.specs.declared.Sample.the-variants as kind;
 ghost use Rattle.frames.specs.Samples.{baudotKinds, edtKinds};
-ghost use Rattle.reader_runs.specs.Samples.{numberAt, sampleMs, kindOf, Does};
+ghost use Rattle.reader_runs.specs.code.Samples.{numberAt, sampleMs, kindOf, Does};
 
 // What a sample does: the frame goes on with some digits; the reader hunts; something may be found.
 pub enum Effect {

@@ -17,8 +17,8 @@ ghost use Rattle.alphabet.specs.declared.Mode.the-variants as mode;
 ghost use Rattle.frames.specs.Range.{FrameOf};
 ghost use Rattle.keys.specs.Range.{KeysIn};
 ghost use Rattle.reader.specs.Range.{ReaderIn};
-ghost use Rattle.reader_runs.specs.Runs.{Alike, Through};
-ghost use Rattle.reader_runs.specs.Skipping.{frameAt, readerAt, keysOf, readerWith, rowOf, placeAfter, msAfter, Framed, Skips, Passes, PassesKeys, QuietFrom, Stays};
+ghost use Rattle.reader_runs.specs.code.Runs.{Alike, Through};
+ghost use Rattle.reader_runs.specs.code.Skipping.{frameAt, readerAt, keysOf, readerWith, rowOf, placeAfter, msAfter, Framed, Skips, Passes, PassesKeys, QuietFrom, Stays};
 
 // A reader of frames before a ms, and whether it may pass more.
 struct Passed {

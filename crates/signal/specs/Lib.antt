@@ -1,2 +1,2 @@
 pub mod Signal
-pub mod Packing
+pub mod code

@@ -6,9 +6,9 @@ ghost use Prim.Native.Nat.{_+_, _*_, _/_, _%_, _^_, _-_, _<_};
 ghost use lib.ListN.{length, getD};
 ghost use Rattle.signal.specs.Signal.{levelOf, parityOf, keysSignal, signal};
 ghost use Rattle.alphabet.specs.Dtmf.{keysOf};
-ghost use Rattle.alphabet.specs.Modes.{alphabetOf};
-ghost use Rattle.alphabet.specs.Packing.{codes};
-ghost use Rattle.signal.specs.Packing.{longest, edtFrame};
+ghost use Rattle.alphabet.specs.Modes.{alphabetOf, codes};
+ghost use Rattle.alphabet.specs.code.Numbers.{longest};
+ghost use Rattle.signal.specs.code.Packing.{edtFrame};
 
 // The level of an element of a frame, whose digits stand in a number, the first element lowest: 1 is mark, 0 space.
 pub fn frame_level(frame: u16, element: u16) -> u8

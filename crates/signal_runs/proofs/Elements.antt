@@ -14,17 +14,16 @@ use Rattle.lists.specs.Tables.{tabulate}
 use Rattle.alphabet.specs.declared.Mode.{Mode}
 use Rattle.alphabet.specs.declared.Mode.the-variants.{Baudot45, Baudot50, Dtmf, Edt}
 use Rattle.alphabet.specs.Dtmf.{keysOf}
-use Rattle.alphabet.specs.Modes.{alphabetOf}
-use Rattle.alphabet.specs.Packing.{codes}
+use Rattle.alphabet.specs.Modes.{alphabetOf, codes}
 use Rattle.signal.specs.Signal.{mark, space, quiet, levelOf, digits, held, baudotSignal, parityOf, edtElements, edtSignal, heldKeys, keysSignal, signal}
-use Rattle.signal.specs.Packing.{longest}
+use Rattle.alphabet.specs.code.Numbers.{longest}
 use Rattle.signal.proofs.Levels.{test-22, test-20, baudot-at, edt-at, keys-on, keys-off}
 use Rattle.signal.proofs.Lengths.{digits-length, held-length, baudot-165, baudot-150, edt-100}
 use Rattle.half_duplex.specs.declared.OnLine.{OnLine}
 use Rattle.half_duplex.specs.Line.{further, inBurst, partMs}
 use Rattle.half_duplex.proofs.Laws.{within, level-preamble, level-code}
-use Rattle.lists.specs.Places.{UpTo}
-use Rattle.signal_runs.specs.Levels.{codeLevel, partLevel, evenMs, elementAt, elementEnd, frameOf, Run, Framed}
+use Rattle.lists.specs.code.Places.{UpTo}
+use Rattle.signal_runs.specs.code.Levels.{codeLevel, partLevel, evenMs, elementAt, elementEnd, frameOf, Run, Framed}
 use Rattle.signal_runs.proofs.Parts.{few-codes, longest-480}
 use Rattle.signal_runs.proofs.Filling.{part-behind, Writing, writing-start, level-fits, level-written, writing-end}
 

@@ -8,10 +8,9 @@ use Rattle.alphabet.specs.declared.Mode.{Mode}
 use Rattle.alphabet.specs.declared.Mode.the-variants.{Baudot45, Baudot50, Dtmf, Edt}
 use Rattle.alphabet.specs.declared.Alphabet.{Alphabet}
 use Rattle.alphabet.specs.declared.Alphabet.the-variants as alphabet
-use Rattle.alphabet.specs.Modes.{alphabetOf, preambleOf}
-use Rattle.alphabet.specs.Packing.{codes}
+use Rattle.alphabet.specs.Modes.{alphabetOf, preambleOf, codes}
 use Rattle.signal.specs.Signal.{signal, preamble}
-use Rattle.signal.specs.Packing.{longest}
+use Rattle.alphabet.specs.code.Numbers.{longest}
 use Rattle.half_duplex.specs.declared.OnLine.{OnLine}
 use Rattle.half_duplex.specs.Line.{isCode, inBurst, partMs}
 use Rattle.half_duplex.specs.Range.{LineIn}

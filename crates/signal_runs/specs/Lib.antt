@@ -1,1 +1,1 @@
-pub mod Levels
+pub mod code

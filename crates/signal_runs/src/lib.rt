@@ -8,13 +8,12 @@ ghost use Prim.Native.Nat.{_+_, _-_, _*_, _/_, _%_, _^_, _≤_, _<_};
 ghost use lib.ListN.{length, replicate};
 ghost use lib.Seq.{sets};
 ghost use Rattle.lists.specs.Tables.{tabulate};
-ghost use Rattle.alphabet.specs.Modes.{alphabetOf};
-ghost use Rattle.alphabet.specs.Packing.{codes};
+ghost use Rattle.alphabet.specs.Modes.{alphabetOf, codes};
 ghost use Rattle.signal.specs.Signal.{levelOf, digits, held, baudotSignal, signal};
 ghost use Rattle.half_duplex.specs.Line.{inBurst, partMs};
 ghost use Rattle.half_duplex.specs.Range.{LineIn};
 ghost use Rattle.alphabet.specs.declared.Mode.the-variants as mode;
-ghost use Rattle.signal_runs.specs.Levels.{evenMs, elementAt, elementEnd, frameOf, Run, Framed, codeLevel, partLevel};
+ghost use Rattle.signal_runs.specs.code.Levels.{evenMs, elementAt, elementEnd, frameOf, Run, Framed, codeLevel, partLevel};
 
 const MARK: u8 = 1;
 

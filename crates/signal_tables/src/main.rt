@@ -4,8 +4,7 @@ use alphabet::LineCode;
 use alphabet::Mode;
 use libc::STDOUT_FILENO;
 ghost use Prim.Native.Nat.{_+_, _≤_, _<_};
-ghost use Rattle.alphabet.specs.Modes.{alphabetOf};
-ghost use Rattle.alphabet.specs.Packing.{codes};
+ghost use Rattle.alphabet.specs.Modes.{alphabetOf, codes};
 
 // A level, and for how many ms in a row.
 struct Run {

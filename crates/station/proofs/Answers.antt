@@ -11,7 +11,8 @@ use Rattle.queue.specs.Queue.{room}
 use Rattle.station.specs.declared.Station.{Station}
 use Rattle.station.specs.Station.{modeOfStation, alphabetOfStation, queueOf, freshStation}
 use Rattle.station.specs.Range.{inRange}
-use Rattle.station.specs.Entries.{answered, isMode, openOf, offerAnswer, offerOf, highestLevel, runAnswer, ran, ranOf, sentAfter, wordsAfter}
+use Rattle.alphabet.specs.Modes.{highestLevel}
+use Rattle.station.specs.Entries.{answered, isMode, openOf, offerAnswer, offerOf, runAnswer, ran, ranOf, sentAfter, wordsAfter}
 
 pub refused-open : (mode : ℕ) → isMode mode ≡ false → openOf mode ≡ answered (freshStation 1) 2
 unfolding openOf

@@ -16,7 +16,8 @@ use Rattle.reader.proofs.WordLists.{words-append}
 use Rattle.half_duplex.specs.Core.{coreFrom}
 use Rattle.station.specs.declared.Station.{Station}
 use Rattle.station.specs.Station.{modeOfStation, stationMs, sentMs, eventOf, stationAfter, sentBy, eventsBy, wordsBy}
-use Rattle.station.specs.Entries.{highestLevel, runAnswer}
+use Rattle.alphabet.specs.Modes.{highestLevel}
+use Rattle.station.specs.Entries.{runAnswer}
 use Rattle.station.proofs.Range.{after-in, runs}
 use Rattle.station.proofs.Answers.{run-0}
 

@@ -15,15 +15,14 @@ use Rattle.alphabet.specs.declared.Alphabet.{Alphabet}
 use Rattle.alphabet.specs.declared.Alphabet.the-variants.{Baudot, Dtmf as dtmf, Edt as edt}
 use Rattle.alphabet.specs.declared.Mode.{Mode}
 use Rattle.alphabet.specs.declared.Mode.the-variants.{Baudot45, Baudot50, Dtmf, Edt}
-use Rattle.alphabet.specs.Modes.{alphabetOf}
+use Rattle.alphabet.specs.Modes.{alphabetOf, codes, frameCodes, highestLevel}
 use Rattle.alphabet.specs.Normal.{sends, allChars}
 use Rattle.baudot.specs.declared.Sender.{Sender}
 use Rattle.alphabet.specs.Normal.{isCode}
 use Rattle.baudot.specs.Sending.{inRange as senderIn}
-use Rattle.alphabet.specs.Packing.{codes}
 use Rattle.frames.specs.declared.Frame.{Frame}
 use Rattle.frames.specs.Samples.{samplesOf}
-use Rattle.frames.specs.Range.{lastMs, frameCodes, FrameOf}
+use Rattle.frames.specs.Range.{lastMs, FrameOf}
 use Rattle.keys.specs.declared.Keys.{Keys}
 use Rattle.keys.specs.Range.{KeysIn}
 use Rattle.reader.specs.declared.Reader.{Reader}
@@ -40,7 +39,7 @@ use Rattle.queue.proofs.Laws as queue
 use Rattle.station.specs.declared.Station.{Station}
 use Rattle.station.specs.Station.{modeOfStation, alphabetOfStation, queueOf, freshStation, hasDel, readerOffered, offeredTo, front, charsAfter, stationMs, stationAfter, wordsBy}
 use Rattle.station.specs.Range.{frameIn, keysIn, readerIn, lineIn, coreIn, inRange}
-use Rattle.station.specs.Entries.{StationAnswered, StationRan, answered, isMode, openOf, offerAnswer, offerOf, highestLevel, runAnswer, ran, ranOf}
+use Rattle.station.specs.Entries.{StationAnswered, StationRan, answered, isMode, openOf, offerAnswer, offerOf, runAnswer, ran, ranOf}
 
 -- ---- question 1 in facts
 

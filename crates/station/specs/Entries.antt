@@ -7,8 +7,7 @@ use mathlib.Core.List.{List}
 use lib.Dec.{eqb, leb}
 use lib.ListN.{length}
 use Rattle.lists.specs.Lists.{allAtMost, written}
-use Rattle.alphabet.specs.declared.Mode.{Mode}
-use Rattle.alphabet.specs.declared.Mode.the-variants.{Baudot45, Baudot50, Dtmf, Edt}
+use Rattle.alphabet.specs.Modes.{highestLevel}
 use Rattle.alphabet.specs.Normal.{allChars}
 use Rattle.queue.specs.Queue.{room}
 use Rattle.station.specs.declared.Station.{Station}
@@ -41,13 +40,6 @@ unfoldable pub offerOf : Station → List ℕ → StationAnswered
 offerOf s text =
     let answer = offerAnswer s text in
     cond (eqb answer 0) (answered (offeredTo s text) 0) (answered s answer)
-
--- "Line signal": a heard ms is 0 quiet, 1 mark, 2 space; in DTMF 0 quiet or a key.
-abbrev pub highestLevel : Mode → ℕ
-highestLevel Baudot45 = 2
-highestLevel Baudot50 = 2
-highestLevel Dtmf = 16
-highestLevel Edt = 2
 
 -- Running. 1: in range? 5: at most 4,096 ms? 6: every heard ms a value of the mode? 7, 8: are the sent slice and the word
 -- slice at least as long as the heard one?

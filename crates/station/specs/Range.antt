@@ -4,12 +4,11 @@ use mathlib.Core.Bool.{Bool, _&&_}
 use lib.Dec.{leb, ltb}
 use lib.ListN.{length}
 use Rattle.alphabet.specs.declared.Mode.{Mode}
-use Rattle.alphabet.specs.Modes.{alphabetOf}
+use Rattle.alphabet.specs.Modes.{alphabetOf, codes, frameCodes}
 use Rattle.baudot.specs.Sending.{inRange as senderIn}
-use Rattle.alphabet.specs.Packing.{codes}
 use Rattle.frames.specs.declared.Frame.{Frame}
 use Rattle.frames.specs.Samples.{samplesOf}
-use Rattle.frames.specs.Range.{lastMs, frameCodes}
+use Rattle.frames.specs.Range.{lastMs}
 use Rattle.keys.specs.declared.Keys.{Keys}
 use Rattle.keys.specs.Keys.{keyMs, quietMs}
 use Rattle.reader.specs.declared.Reader.{Reader}

@@ -10,9 +10,9 @@ use reader::Reader;
 ghost use mathlib.Core.Path.{_≡_};
 ghost use lib.Dec.{ltb};
 ghost use Rattle.baudot.specs.Sending.{inRange as senderIn};
-ghost use Rattle.alphabet.specs.Packing.{codes};
+ghost use Rattle.alphabet.specs.Modes.{codes, frameCodes};
 ghost use Rattle.frames.specs.Samples.{samplesOf};
-ghost use Rattle.frames.specs.Range.{lastMs, frameCodes};
+ghost use Rattle.frames.specs.Range.{lastMs};
 ghost use Rattle.station.specs.Station.{station};
 ghost use Rattle.station.specs.Range.{frameIn, keysIn, readerIn, lineIn, coreIn, inRange};
 

@@ -6,7 +6,8 @@ ghost use mathlib.Core.Path.{_≡_};
 ghost use lib.ListN.{length};
 ghost use Rattle.station.specs.Station.{station};
 ghost use Rattle.station.specs.Range.{inRange};
-ghost use Rattle.station.specs.Entries.{highestLevel, ranOf, sentAfter, wordsAfter};
+ghost use Rattle.alphabet.specs.Modes.{highestLevel};
+ghost use Rattle.station.specs.Entries.{ranOf, sentAfter, wordsAfter};
 
 // The most ms of one call.
 pub const LONGEST: usize = 4_096;

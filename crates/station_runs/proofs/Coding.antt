@@ -15,9 +15,8 @@ use Rattle.alphabet.specs.declared.Mode.{Mode}
 use Rattle.alphabet.specs.declared.Mode.the-variants.{Baudot45, Baudot50, Dtmf, Edt}
 use Rattle.alphabet.specs.declared.Sends.{Sends}
 use Rattle.alphabet.specs.declared.Sends.the-variants.{Nothing, Code}
-use Rattle.alphabet.specs.Modes.{alphabetOf}
+use Rattle.alphabet.specs.Modes.{alphabetOf, codes}
 use Rattle.alphabet.specs.Normal.{sends, isCode}
-use Rattle.alphabet.specs.Packing.{codes}
 use Rattle.baudot.specs.declared.Sender.{Sender}
 use Rattle.signal.specs.Signal.{signal}
 use Rattle.signal.proofs.Lengths.{baudot-165, baudot-150, edt-100, dtmf-120, keyCount, key-count}
@@ -40,8 +39,8 @@ use Rattle.station.proofs.Range.{station-in, char-in}
 use Rattle.station.proofs.Cuts.{cut}
 use Rattle.station.proofs.Lengths.{sent-length}
 use Rattle.station.proofs.Takings.{taken-after}
-use Rattle.half_duplex_runs.specs.Cores.{silenceFor, deafReader, burstLeft, loadedCore, sentFor, codedCore}
-use Rattle.station_runs.specs.Stretches.{between, Stretches}
+use Rattle.half_duplex_runs.specs.code.Cores.{silenceFor, deafReader, burstLeft, loadedCore, sentFor, codedCore}
+use Rattle.station_runs.specs.code.Stretches.{between, Stretches}
 use Rattle.half_duplex_runs.proofs.Laws.{silence-full, silence-none, deaf-some, burst-some}
 use Rattle.station_runs.proofs.Laws.{begun-same, left-burst, left-over, gone-over}
 use Rattle.station_runs.proofs.Joining.{between-length, begin-stretch, send-stretch}

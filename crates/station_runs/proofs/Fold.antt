@@ -18,13 +18,13 @@ use Rattle.queue.proofs.Moves.{moved-by-more}
 use Rattle.station.specs.declared.Station.{Station}
 use Rattle.station.specs.Station.{station, modeOfStation, stationAfter, sentBy, wordsBy}
 use Rattle.station.specs.Range.{inRange}
-use Rattle.station.specs.Entries.{highestLevel}
+use Rattle.alphabet.specs.Modes.{highestLevel}
 use Rattle.station.proofs.Range.{after-full, after-in}
 use Rattle.station.proofs.Cuts.{cut, mode-after}
 use Rattle.station.proofs.Lengths.{sent-length, few-words}
 use Rattle.station.proofs.Takings.{taken-after}
 use Rattle.station_runs.specs.declared.Stretched.{Stretched}
-use Rattle.station_runs.specs.Stretches.{between, Stretches}
+use Rattle.station_runs.specs.code.Stretches.{between, Stretches}
 use Rattle.station_runs.proofs.Laws.{at-most-take}
 use Rattle.station_runs.proofs.Joining.{between-length}
 

@@ -21,9 +21,9 @@ use Rattle.half_duplex.proofs.Range.{LoadedIn, settled-in}
 use Rattle.station.specs.declared.Station.{Station}
 use Rattle.station.specs.Station.{station, charsAfter, stationMs, sentMs, eventOf, stationAfter, sentBy, wordsBy}
 use Rattle.station_runs.specs.declared.Stretched.{Stretched}
-use Rattle.half_duplex_runs.specs.Cores.{silenceOver, loadedCore, sentFor, deafFor, listened}
-use Rattle.signal_runs.specs.Levels.{partLevel}
-use Rattle.station_runs.specs.Stretches.{between, Stretches}
+use Rattle.half_duplex_runs.specs.code.Cores.{silenceOver, loadedCore, sentFor, deafFor, listened}
+use Rattle.signal_runs.specs.code.Levels.{partLevel}
+use Rattle.station_runs.specs.code.Stretches.{between, Stretches}
 use Rattle.signal_runs.proofs.Elements.{level-same}
 use Rattle.station_runs.proofs.Laws.{Walk, loaded-alike, left-burst, left-over, deaf-walk, part-walk, listens}
 

@@ -28,8 +28,8 @@ use Rattle.half_duplex.specs.Core.{core, silenceAfter, eventMs, modeIn, settled
 use Rattle.half_duplex.proofs.Laws.{level-over, not-over, gone-none, gone-one, stays-left}
 use Rattle.station.specs.declared.Station.{Station}
 use Rattle.station.specs.Station.{station, front, charsAfter, stationMs, sentMs, eventOf, stationAfter, sentBy, wordsBy}
-use Rattle.signal_runs.specs.Levels.{partLevel}
-use Rattle.half_duplex_runs.specs.Cores.{silenceFor, silenceNext, silenceOver, deafReader, burstLeft, loadedCore, sentFor, deafFor, listened}
+use Rattle.signal_runs.specs.code.Levels.{partLevel}
+use Rattle.half_duplex_runs.specs.code.Cores.{silenceFor, silenceNext, silenceOver, deafReader, burstLeft, loadedCore, sentFor, deafFor, listened}
 use Rattle.half_duplex_runs.proofs.Laws.{silence-none}
 
 pub at-most-take : (m n : ℕ) (xs : List ℕ) → allAtMost m xs ≡ true → allAtMost m (take n xs) ≡ true

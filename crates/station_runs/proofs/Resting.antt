@@ -18,7 +18,7 @@ use Rattle.reader.specs.declared.Reader.{Reader}
 use Rattle.reader.specs.declared.Reading.{Reading}
 use Rattle.reader.specs.Reader.{reader, ends, keyEvent, prefixAfter, hear}
 use Rattle.reader.specs.Words.{wordOf, wordsOf, readerAfter, words}
-use Rattle.half_duplex_runs.specs.Cores.{atRest}
+use Rattle.half_duplex_runs.specs.code.Cores.{atRest}
 
 rest-is : (r : Reader) → atRest r ≡ true → r ≡ reader hunting ready (r .shift) (r .prefix)
 unfolding atRest

@@ -1,1 +1,1 @@
-pub mod Stretches
+pub mod code

@@ -12,13 +12,13 @@ ghost use mathlib.Core.List.{List};
 ghost use Prim.Native.Nat.{ℕ, _+_, _≤_};
 ghost use lib.Dec.{leb, ltb};
 ghost use lib.ListN.{length};
-ghost use Rattle.signal.specs.Packing.{longest};
+ghost use Rattle.alphabet.specs.code.Numbers.{longest};
 ghost use Rattle.half_duplex.specs.Line.{isOver};
 ghost use Rattle.half_duplex.specs.Core.{modeIn};
 ghost use Rattle.queue.specs.Queue.{movedBy};
 ghost use Rattle.station.specs.Station.{station};
 ghost use Rattle.station.specs.Range.{inRange};
-ghost use Rattle.station_runs.specs.Stretches.{Stretches};
+ghost use Rattle.station_runs.specs.code.Stretches.{Stretches};
 
 // The most ms of a code.
 fn longest(mode: Mode) -> usize

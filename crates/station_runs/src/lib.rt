@@ -12,8 +12,8 @@ ghost use Rattle.half_duplex.specs.Core.{modeIn};
 ghost use Rattle.queue.specs.Queue.{movedBy};
 ghost use Rattle.station.specs.Station.{station, stationAfter, sentBy, wordsBy};
 ghost use Rattle.station.specs.Range.{inRange};
-ghost use Rattle.station.specs.Entries.{highestLevel};
-ghost use Rattle.station_runs.specs.Stretches.{Stretches};
+ghost use Rattle.alphabet.specs.Modes.{highestLevel};
+ghost use Rattle.station_runs.specs.code.Stretches.{Stretches};
 
 pub mod bursts;
 pub mod stretches;

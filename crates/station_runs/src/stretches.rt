@@ -14,7 +14,7 @@ ghost use Rattle.half_duplex.specs.Rules.{mayBegin};
 ghost use Rattle.half_duplex.specs.Line.{partMs};
 ghost use Rattle.half_duplex.specs.Core.{modeIn, settled};
 ghost use Rattle.half_duplex.specs.Range.{LineIn, CoreIn};
-ghost use Rattle.station_runs.specs.Stretches.{Free, Stretches};
+ghost use Rattle.station_runs.specs.code.Stretches.{Free, Stretches};
 
 // Where the ms end in which no burst may begin.
 fn free_end(waiting: u16, silence: u16, i: usize, len: usize) -> usize

@@ -2,7 +2,7 @@
 use mathlib.Core.Path.{_∙_, ap}
 use native.Mathlib.Omega.{arith}
 use borrow.Author.Tests.{ne-eqb}
-use Rattle.frames.specs.Packing.{topIn}
+use Rattle.frames.specs.code.Bounds.{topIn}
 use Rattle.frames.specs.Frames.{frameStep}
 use Rattle.frames.proofs.Samples.{tops-in}
 use borrow.Author.Needs.{needs}

@@ -1,7 +1,7 @@
 -- `at_rest` meets its contract.
 use mathlib.Core.Path.{refl}
 use borrow.Author.Tests.{eq-eqb, ne-eqb}
-use Rattle.half_duplex_runs.specs.Cores.{atRest}
+use Rattle.half_duplex_runs.specs.code.Cores.{atRest}
 use Rattle.half_duplex_runs.proofs.at_rest.Statement.{statement}
 use Rattle.half_duplex_runs.proofs.at_rest.Tie as tie
 

@@ -1,7 +1,7 @@
 -- `coded` meets its contract.
 use Prim.Native.Nat.{_-_}
 use Rattle.half_duplex.specs.Core.{core}
-use Rattle.half_duplex_runs.specs.Cores.{codedCore}
+use Rattle.half_duplex_runs.specs.code.Cores.{codedCore}
 use Rattle.half_duplex_runs.proofs.Laws.{burst-some}
 use borrow.Author.Needs.{needs}
 use Rattle.half_duplex_runs.proofs.coded.Statement.{statement}

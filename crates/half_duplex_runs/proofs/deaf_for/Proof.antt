@@ -1,5 +1,5 @@
 -- `deaf_for` meets its contract.
-use Rattle.half_duplex_runs.specs.Cores.{deafFor}
+use Rattle.half_duplex_runs.specs.code.Cores.{deafFor}
 use Rattle.half_duplex.specs.Core.{core}
 use Prim.Native.Nat.{_-_}
 use borrow.Author.Needs.{needs}

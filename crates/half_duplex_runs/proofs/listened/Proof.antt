@@ -1,6 +1,6 @@
 -- `listened` meets its contract.
 use mathlib.Core.Path.{refl}
-use Rattle.half_duplex_runs.specs.Cores.{listened}
+use Rattle.half_duplex_runs.specs.code.Cores.{listened}
 use Rattle.half_duplex_runs.proofs.listened.Statement.{statement}
 use Rattle.half_duplex_runs.proofs.listened.Tie as tie
 

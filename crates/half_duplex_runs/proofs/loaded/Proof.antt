@@ -1,6 +1,6 @@
 -- `loaded` meets its contract.
 use Rattle.half_duplex.specs.Core.{core}
-use Rattle.half_duplex_runs.specs.Cores.{loadedCore}
+use Rattle.half_duplex_runs.specs.code.Cores.{loadedCore}
 use borrow.Author.Needs.{needs}
 use Rattle.half_duplex_runs.proofs.loaded.Statement.{statement}
 use Rattle.half_duplex_runs.proofs.loaded.Tie as tie

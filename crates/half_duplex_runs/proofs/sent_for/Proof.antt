@@ -2,7 +2,7 @@
 use mathlib.Core.Path.{_≡_, _∙_}
 use Rattle.half_duplex.specs.Line.{further, ended, closed}
 use Rattle.half_duplex.specs.Core.{core, modeIn}
-use Rattle.half_duplex_runs.specs.Cores.{sentFor}
+use Rattle.half_duplex_runs.specs.code.Cores.{sentFor}
 use Rattle.half_duplex_runs.proofs.Laws.{burst-some}
 use borrow.Author.Needs.{needs}
 use Rattle.half_duplex_runs.proofs.sent_for.Statement.{statement}

@@ -1,7 +1,7 @@
 -- `hear_frame` meets its contract.
 use mathlib.Core.Path.{sym, ap, subst}
 use Rattle.frames.specs.declared.FrameRead.{FrameRead}
-use Rattle.frames.specs.Packing.{FoundIn}
+use Rattle.frames.specs.code.Bounds.{FoundIn}
 use Rattle.frames.proofs.Range.{place-255, digits-128, found-in}
 use Rattle.reader.proofs.hear_frame.Statement.{statement}
 use Rattle.reader.proofs.hear_frame.Tie as tie

@@ -13,7 +13,7 @@ use Rattle.alphabet.proofs.Mode as declared
 use Rattle.reader.specs.declared.Reader.{Reader}
 use Rattle.reader.specs.Reader.{hear}
 use Rattle.reader.specs.Range.{ReaderIn}
-use Rattle.reader_runs.specs.Skipping.{Framed, Skips}
+use Rattle.reader_runs.specs.code.Skipping.{Framed, Skips}
 use borrow.Author.Needs.{needs}
 use Rattle.reader_runs.proofs.skip.Statement.{statement}
 use Rattle.reader_runs.proofs.skip.Tie as tie

@@ -1,7 +1,7 @@
 -- `element_at` meets its contract.
 use mathlib.Core.Path.{sym, ap}
 use Rattle.alphabet.specs.declared.Mode.{Mode}
-use Rattle.signal_runs.specs.Levels.{elementAt}
+use Rattle.signal_runs.specs.code.Levels.{elementAt}
 use borrow.Author.Needs.{needs}
 use Rattle.signal_runs.proofs.element_at.Statement.{statement}
 use Rattle.signal_runs.proofs.element_at.Tie as tie

@@ -1,7 +1,7 @@
 -- `element_end` meets its contract.
 use mathlib.Core.Path.{sym, ap}
 use Rattle.alphabet.specs.declared.Mode.{Mode}
-use Rattle.signal_runs.specs.Levels.{elementEnd}
+use Rattle.signal_runs.specs.code.Levels.{elementEnd}
 use borrow.Author.Needs.{needs}
 use Rattle.signal_runs.proofs.element_end.Statement.{statement}
 use Rattle.signal_runs.proofs.element_end.Tie as tie

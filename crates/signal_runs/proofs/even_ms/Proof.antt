@@ -1,7 +1,7 @@
 -- `even_ms` meets its contract.
 use mathlib.Core.Path.{refl}
 use borrow.Author.Tests.{lt-ltb, le-ltb}
-use Rattle.signal_runs.specs.Levels.{evenMs}
+use Rattle.signal_runs.specs.code.Levels.{evenMs}
 use borrow.Author.Needs.{needs}
 use Rattle.signal_runs.proofs.even_ms.Statement.{statement}
 use Rattle.signal_runs.proofs.even_ms.Tie as tie

@@ -2,9 +2,8 @@
 use mathlib.Core.Path.{_∙_, sym, ap, subst}
 use Prim.Native.Nat.{_<_}
 use Rattle.alphabet.specs.declared.Mode.{Mode}
-use Rattle.alphabet.specs.Modes.{alphabetOf}
-use Rattle.alphabet.specs.Packing.{codes}
-use Rattle.signal_runs.specs.Levels.{frameOf}
+use Rattle.alphabet.specs.Modes.{alphabetOf, codes}
+use Rattle.signal_runs.specs.code.Levels.{frameOf}
 use borrow.Author.Needs.{needs}
 use Rattle.signal_runs.proofs.frame_of.Statement.{statement}
 use Rattle.signal_runs.proofs.frame_of.Tie as tie

@@ -13,11 +13,10 @@ use denote.Enum.Declared
 use Rattle.lists.specs.Tables.{tabulate}
 use Rattle.alphabet.specs.declared.Mode.{Mode}
 use Rattle.alphabet.specs.declared.Mode.the-variants.{Baudot45, Baudot50, Dtmf, Edt}
-use Rattle.alphabet.specs.Modes.{alphabetOf}
-use Rattle.alphabet.specs.Packing.{codes}
+use Rattle.alphabet.specs.Modes.{alphabetOf, codes}
 use Rattle.alphabet.proofs.Mode as declared
 use Rattle.signal.specs.Signal.{signal}
-use Rattle.signal_runs.specs.Levels.{Framed, codeLevel}
+use Rattle.signal_runs.specs.code.Levels.{Framed, codeLevel}
 use Rattle.signal_runs.proofs.Elements.{framed-45, framed-50, framed-edt}
 use borrow.Author.Needs.{needs}
 use Rattle.signal_runs.proofs.put_code.Statement.{statement}

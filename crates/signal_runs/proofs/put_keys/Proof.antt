@@ -6,7 +6,7 @@ use lib.ListN.{getD}
 use borrow.Author.Needs.{needs}
 use Rattle.alphabet.specs.declared.Mode.the-variants.{Dtmf}
 use Rattle.signal.specs.Signal.{signal}
-use Rattle.signal_runs.specs.Levels.{codeLevel}
+use Rattle.signal_runs.specs.code.Levels.{codeLevel}
 use Rattle.signal_runs.proofs.Elements.{even-some, even-same, Putting, putting-start, putting-turn, putting-end, short}
 use Rattle.signal_runs.proofs.put_keys.Statement.{statement}
 use Rattle.signal_runs.proofs.put_keys.Tie as tie

@@ -2,7 +2,7 @@
 use mathlib.Core.Path.{_∙_, refl, sym}
 use Prim.Native.Nat.{_-_}
 use native.Mathlib.Omega.{arith}
-use Rattle.signal_runs.specs.Levels.{Run}
+use Rattle.signal_runs.specs.code.Levels.{Run}
 use Rattle.signal_runs.proofs.Elements.{run-start, run-turn}
 use borrow.Author.Needs.{needs}
 use Rattle.signal_runs.proofs.run_end.Statement.{statement}

@@ -5,10 +5,9 @@ use borrow.Author.Needs.{needs}
 use lib.ListN.{length}
 use Rattle.alphabet.specs.declared.Mode.{Mode}
 use Rattle.alphabet.specs.declared.Mode.the-variants.{Baudot45, Baudot50, Dtmf, Edt}
-use Rattle.alphabet.specs.Modes.{alphabetOf}
-use Rattle.alphabet.specs.Packing.{codes}
+use Rattle.alphabet.specs.Modes.{alphabetOf, codes}
 use Rattle.signal.specs.Signal.{signal}
-use Rattle.signal.specs.Packing.{longest}
+use Rattle.alphabet.specs.code.Numbers.{longest}
 use Rattle.signal.proofs.Lengths.{baudot-165, baudot-150, dtmf-120, four-keys, edt-100}
 use Rattle.signal_tables.proofs.print_signal.Statement.{statement}
 use Rattle.signal_tables.proofs.print_signal.Tie as tie

@@ -9,7 +9,7 @@ use Rattle.lists.specs.Lists.{allAtMost}
 use Rattle.half_duplex.specs.Core.{modeIn}
 use Rattle.station.specs.Station.{station}
 use Rattle.station.specs.Range.{inRange}
-use Rattle.station.specs.Entries.{highestLevel}
+use Rattle.alphabet.specs.Modes.{highestLevel}
 use Rattle.station.proofs.Answers.{run-1, run-5, run-6, run-7, run-8, run-0}
 use Rattle.station_entry.proofs.Answers.{refused, accepted}
 use borrow.Author.Needs.{needs}

@@ -11,7 +11,7 @@ use Rattle.queue.proofs.Moves.{moved-by-length}
 use Rattle.station.specs.declared.Station.{Station}
 use Rattle.station.specs.Station.{station}
 use Rattle.station.specs.Range.{inRange}
-use Rattle.station.specs.Entries.{highestLevel}
+use Rattle.alphabet.specs.Modes.{highestLevel}
 use Rattle.station.proofs.Range.{highest-16, station-in}
 use Rattle.station_runs.proofs.Fold.{Left, rest, left-start, left-turn, left-station, left-sent, left-place, left-words}
 use borrow.Author.Needs.{needs}

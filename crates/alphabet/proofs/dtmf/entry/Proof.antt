@@ -4,7 +4,7 @@ use Rattle.lists.specs.Tables.{tabulate}
 use Rattle.lists.proofs.Tables.{tabulate-at}
 use Rattle.alphabet.specs.Print.{keys}
 use Rattle.alphabet.specs.Dtmf.{prefixes}
-use Rattle.alphabet.specs.Packing.{keyAt}
+use Rattle.alphabet.specs.code.Packing.{keyAt}
 use Rattle.alphabet.proofs.dtmf.entry.Statement.{statement}
 use Rattle.alphabet.proofs.dtmf.entry.Tie as tie
 

@@ -10,7 +10,7 @@ use Rattle.alphabet.specs.Dtmf.{withMark, codeFrom, marksThenDigit, amon
 use Rattle.alphabet.specs.Normal.{sends}
 use Rattle.lists.specs.Tables.{tabulate}
 use Rattle.lists.proofs.Tables.{tabulate-at}
-use Rattle.alphabet.specs.Packing.{dtmfAt}
+use Rattle.alphabet.specs.code.Packing.{dtmfAt}
 use Rattle.alphabet.proofs.table.dtmf_entry.Statement.{statement}
 use Rattle.alphabet.proofs.table.dtmf_entry.Tie as tie
 

@@ -4,7 +4,7 @@ use Rattle.alphabet.specs.Print.{leftRows, rightRows, bitsFrom, bits}
 use Rattle.alphabet.specs.TableA1.{a1}
 use Rattle.alphabet.specs.Baudot.{printedAt, readBaudot}
 use Rattle.lists.specs.Tables.{tabulate}
-use Rattle.alphabet.specs.Packing.{baudotAt, readTable}
+use Rattle.alphabet.specs.code.Packing.{baudotAt, readTable}
 use Rattle.alphabet.proofs.table.read_table.Statement.{statement}
 use Rattle.alphabet.proofs.table.read_table.Tie as tie
 

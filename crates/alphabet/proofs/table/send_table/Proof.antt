@@ -8,7 +8,7 @@ use Rattle.alphabet.specs.Baudot.{printedAt, sendBaudot}
 use Rattle.alphabet.specs.Dtmf.{withMark, codeFrom, marksThenDigit, among, notStruck, remaining, names, firstSign, named, sendIn, hasRow, sendFrom, sendDtmf}
 use Rattle.alphabet.specs.Normal.{sends}
 use Rattle.lists.specs.Tables.{tabulate}
-use Rattle.alphabet.specs.Packing.{entryAt, sendTable}
+use Rattle.alphabet.specs.code.Packing.{entryAt, sendTable}
 use Rattle.alphabet.proofs.table.send_table.Statement.{statement}
 use Rattle.alphabet.proofs.table.send_table.Tie as tie
 

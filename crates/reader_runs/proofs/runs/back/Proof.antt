@@ -2,7 +2,7 @@
 use Prim.Native.Nat.{_≤_}
 use native.Mathlib.Omega.{arith}
 use borrow.Author.Needs.{needs}
-use Rattle.reader_runs.specs.Runs.{Through}
+use Rattle.reader_runs.specs.code.Runs.{Through}
 use Rattle.reader_runs.proofs.Searching.{through-start, back-turn, back-stop, back-end}
 use Rattle.reader_runs.proofs.runs.back.Statement.{statement}
 use Rattle.reader_runs.proofs.runs.back.Tie as tie

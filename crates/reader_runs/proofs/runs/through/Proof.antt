@@ -1,7 +1,7 @@
 -- `through` meets its contract. The invariant: what holds up to the place.
 use Prim.Native.Nat.{_-_}
 use borrow.Author.Needs.{needs}
-use Rattle.reader_runs.specs.Runs.{Through}
+use Rattle.reader_runs.specs.code.Runs.{Through}
 use Rattle.reader_runs.proofs.Searching.{through-start, through-turn}
 use Rattle.reader_runs.proofs.runs.through.Statement.{statement}
 use Rattle.reader_runs.proofs.runs.through.Tie as tie

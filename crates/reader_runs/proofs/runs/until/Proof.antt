@@ -1,7 +1,7 @@
 -- `until` meets its contract. The invariant: what holds up to the place.
 use Prim.Native.Nat.{_-_}
 use borrow.Author.Needs.{needs}
-use Rattle.reader_runs.specs.Runs.{Until}
+use Rattle.reader_runs.specs.code.Runs.{Until}
 use Rattle.reader_runs.proofs.Searching.{until-start, until-turn}
 use Rattle.reader_runs.proofs.runs.until.Statement.{statement}
 use Rattle.reader_runs.proofs.runs.until.Tie as tie

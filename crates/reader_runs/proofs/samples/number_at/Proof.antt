@@ -1,7 +1,7 @@
 -- `number_at` meets its contract.
 use mathlib.Core.Path.{sym, ap}
 use Rattle.alphabet.specs.declared.Mode.{Mode}
-use Rattle.reader_runs.specs.Samples.{numberAt}
+use Rattle.reader_runs.specs.code.Samples.{numberAt}
 use borrow.Author.Needs.{needs}
 use Rattle.reader_runs.proofs.samples.number_at.Statement.{statement}
 use Rattle.reader_runs.proofs.samples.number_at.Tie as tie

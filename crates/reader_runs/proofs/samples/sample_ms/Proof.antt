@@ -1,7 +1,7 @@
 -- `sample_ms` meets its contract.
 use mathlib.Core.Path.{sym, ap}
 use Rattle.alphabet.specs.declared.Mode.{Mode}
-use Rattle.reader_runs.specs.Samples.{sampleMs}
+use Rattle.reader_runs.specs.code.Samples.{sampleMs}
 use borrow.Author.Needs.{needs}
 use Rattle.reader_runs.proofs.samples.sample_ms.Statement.{statement}
 use Rattle.reader_runs.proofs.samples.sample_ms.Tie as tie

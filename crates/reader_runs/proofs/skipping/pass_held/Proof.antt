@@ -6,8 +6,8 @@ use Prim.Native.Nat.{ℕ, _≤_, _<_}
 use native.Mathlib.Omega.{arith}
 use lib.ListN.{length}
 use Rattle.lists.specs.Lists.{allAtMost}
-use Rattle.reader_runs.specs.Runs.{Through}
-use Rattle.reader_runs.specs.Skipping.{keysOf, rowOf, PassesKeys}
+use Rattle.reader_runs.specs.code.Runs.{Through}
+use Rattle.reader_runs.specs.code.Skipping.{keysOf, rowOf, PassesKeys}
 use Rattle.reader_runs.proofs.Holding.{quiet-left, row-few, held-quiet, held-still, held-row, held-count}
 use borrow.Author.Needs.{needs}
 use Rattle.reader_runs.proofs.skipping.pass_held.Statement.{statement}

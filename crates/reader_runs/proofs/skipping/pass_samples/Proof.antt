@@ -4,8 +4,8 @@ use Prim.Native.Nat.{_+_, _-_}
 use native.Mathlib.Omega.{arith}
 use lib.ListN.{length, getD}
 use Rattle.frames.proofs.Range.{place-255}
-use Rattle.reader_runs.specs.Samples.{kindOf, Does}
-use Rattle.reader_runs.specs.Skipping.{frameAt}
+use Rattle.reader_runs.specs.code.Samples.{kindOf, Does}
+use Rattle.reader_runs.specs.code.Skipping.{frameAt}
 use Rattle.reader_runs.proofs.Numbered.{next-of, ms-grows, ms-few}
 use Rattle.reader_runs.proofs.Framing.{stops, Ahead, ahead-start, ahead-end, ahead-here, ahead-hunts, ahead-turn}
 use borrow.Author.Needs.{needs}

@@ -1,6 +1,6 @@
 -- `place_after` meets its contract.
 use borrow.Author.Tests.{eq-eqb, ne-eqb}
-use Rattle.reader_runs.specs.Skipping.{placeAfter}
+use Rattle.reader_runs.specs.code.Skipping.{placeAfter}
 use Rattle.reader_runs.proofs.skipping.place_after.Statement.{statement}
 use Rattle.reader_runs.proofs.skipping.place_after.Tie as tie
 

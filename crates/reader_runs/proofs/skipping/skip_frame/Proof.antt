@@ -3,7 +3,7 @@ use mathlib.Core.Path.{sym, subst}
 use Prim.Native.Nat.{_-_}
 use native.Mathlib.Omega.{arith}
 use lib.ListN.{length}
-use Rattle.reader_runs.specs.Skipping.{frameAt, readerAt, Skips}
+use Rattle.reader_runs.specs.code.Skipping.{frameAt, readerAt, Skips}
 use Rattle.reader_runs.proofs.Passing.{skip-none}
 use Rattle.reader_runs.proofs.Framing.{frame-fits, skip-pass}
 use borrow.Author.Needs.{needs}

@@ -2,7 +2,7 @@
 use mathlib.Core.Path.{sym, subst}
 use borrow.Author.Needs.{needs}
 use Rattle.alphabet.specs.declared.Mode.the-variants.{Dtmf}
-use Rattle.reader_runs.specs.Skipping.{Skips}
+use Rattle.reader_runs.specs.code.Skipping.{Skips}
 use Rattle.reader_runs.proofs.Keying.{keys-after}
 use Rattle.reader_runs.proofs.skipping.skip_keys.Statement.{statement}
 use Rattle.reader_runs.proofs.skipping.skip_keys.Tie as tie

@@ -8,11 +8,10 @@ use Rattle.lists.proofs.Lists.{either}
 use Rattle.alphabet.specs.declared.Alphabet.{Alphabet}
 use Rattle.alphabet.specs.declared.Mode.{Mode}
 use Rattle.alphabet.specs.declared.Sends.{Sends}
-use Rattle.alphabet.specs.Modes.{alphabetOf}
+use Rattle.alphabet.specs.Modes.{alphabetOf, codes}
 use Rattle.alphabet.specs.Normal.{sends}
-use Rattle.alphabet.specs.Packing.{codes}
 use Rattle.signal.specs.Signal.{signal}
-use Rattle.signal.specs.Packing.{longest}
+use Rattle.alphabet.specs.code.Numbers.{longest}
 use Rattle.half_duplex.specs.Line.{codeBegins}
 use Rattle.half_duplex.specs.Core.{modeIn}
 use Rattle.half_duplex.specs.Range.{CoreIn, SendsIn}

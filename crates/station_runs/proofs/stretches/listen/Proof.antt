@@ -10,8 +10,8 @@ use lib.Seq.{sets}
 use Rattle.lists.specs.Lists.{allAtMost}
 use Rattle.lists.proofs.Lists.{and-left, and-right, at-most-drop}
 use Rattle.half_duplex.specs.Core.{modeIn}
-use Rattle.half_duplex_runs.specs.Cores.{silenceFor, atRest}
-use Rattle.station_runs.specs.Stretches.{between}
+use Rattle.half_duplex_runs.specs.code.Cores.{silenceFor, atRest}
+use Rattle.station_runs.specs.code.Stretches.{between}
 use Rattle.half_duplex_runs.proofs.Laws.{over-quiet}
 use Rattle.station_runs.proofs.Resting.{rests}
 use Rattle.station_runs.proofs.Joining.{between-length, listen-stretch}

@@ -9,7 +9,7 @@ use Rattle.lists.specs.Tables.{tabulate}
 use Rattle.alphabet.specs.declared.Mode.{Mode}
 use Rattle.half_duplex.specs.Line.{partMs}
 use Rattle.half_duplex.specs.Core.{modeIn}
-use Rattle.signal_runs.specs.Levels.{partLevel}
+use Rattle.signal_runs.specs.code.Levels.{partLevel}
 use Rattle.signal_runs.proofs.Parts.{part-most}
 use Rattle.station_runs.proofs.Laws.{left-burst, left-over, gone-over}
 use Rattle.station_runs.proofs.Joining.{send-stretch}

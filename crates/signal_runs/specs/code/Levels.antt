@@ -6,10 +6,10 @@ use lib.Dec.{ltb}
 use lib.ListN.{length, getD}
 use Rattle.alphabet.specs.declared.Mode.{Mode}
 use Rattle.alphabet.specs.declared.Mode.the-variants.{Baudot45, Baudot50, Dtmf, Edt}
-use Rattle.alphabet.specs.Modes.{alphabetOf}
-use Rattle.alphabet.specs.Packing.{codes}
+use Rattle.alphabet.specs.Modes.{alphabetOf, codes}
 use Rattle.signal.specs.Signal.{quiet, levelOf, signal}
-use Rattle.signal.specs.Packing.{longest, edtFrame}
+use Rattle.alphabet.specs.code.Numbers.{longest}
+use Rattle.signal.specs.code.Packing.{edtFrame}
 use Rattle.half_duplex.specs.declared.OnLine.{OnLine}
 use Rattle.half_duplex.specs.Line.{further, levelOn}
 

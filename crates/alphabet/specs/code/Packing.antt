@@ -1,4 +1,4 @@
--- The bounds of codes; how the tables of this crate hold their entries. Above the crate a table is only named, to be lent to a lookup.
+-- How the tables of this crate hold their entries. Above the crate a table is only named, to be lent to a lookup.
 use Prim.Native.Nat.{ℕ, _+_, _*_, _/_, _%_}
 use mathlib.Core.Bool.{cond}
 use mathlib.Core.List.{List, [], _∷_, _++_}
@@ -15,12 +15,6 @@ use Rattle.alphabet.specs.Baudot.{readBaudot}
 use Rattle.alphabet.specs.Dtmf.{readDtmf, prefixes}
 use Rattle.alphabet.specs.Print.{keys}
 use Rattle.alphabet.specs.Normal.{sends}
-
--- an alphabet's codes are below this
-abbrev pub codes : Alphabet → ℕ
-codes Baudot = 32
-codes Dtmf = 256
-codes Edt = 128
 
 -- where an alphabet's entries begin
 abbrev pub base : Alphabet → ℕ
