@@ -1,10 +1,10 @@
 // Cores after some ms that go alike.
+use baudot::Sender;
+use frames::Frame;
 use half_duplex::Core;
 use half_duplex::Loaded;
 use half_duplex::OnLine;
 use half_duplex::sending;
-use baudot::Sender;
-use frames::Frame;
 use keys::Keys;
 use reader::Reader;
 ghost use mathlib.Core.Path.{_≡_};

@@ -1,7 +1,7 @@
 // The levels of a part, written to a slice.
-use half_duplex::OnLine;
 use alphabet::LineCode;
 use alphabet::Mode;
+use half_duplex::OnLine;
 ghost use mathlib.Core.Path.{_≡_};
 ghost use mathlib.Core.Bool.{true};
 ghost use Prim.Native.Nat.{_+_, _-_, _*_, _/_, _%_, _^_, _≤_, _<_};

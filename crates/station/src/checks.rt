@@ -1,10 +1,10 @@
 // Question 1: are the station's numbers in range?
-use half_duplex::Core;
-use half_duplex::OnLine;
 use alphabet::Alphabet;
 use alphabet::Mode;
 use baudot::Sender;
 use frames::Frame;
+use half_duplex::Core;
+use half_duplex::OnLine;
 use keys::Keys;
 use reader::Reader;
 ghost use mathlib.Core.Path.{_≡_};

@@ -1,9 +1,9 @@
 // A station: opening, offers and runs.
-use half_duplex::Core;
-use half_duplex::OnLine;
 use alphabet::Alphabet;
 use alphabet::Mode;
 use baudot::Sender;
+use half_duplex::Core;
+use half_duplex::OnLine;
 use reader::Reader;
 ghost use mathlib.Core.Path.{_≡_};
 ghost use Rattle.alphabet.specs.declared.Alphabet.the-variants.{Baudot};

@@ -1,6 +1,6 @@
 // Running a station: the questions of a run.
-use half_duplex::Core;
 use alphabet::Mode;
+use half_duplex::Core;
 use station::Ran;
 ghost use mathlib.Core.Path.{_≡_};
 ghost use lib.ListN.{length};

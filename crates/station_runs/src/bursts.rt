@@ -1,11 +1,11 @@
 // Whole codes of a burst, one after the other.
 use crate::Stretched;
-use half_duplex::Core;
-use half_duplex::OnLine;
-use half_duplex::sending;
 use alphabet::Char;
 use alphabet::LineCode;
 use alphabet::Mode;
+use half_duplex::Core;
+use half_duplex::OnLine;
+use half_duplex::sending;
 ghost use mathlib.Core.Path.{_≡_};
 ghost use mathlib.Core.Bool.{true, cond, _&&_};
 ghost use mathlib.Core.List.{List};

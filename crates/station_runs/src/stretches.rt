@@ -1,9 +1,9 @@
 // The stretches of a run.
 use crate::Stretched;
+use alphabet::Mode;
 use half_duplex::Core;
 use half_duplex::Loaded;
 use half_duplex::sending;
-use alphabet::Mode;
 ghost use mathlib.Core.Path.{_≡_};
 ghost use mathlib.Core.Bool.{true, false};
 ghost use mathlib.Core.List.{List};
