@@ -1,182 +1,39 @@
--- What a ms starts with is in range, and every ms keeps a core in range.
+-- What a ms starts with is in range, and every ms keeps a core in range: whenever a burst begins and ends.
 use mathlib.Core.Path.{_≡_, refl}
-use mathlib.Core.Bool.{Bool, true, false, cond, not, _&&_, false≢true}
+use mathlib.Core.Bool.{Bool, true, false, cond}
 use Prim.Native.Nat.{ℕ, _+_, _-_, _<_, _≤_}
 use native.Mathlib.Omega.{arith}
-use lib.Dec.{eqb, leb, ltb}
-use lib.ListN.{length}
-use borrow.Author.Tests.{eqb-true, eqb-false, leb-false, ltb-true, not-true}
-use Rattle.lists.proofs.Lists.{either, and-left, and-right}
-use Rattle.alphabet.specs.declared.Alphabet.{Alphabet}
-use Rattle.alphabet.specs.declared.Alphabet.the-variants.{Baudot, Dtmf, Edt}
-use Rattle.alphabet.specs.declared.Mode.{Mode}
-use Rattle.alphabet.specs.declared.Sends.{Sends}
-use Rattle.alphabet.specs.declared.Sends.the-variants.{Nothing, Code}
-use Rattle.alphabet.specs.Modes.{alphabetOf, codes}
-use Rattle.alphabet.specs.Normal.{sends}
-use Rattle.alphabet.proofs.Rule.{leastShift, rule-of}
-use Rattle.baudot.specs.declared.Sender.{Sender}
-use Rattle.baudot.specs.Sending.{sender, differs, wanted, shiftCode, shifted}
+use lib.Dec.{ltb}
+use borrow.Author.Tests.{ltb-true}
+use Rattle.lists.proofs.Lists.{either}
 use Rattle.reader.specs.Reader.{hear, inhibited}
 use Rattle.reader.specs.Range.{ReaderIn}
 use Rattle.reader.proofs.Range.{hear-in, inhibited-in}
+use Rattle.burst.specs.declared.Loaded.{Loaded}
+use Rattle.burst.specs.Rules.{isInhibited, isSilent}
+use Rattle.burst.specs.Line.{inBurst, begun, oneGone}
+use Rattle.burst.proofs.Range.{LoadedIn, begun-in, next-in, gone-in, closed-in, next-takes}
 use Rattle.half_duplex.specs.declared.Core.{Core}
-use Rattle.half_duplex.specs.declared.OnLine.{OnLine}
-use Rattle.half_duplex.specs.declared.Loaded.{Loaded}
-use Rattle.half_duplex.specs.Rules.{mayBegin, isInhibited, isSilent, mayEnd}
-use Rattle.half_duplex.specs.Line.{onLine, idle, inBurst, isCode, partMs, isOver, begun, shiftWanted, senderAfterOwn, loaded, codeBegins, nextCode, oneGone, closed}
-use Rattle.half_duplex.specs.Core.{silenceAfter, modeIn, settled, waitingAfter, coreFrom, coreAfter}
-use Rattle.half_duplex.specs.Range.{LineIn, SenderIn, SendsIn, CoreIn}
+use Rattle.half_duplex.specs.Core.{silenceAfter, modeIn, settledBy, settled, beginsIn, endsIn, waitingAfter, coreFromBy, coreFrom, coreAfter}
+use Rattle.half_duplex.specs.code.Bounds.{CoreIn}
 
-pub record LoadedIn (mode : Mode) (x : Loaded) : Type 0 where
-  pub line-in : LineIn mode (x .line)
-  pub sender-in : SenderIn (x .sender)
-
--- ---- what characters send
-
-some-codes : (a : Alphabet) → 31 < codes a
-some-codes Baudot = omega arith
-some-codes Dtmf = omega arith
-some-codes Edt = omega arith
-
-some-shift : (a : Alphabet) → 1 ≤ leastShift a
-some-shift Baudot = omega arith
-some-shift Dtmf = omega arith
-some-shift Edt = omega arith
-
-pub sends-in : (a : Alphabet) (c : ℕ) → c < 128 → SendsIn a (sends a c)
-sends-in a c h = go (sends a c) refl
-  where
-    go : (x : Sends) → sends a c ≡ x → SendsIn a x
-    go Nothing e = tt
-    go (Code own k) e =
-        let r = rule-of a c h own k e in
-        let l = some-shift a in
-        let m = r .shift-least in
-        record { own-low = omega arith; own-in = r .shift-most; code-in = r .code-in }
-
--- ---- the sending rule
-
-module _ (s : Sender) (own : ℕ) (lo : 1 ≤ own) (hi : own ≤ 3) (i : SenderIn s) where
-  wanted-in : wanted s own ≤ 2
-  unfolding wanted
-  wanted-in = go (eqb (s .shift) 0) (differs own (s .shift)) (leb 72 (s .count)) refl
-    where
-      go : (a b c : Bool) → differs own (s .shift) ≡ b → cond a 1 (cond b own (cond c (s .shift) 0)) ≤ 2
-      go true b c e = omega arith
-      go false true c e =
-          let n = eqb-false own 3 (not-true (eqb own 3) (and-left (not (eqb own 3)) (not (eqb own (s .shift))) e)) in
-          omega (arith, n)
-      go false false true e = i .shift-in
-      go false false false e = omega arith
-
-  none-below : wanted s own ≡ 0 → s .count < 72
-  unfolding wanted
-  none-below = go (eqb (s .shift) 0) refl (differs own (s .shift)) (leb 72 (s .count)) refl
-    where
-      go : (a : Bool) → eqb (s .shift) 0 ≡ a → (b c : Bool) → leb 72 (s .count) ≡ c → cond a 1 (cond b own (cond c (s .shift) 0)) ≡ 0 → s .count < 72
-      go true e b c f z = absurd (omega arith)
-      go false e true c f z = absurd (omega arith)
-      go false e false true f z = absurd (eqb-false (s .shift) 0 e z)
-      go false e false false f z = leb-false 72 (s .count) f
-
-  any-wanted-in : (a : Alphabet) → shiftWanted a s own ≤ 2
-  any-wanted-in Baudot = wanted-in
-  any-wanted-in Dtmf = omega arith
-  any-wanted-in Edt = omega arith
-
-  shifted-in : (w : ℕ) → w ≤ 2 → SenderIn (shifted s w)
-  shifted-in w h = either SenderIn (eqb w 0) s (sender w 0) i (record { shift-in = h; count-in = omega arith })
-
-  own-sender-in : (a : Alphabet) → eqb (shiftWanted a s own) 0 ≡ true → SenderIn (senderAfterOwn a s)
-  own-sender-in Baudot e = let l = none-below (eqb-true (wanted s own) 0 e) in record { shift-in = i .shift-in; count-in = omega arith }
-  own-sender-in Dtmf e = i
-  own-sender-in Edt e = i
-
-shift-code-in : (a : Alphabet) (w : ℕ) → shiftCode w < codes a
-shift-code-in a w = let h = some-codes a in either (λ (n : ℕ). n < codes a) (eqb w 2) 0b11011 0b11111 (omega arith) (omega arith)
-
--- ---- what a ms starts with
-
-start-in : (mode : Mode) (part code : ℕ) → part ≤ 2 → code < codes (alphabetOf mode) → LineIn mode (onLine part code 0)
-start-in mode part code p k = record { part-in = p; code-in = k; at-in = omega arith }
-
-pub blank-in : (mode : Mode) (part : ℕ) → part ≤ 2 → LineIn mode (onLine part 0 0)
-blank-in mode part p = let h = some-codes (alphabetOf mode) in start-in mode part 0 p (omega arith)
-
-module _ (mode : Mode) (l : OnLine) (s : Sender) (i : LineIn mode l) (j : SenderIn s) where
-  pub begins-in : (x : Sends) → SendsIn (alphabetOf mode) x → LoadedIn mode (codeBegins (alphabetOf mode) l s x)
-  unfolding codeBegins
-  begins-in Nothing h = record { line-in = i; sender-in = j }
-  begins-in (Code own k) h = go (eqb w 0) refl
-    where
-      a : Alphabet
-      a = alphabetOf mode
-
-      w : ℕ
-      w = shiftWanted a s own
-
-      go : (b : Bool) → eqb w 0 ≡ b
-          → LoadedIn mode (cond b (loaded (onLine 2 (k .0) 0) (senderAfterOwn a s) true) (loaded (onLine 2 (shiftCode w) 0) (shifted s w) false))
-      go true e = record { line-in = start-in mode 2 (k .0) (omega arith) (h .code-in); sender-in = own-sender-in s own (h .own-low) (h .own-in) j a e }
-      go false e = record {
-        line-in = start-in mode 2 (shiftCode w) (omega arith) (shift-code-in a w);
-        sender-in = shifted-in s own (h .own-low) (h .own-in) j w (any-wanted-in s own (h .own-low) (h .own-in) j a);
-      }
-
-  next-in : (waiting front : ℕ) → (1 ≤ waiting → front < 128) → LoadedIn mode (nextCode mode waiting front l s)
-  unfolding nextCode
-  next-in waiting front h = go (isOver mode l && ltb 0 waiting) refl
-    where
-      a : Alphabet
-      a = alphabetOf mode
-
-      go : (b : Bool) → (isOver mode l && ltb 0 waiting) ≡ b → LoadedIn mode (cond b (codeBegins a l s (sends a front)) (loaded l s false))
-      go true e =
-          let n = ltb-true 0 waiting (and-right (isOver mode l) (ltb 0 waiting) e) in
-          begins-in (sends a front) (sends-in a front (h (omega arith)))
-      go false e = record { line-in = i; sender-in = j }
-
-begun-in : (mode : Mode) (may : Bool) (l : OnLine) → LineIn mode l → LineIn mode (begun may l)
-unfolding begun
-begun-in mode may l i = either (LineIn mode) (may && not (inBurst l)) (onLine 1 0 0) l (blank-in mode 1 (omega arith)) i
+pub settled-by-in : (begins : Bool) (c : Core) (front : ℕ) → CoreIn c → (1 ≤ c .waiting → front < 128)
+    → LoadedIn (modeIn c) (settledBy begins c front)
+settled-by-in begins c front i h =
+    let l = begun begins (c .line) in
+    next-in (modeIn c) l (c .sender) (begun-in (modeIn c) begins (c .line) (i .line-in)) (i .sender-in) (c .waiting) front h
 
 pub settled-in : (c : Core) (front : ℕ) → CoreIn c → (1 ≤ c .waiting → front < 128) → LoadedIn (modeIn c) (settled c front)
 unfolding settled
-settled-in c front i h =
-    let may = mayBegin (c .waiting) (c .silence) in
-    next-in (modeIn c) (begun may (c .line)) (c .sender) (begun-in (modeIn c) may (c .line) (i .line-in)) (i .sender-in) (c .waiting) front h
+settled-in c front i h = settled-by-in (beginsIn c) c front i h
 
 -- one that is taken waits
+pub takes-waiting-by : (begins : Bool) (c : Core) (front : ℕ) → settledBy begins c front .takes ≡ true → 1 ≤ c .waiting
+takes-waiting-by begins c front = next-takes (modeIn c) (c .waiting) front (begun begins (c .line)) (c .sender)
+
 pub takes-waiting : (c : Core) (front : ℕ) → settled c front .takes ≡ true → 1 ≤ c .waiting
-unfolding settled nextCode
-takes-waiting c front = go (isOver (modeIn c) l && ltb 0 (c .waiting)) refl
-  where
-    l : OnLine
-    l = begun (mayBegin (c .waiting) (c .silence)) (c .line)
-
-    x : Loaded
-    x = codeBegins (alphabetOf (modeIn c)) l (c .sender) (sends (alphabetOf (modeIn c)) front)
-
-    go : (b : Bool) → (isOver (modeIn c) l && ltb 0 (c .waiting)) ≡ b → cond b x (loaded l (c .sender) false) .takes ≡ true → 1 ≤ c .waiting
-    go true e t = let n = ltb-true 0 (c .waiting) (and-right (isOver (modeIn c) l) (ltb 0 (c .waiting)) e) in omega arith
-    go false e t = absurd (false≢true t)
-
--- ---- after a ms
-
-gone-in : (mode : Mode) (l : OnLine) → LineIn mode l → LineIn mode (oneGone mode l)
-unfolding oneGone partMs
-gone-in mode l i = go (ltb (l .at) (length (partMs mode l))) refl
-  where
-    go : (b : Bool) → ltb (l .at) (length (partMs mode l)) ≡ b → LineIn mode (cond b (onLine (l .part) (l .code) (l .at + 1)) l)
-    go true e =
-        let n = ltb-true (l .at) (length (partMs mode l)) e in
-        record { part-in = i .part-in; code-in = i .code-in; at-in = omega arith }
-    go false e = i
-
-closed-in : (mode : Mode) (waiting : ℕ) (l : OnLine) → LineIn mode l → LineIn mode (closed mode waiting l)
-unfolding closed
-closed-in mode waiting l i = either (LineIn mode) (isOver mode l && mayEnd (isCode l) waiting) idle l (blank-in mode 0 (omega arith)) i
+unfolding settled
+takes-waiting c front = takes-waiting-by (beginsIn c) c front
 
 silence-after-in : (silent : Bool) (n : ℕ) → n ≤ 300 → silenceAfter silent n ≤ 300
 unfolding silenceAfter
@@ -187,22 +44,30 @@ silence-after-in true n h = go (ltb n 300) refl
     go true e = let l = ltb-true n 300 e in omega arith
     go false e = h
 
-pub core-from-in : (c : Core) (l : Loaded) (heard : ℕ) → heard ≤ 16 → CoreIn c → LoadedIn (modeIn c) l → CoreIn (coreFrom c l heard)
-unfolding coreFrom
-core-from-in c l heard h i j =
+pub core-from-by-in : (ends : Bool) (c : Core) (l : Loaded) (heard : ℕ) → heard ≤ 16 → CoreIn c → LoadedIn (modeIn c) l
+    → CoreIn (coreFromBy ends c l heard)
+core-from-by-in ends c l heard h i j =
     let mode = modeIn c in
     let burst = inBurst (l .line) in
     let deaf = isInhibited burst (c .inhibited) in
     let w = i .waiting-in in
     let n = i .inhibited-in in
+    let r = i .reader-in in
     record {
       waiting-in = either (λ (m : ℕ). m ≤ 256) (l .takes) (c .waiting - 1) (c .waiting) (omega arith) w;
       silence-in = silence-after-in (isSilent deaf heard) (c .silence) (i .silence-in);
       inhibited-in = either (λ (m : ℕ). m ≤ 300) burst 300 (c .inhibited - 1) (omega arith) (omega arith);
-      line-in = closed-in mode (waitingAfter (l .takes) (c .waiting)) (oneGone mode (l .line)) (gone-in mode (l .line) (j .line-in));
+      line-in = closed-in mode ends (oneGone mode (l .line)) (gone-in mode (l .line) (j .line-in));
       sender-in = j .sender-in;
-      reader-in = either (ReaderIn mode) deaf (inhibited (c .reader)) (hear mode (c .reader) heard .reader) (inhibited-in mode (c .reader) (i .reader-in)) (hear-in mode (c .reader) heard h (i .reader-in));
+      reader-in =
+          either (ReaderIn mode) deaf (inhibited (c .reader)) (hear mode (c .reader) heard .reader)
+          (inhibited-in mode (c .reader) r) (hear-in mode (c .reader) heard h r);
     }
 
-pub core-after-in : (c : Core) (front heard : ℕ) → heard ≤ 16 → (1 ≤ c .waiting → front < 128) → CoreIn c → CoreIn (coreAfter c front heard)
+pub core-from-in : (c : Core) (l : Loaded) (heard : ℕ) → heard ≤ 16 → CoreIn c → LoadedIn (modeIn c) l → CoreIn (coreFrom c l heard)
+unfolding coreFrom
+core-from-in c l heard h i j = core-from-by-in (endsIn c l) c l heard h i j
+
+pub core-after-in : (c : Core) (front heard : ℕ) → heard ≤ 16 → (1 ≤ c .waiting → front < 128) → CoreIn c
+    → CoreIn (coreAfter c front heard)
 core-after-in c front heard h f i = core-from-in c (settled c front) heard h i (settled-in c front i f)

@@ -10,12 +10,12 @@ use Rattle.reader.specs.declared.Event.{Event}
 use Rattle.reader.specs.declared.Event.the-variants.{Nothing}
 use Rattle.reader.specs.declared.Reader.{Reader}
 use Rattle.reader.specs.Reader.{fresh as freshReader, hear, inhibited}
+use Rattle.burst.specs.declared.OnLine.{OnLine}
+use Rattle.burst.specs.declared.Loaded.{Loaded}
+use Rattle.burst.specs.Rules.{freeMs, mayBegin, mayEnd, isInhibited, inhibitedAfter, isSilent}
+use Rattle.burst.specs.Line.{idle, inBurst, begun, nextCode, levelOn, oneGone, closed}
 use Rattle.half_duplex.specs.declared.Core.{Core}
-use Rattle.half_duplex.specs.declared.OnLine.{OnLine}
-use Rattle.half_duplex.specs.declared.Loaded.{Loaded}
 use Rattle.half_duplex.specs.declared.Stepped.{Stepped}
-use Rattle.half_duplex.specs.Rules.{freeMs, mayBegin, isInhibited, inhibitedAfter, isSilent}
-use Rattle.half_duplex.specs.Line.{idle, inBurst, begun, nextCode, levelOn, oneGone, closed}
 
 -- How many wait, the silence (in ms, up to 300), the inhibited ms to come, what is on the line, the sender, the reader, the
 -- mode's number.
@@ -48,9 +48,51 @@ eventMs mode isInhibited r heard = cond isInhibited Nothing (hear mode r heard .
 abbrev pub modeIn : Core → Mode
 modeIn c = modeOf (c .mode)
 
--- Within each ms, sending is settled first.
+-- A ms is told when a burst begins and ends: `begins`, one is to begin now if there is none; `ends`, this one is to end with
+-- this code. Within each ms, sending is settled first.
+abbrev pub settledBy : Bool → Core → ℕ → Loaded
+settledBy begins c front = nextCode (modeIn c) (c .waiting) front (begun begins (c .line)) (c .sender)
+
+-- One character fewer waits if it is taken.
+abbrev pub waitingAfter : Bool → ℕ → ℕ
+waitingAfter takes waiting = cond takes (waiting - 1) waiting
+
+-- The core after what a ms starts with.
+abbrev pub coreFromBy : Bool → Core → Loaded → ℕ → Core
+coreFromBy ends c l heard =
+    let burst = inBurst (l .line) in
+    let deaf = isInhibited burst (c .inhibited) in
+    core (waitingAfter (l .takes) (c .waiting))
+    (silenceAfter (isSilent deaf heard) (c .silence))
+    (inhibitedAfter burst (c .inhibited))
+    (closed (modeIn c) ends (oneGone (modeIn c) (l .line)))
+    (l .sender)
+    (readerMs (modeIn c) deaf (c .reader) heard)
+    (c .mode)
+
+-- All that a ms does, after what it starts with.
+abbrev pub steppedBy : Bool → Core → Loaded → ℕ → Stepped
+steppedBy ends c l heard = record {
+  core = coreFromBy ends c l heard;
+  sent = levelOn (modeIn c) (l .line);
+  event = eventMs (modeIn c) (isInhibited (inBurst (l .line)) (c .inhibited)) (c .reader) heard;
+}
+
+-- A station by itself: a burst begins if characters wait and the line is free, and ends if none waits after the ms.
+abbrev pub beginsIn : Core → Bool
+beginsIn c = mayBegin (c .waiting) (c .silence)
+
+abbrev pub endsIn : Core → Loaded → Bool
+endsIn c l = mayEnd (waitingAfter (l .takes) (c .waiting))
+
 unfoldable pub settled : Core → ℕ → Loaded
-settled c front = nextCode (modeIn c) (c .waiting) front (begun (mayBegin (c .waiting) (c .silence)) (c .line)) (c .sender)
+settled c front = settledBy (beginsIn c) c front
+
+unfoldable pub coreFrom : Core → Loaded → ℕ → Core
+coreFrom c l heard = coreFromBy (endsIn c l) c l heard
+
+abbrev pub stepped : Core → Loaded → ℕ → Stepped
+stepped c l heard = steppedBy (endsIn c l) c l heard
 
 -- What is sent in the ms, and whether it is inhibited.
 abbrev pub sentIn : Core → ℕ → ℕ
@@ -63,32 +105,6 @@ inhibitedIn c front = isInhibited (inBurst (settled c front .line)) (c .inhibite
 abbrev pub eventIn : Core → ℕ → ℕ → Event
 eventIn c front heard = eventMs (modeIn c) (inhibitedIn c front) (c .reader) heard
 
--- One character fewer waits if it is taken.
-abbrev pub waitingAfter : Bool → ℕ → ℕ
-waitingAfter takes waiting = cond takes (waiting - 1) waiting
-
--- The core after what a ms starts with.
-unfoldable pub coreFrom : Core → Loaded → ℕ → Core
-coreFrom c l heard =
-    let burst = inBurst (l .line) in
-    let deaf = isInhibited burst (c .inhibited) in
-    let waiting = waitingAfter (l .takes) (c .waiting) in
-    core waiting
-    (silenceAfter (isSilent deaf heard) (c .silence))
-    (inhibitedAfter burst (c .inhibited))
-    (closed (modeIn c) waiting (oneGone (modeIn c) (l .line)))
-    (l .sender)
-    (readerMs (modeIn c) deaf (c .reader) heard)
-    (c .mode)
-
 -- The core after a ms.
 abbrev pub coreAfter : Core → ℕ → ℕ → Core
 coreAfter c front heard = coreFrom c (settled c front) heard
-
--- All that a ms does, after what it starts with.
-abbrev pub stepped : Core → Loaded → ℕ → Stepped
-stepped c l heard = record {
-  core = coreFrom c l heard;
-  sent = levelOn (modeIn c) (l .line);
-  event = eventMs (modeIn c) (isInhibited (inBurst (l .line)) (c .inhibited)) (c .reader) heard;
-}

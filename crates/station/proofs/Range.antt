@@ -85,30 +85,6 @@ reader-is : (mode : Mode) (r : Reader) → ReaderIn mode r → readerIn mode r �
 reader-is mode r h =
     rw (frame-is mode (r .frame) (h .frame-in), keys-are (r .keys) (h .keys-in), le-leb 1 (r .shift) (h .shift-low), le-leb (r .shift) 2 (h .shift-in), le-leb (r .prefix) 15 (h .prefix-in)) refl
 
-line-in : (mode : Mode) (l : OnLine) → lineIn mode l ≡ true → LineIn mode l
-line-in mode l e =
-    let a = leb (l .part) 2 in
-    let b = ltb (l .code) (codes (alphabetOf mode)) in
-    let c = leb (l .at) (length (partMs mode l)) in
-    let ab = and-left (a && b) c e in
-    record {
-      part-in = leb-true (l .part) 2 (and-left a b ab);
-      code-in = ltb-true (l .code) (codes (alphabetOf mode)) (and-right a b ab);
-      at-in = leb-true (l .at) (length (partMs mode l)) (and-right (a && b) c e);
-    }
-
-line-is : (mode : Mode) (l : OnLine) → LineIn mode l → lineIn mode l ≡ true
-line-is mode l h = rw (le-leb (l .part) 2 (h .part-in), lt-ltb (l .code) (codes (alphabetOf mode)) (h .code-in), le-leb (l .at) (length (partMs mode l)) (h .at-in)) refl
-
-sender-in : (s : Sender) → senderIn s ≡ true → SenderIn s
-sender-in s e =
-    let a = leb (s .shift) 2 in
-    let b = leb (s .count) 72 in
-    record { shift-in = leb-true (s .shift) 2 (and-left a b e); count-in = leb-true (s .count) 72 (and-right a b e) }
-
-sender-is : (s : Sender) → SenderIn s → senderIn s ≡ true
-sender-is s h = rw (le-leb (s .shift) 2 (h .shift-in), le-leb (s .count) 72 (h .count-in)) refl
-
 -- the facts that question 1 stands for
 pub record StationIn (s : Station) : Type 0 where
   pub core-in : CoreIn (s .core)

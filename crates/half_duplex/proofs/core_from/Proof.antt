@@ -1,15 +1,14 @@
 -- `core_from` meets its contract.
 use mathlib.Core.Path.{_∙_, sym, subst}
 use Rattle.alphabet.specs.declared.Mode.{Mode}
-use Rattle.half_duplex.specs.Core.{coreFrom}
-use Rattle.half_duplex.specs.Range.{LineIn}
+use Rattle.burst.specs.code.Bounds.{LineIn}
 use borrow.Author.Needs.{needs}
 use Rattle.half_duplex.proofs.core_from.Statement.{statement}
 use Rattle.half_duplex.proofs.core_from.Tie as tie
-use Rattle.half_duplex.proofs.inhibited_after.Reads as inhibited-after-reads
-use Rattle.half_duplex.proofs.is_inhibited.Reads as is-inhibited-reads
-use Rattle.half_duplex.proofs.is_silent.Reads as is-silent-reads
-use Rattle.half_duplex.proofs.sending.line_after.Reads as line-after-reads
+use Rattle.burst.proofs.rules.inhibited_after.Reads as inhibited-after-reads
+use Rattle.burst.proofs.rules.is_inhibited.Reads as is-inhibited-reads
+use Rattle.burst.proofs.rules.is_silent.Reads as is-silent-reads
+use Rattle.burst.proofs.line_after.Reads as line-after-reads
 use Rattle.half_duplex.proofs.silence_after.Reads as silence-after-reads
 use Rattle.half_duplex.proofs.waiting_after.Reads as waiting-after-reads
 use Rattle.alphabet.proofs.Mode.of.Reads as of-reads
@@ -37,8 +36,12 @@ line-after-requires c κs = let s = c .before .before .before .before .before .b
     subst (λ (m : Mode). LineIn m (s .args .l .line)) (sym (c .of .ensures)) (s .pre .0)
 
 returns : tie.Need-returns
-unfolding coreFrom
-returns c = simp (c .line-after .ensures, c .before .of .ensures, c .before .before .inhibited-after .ensures, c .before .before .before .silence-after .ensures, c .before .before .before .before .is-silent .ensures, c .before .before .before .before .before .before .waiting-after .ensures, c .before .before .before .before .before .before .before .is-inhibited .ensures, c .before .before .before .before .before .before .before .before .before .before .pre .1)
+returns c =
+    let deaf = c .before .before .before .before .before .before .before in
+    simp (c .line-after .ensures, c .before .of .ensures, c .before .before .inhibited-after .ensures,
+      c .before .before .before .silence-after .ensures, c .before .before .before .before .is-silent .ensures,
+      c .before .before .before .before .before .waiting-after .ensures, deaf .is-inhibited .ensures,
+      deaf .before .before .before .pre .1)
 
 pub core-from-spec : {M : Type 1} → statement M
 core-from-spec =

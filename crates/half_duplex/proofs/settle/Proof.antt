@@ -1,30 +1,21 @@
 -- `settle` meets its contract.
-use mathlib.Core.Path.{_∙_}
+use mathlib.Core.Path.{refl}
 use Rattle.half_duplex.specs.Core.{settled}
 use borrow.Author.Needs.{needs}
 use Rattle.half_duplex.proofs.settle.Statement.{statement}
 use Rattle.half_duplex.proofs.settle.Tie as tie
-use Rattle.half_duplex.proofs.may_begin.Reads as may-begin-reads
-use Rattle.half_duplex.proofs.sending.begun.Reads as begun-reads
-use Rattle.half_duplex.proofs.sending.next_code.Reads as next-code-reads
-use Rattle.alphabet.proofs.Mode.of.Reads as of-reads
+use Rattle.half_duplex.proofs.settle_by.Reads as settle-by-reads
+use Rattle.burst.proofs.rules.may_begin.Reads as may-begin-reads
 
 may-begin-requires : tie.Need-may-begin-requires
 may-begin-requires c κs = search needs
 
-begun-requires : tie.Need-begun-requires
-begun-requires c κs = search needs
-
-of-requires : tie.Need-of-requires
-of-requires c κs = search needs
-
-next-code-requires : tie.Need-next-code-requires
-next-code-requires c κs = search needs
+settle-by-requires : tie.Need-settle-by-requires
+settle-by-requires c κs = search needs
 
 returns : tie.Need-returns
 unfolding settled
-returns c = c .next-code .ensures ∙ simp (c .before .of .ensures, c .before .before .before .begun .ensures, c .before .before .before .before .may-begin .ensures)
+returns c = rw (c .settle-by .ensures, c .before .may-begin .ensures) refl
 
 pub settle-spec : {M : Type 1} → statement M
-settle-spec =
-    tie.close (tie.spec may-begin-requires begun-requires of-requires next-code-requires returns)
+settle-spec = tie.close (tie.spec may-begin-requires settle-by-requires returns)

@@ -1,38 +1,24 @@
 -- `step` meets its contract.
+use mathlib.Core.Path.{refl}
+use Rattle.half_duplex.specs.Core.{coreFrom}
 use borrow.Author.Needs.{needs}
 use Rattle.half_duplex.proofs.step.Statement.{statement}
 use Rattle.half_duplex.proofs.step.Tie as tie
-use Rattle.half_duplex.proofs.core_from.Reads as core-from-reads
-use Rattle.half_duplex.proofs.is_inhibited.Reads as is-inhibited-reads
-use Rattle.half_duplex.proofs.read.Reads as read-reads
-use Rattle.half_duplex.proofs.sending.level_on.Reads as level-on-reads
-use Rattle.alphabet.proofs.Mode.of.Reads as of-reads
+use Rattle.half_duplex.proofs.step_by.Reads as step-by-reads
+use Rattle.half_duplex.proofs.waiting_after.Reads as waiting-after-reads
+use Rattle.burst.proofs.rules.may_end.Reads as may-end-reads
 
-of-requires : tie.Need-of-requires
-of-requires c κs = search needs
+waiting-after-requires : tie.Need-waiting-after-requires
+waiting-after-requires c κs = search needs
 
-level-on-requires : tie.Need-level-on-requires
-level-on-requires c κs = simp (c .of .ensures) (c .before .before .pre .1)
+may-end-requires : tie.Need-may-end-requires
+may-end-requires c κs = search needs
 
-is-inhibited-requires : tie.Need-is-inhibited-requires
-is-inhibited-requires c κs = search needs
-
-read-requires : tie.Need-read-requires
-read-requires c κs = simp (c .before .before .before .before .of .ensures) (c .before .before .before .before .before .before .pre .0 .reader-in)
-
-core-from-requires : tie.Need-core-from-requires
-core-from-requires c κs = (c .before .before .before .before .before .before .before .before .pre .1, simp (c .before .read .ensures, c .before .before .is-inhibited .ensures, c .before .before .before .before .before .before .of .ensures))
+step-by-requires : tie.Need-step-by-requires
+step-by-requires c κs = search needs
 
 returns : tie.Need-returns
-returns c = simp (c .core-from .ensures, c .before .before .read .ensures, c .before .before .before .is-inhibited .ensures, c .before .before .before .before .before .before .level-on .ensures, c .before .before .before .before .before .before .before .of .ensures)
+returns c = rw (c .step-by .ensures, c .before .may-end .ensures, c .before .before .waiting-after .ensures) refl
 
 pub step-spec : {M : Type 1} → statement M
-step-spec =
-    tie.close
-    (tie.spec
-    of-requires
-    level-on-requires
-    is-inhibited-requires
-    read-requires
-    core-from-requires
-    returns)
+step-spec = tie.close (tie.spec waiting-after-requires may-end-requires step-by-requires returns)

@@ -1,0 +1,127 @@
+-- What the functions of this crate need of the definitions.
+use mathlib.Core.Path.{_≡_, _∙_, refl, ap}
+use mathlib.Core.Bool.{Bool, true, false, _&&_}
+use mathlib.Core.List.{List, [], _∷_}
+use Prim.Native.Nat.{ℕ, zero, suc, _+_, _≤_, _<_}
+use native.Mathlib.Omega.{arith}
+use lib.Dec.{eqb}
+use lib.ListN.{length, getD, length-replicate, getD-replicate}
+use borrow.Author.Tests.{eqb-true, eqb-false, ne-eqb, lt-ltb, le-ltb}
+use Rattle.alphabet.specs.declared.Alphabet.{Alphabet}
+use Rattle.alphabet.specs.declared.Mode.{Mode}
+use Rattle.alphabet.specs.declared.Mode.the-variants.{Baudot45, Baudot50, Dtmf, Edt}
+use Rattle.alphabet.specs.declared.Sends.{Sends}
+use Rattle.alphabet.specs.declared.Sends.the-variants.{Nothing, Code}
+use Rattle.alphabet.specs.declared.LineCode.{LineCode}
+use Rattle.alphabet.specs.Modes.{preambleOf, alphabetOf}
+use Rattle.alphabet.specs.Normal.{sends}
+use Rattle.signal.specs.Signal.{signal, preamble}
+use Rattle.alphabet.specs.code.Numbers.{longest}
+use Rattle.signal.proofs.Lengths.{baudot-165, baudot-150, edt-100, dtmf-120, four-keys}
+use Rattle.baudot.specs.declared.Sender.{Sender}
+use Rattle.baudot.specs.Sending.{sender, shiftCode}
+use Rattle.burst.specs.declared.OnLine.{OnLine}
+use Rattle.burst.specs.Rules.{shiftWanted, senderAfterOwn}
+use Rattle.burst.specs.Line.{onLine, further, idle, isCode, partMs, isOver, loaded, codeBegins, nextCode, levelOn, oneGone, closed}
+
+-- behind the end of a list
+getD-over : (l : List ℕ) (n : ℕ) → length l ≤ n → getD l n 0 ≡ 0
+getD-over [] n h = refl
+getD-over (x ∷ l) zero h = absurd (omega arith)
+getD-over (x ∷ l) (suc n) h = getD-over l n (omega arith)
+
+module _ (mode : Mode) (l : OnLine) where
+  pub level-over : length (partMs mode l) ≤ l .at → levelOn mode l ≡ 0
+  unfolding levelOn
+  level-over h = getD-over (partMs mode l) (l .at) h
+
+  preamble-is : l .part ≡ 1 → partMs mode l ≡ preamble mode
+  unfolding partMs
+  preamble-is e = rw e refl
+
+  code-is : l .part ≡ 2 → partMs mode l ≡ signal mode (l .code .0)
+  unfolding partMs
+  code-is e = rw e refl
+
+  none-is : l .part ≡ 0 → partMs mode l ≡ []
+  unfolding partMs
+  none-is e = rw e refl
+
+  pub level-preamble : l .part ≡ 1 → l .at < length (partMs mode l) → levelOn mode l ≡ 1
+  unfolding levelOn
+  level-preamble e h =
+      let p = preamble-is e in
+      let n = ap length p ∙ length-replicate {A = ℕ} (preambleOf mode) 1 in
+      ap (λ (ms : List ℕ). getD ms (l .at) 0) p ∙ getD-replicate {A = ℕ} (preambleOf mode) (l .at) 1 0 (omega arith)
+
+  -- a part that has ms left, and is not the preamble, is a code
+  pub code-part : l .part ≤ 2 → (l .part ≡ 1 → ⊥) → l .at < length (partMs mode l) → l .part ≡ 2
+  code-part h n a = go (eqb (l .part) 0) refl
+    where
+      go : (b : Bool) → eqb (l .part) 0 ≡ b → l .part ≡ 2
+      go true e = let z = ap length (none-is (eqb-true (l .part) 0 e)) in absurd (omega arith)
+      go false e = let z = eqb-false (l .part) 0 e in omega arith
+
+  pub level-code : l .part ≡ 2 → levelOn mode l ≡ getD (signal mode (l .code .0)) (l .at) 0
+  unfolding levelOn
+  level-code e = ap (λ (ms : List ℕ). getD ms (l .at) 0) (code-is e)
+
+  pub code-ms : l .part ≡ 2 → length (partMs mode l) ≡ length (signal mode (l .code .0))
+  code-ms e = ap length (code-is e)
+
+-- no signal is longer than the longest of its mode
+pub within : (mode : Mode) (k : ℕ) → k < 256 → length (signal mode k) ≤ longest mode
+within Baudot45 k h = let n = baudot-165 k in omega arith
+within Baudot50 k h = let n = baudot-150 k in omega arith
+within Dtmf k h = let n = dtmf-120 k in let f = four-keys k h in omega arith
+within Edt k h = let n = edt-100 k in omega arith
+
+-- the code that begins: none, an own code, a shift code
+module _ (a : Alphabet) (l : OnLine) (s : Sender) where
+  pub no-code : (x : Sends) → x ≡ Nothing → codeBegins a l s x ≡ loaded l s true
+  unfolding codeBegins
+  no-code x e = rw e refl
+
+  module _ (x : Sends) (own : ℕ) (k : LineCode) (e : x ≡ Code own k) where
+    pub own-code : shiftWanted a s own ≡ 0 → codeBegins a l s x ≡ loaded (onLine 2 (k .0) 0) (senderAfterOwn a s) true
+    unfolding codeBegins
+    own-code w = rw (e, w) refl
+
+    pub shift-code : (shiftWanted a s own ≡ 0 → ⊥) → codeBegins a l s x ≡ loaded (onLine 2 (shiftCode (shiftWanted a s own)) 0) (sender (shiftWanted a s own) 0) false
+    unfolding codeBegins
+    shift-code n = rw (e, ne-eqb (shiftWanted a s own) 0 n) refl
+
+and-false : (b : Bool) → (b && false) ≡ false
+and-false true = refl
+and-false false = refl
+
+module _ (mode : Mode) (waiting front : ℕ) (l : OnLine) (s : Sender) where
+  pub none-waits : waiting ≡ 0 → nextCode mode waiting front l s ≡ loaded l s false
+  unfolding nextCode
+  none-waits e = rw (le-ltb 0 waiting (omega arith), and-false) refl
+
+  pub not-over : isOver mode l ≡ false → nextCode mode waiting front l s ≡ loaded l s false
+  unfolding nextCode
+  not-over e = rw e refl
+
+  pub code-next : (waiting ≡ 0 → ⊥) → isOver mode l ≡ true → nextCode mode waiting front l s ≡ codeBegins (alphabetOf mode) l s (sends (alphabetOf mode) front)
+  unfolding nextCode
+  code-next n e = rw (e, lt-ltb 0 waiting (omega arith)) refl
+
+-- one ms gone, and the end of a burst
+module _ (mode : Mode) (l : OnLine) where
+  pub gone-none : length (partMs mode l) ≤ l .at → oneGone mode l ≡ l
+  unfolding oneGone
+  gone-none h = rw (le-ltb (l .at) (length (partMs mode l)) h) refl
+
+  pub gone-one : l .at < length (partMs mode l) → oneGone mode l ≡ further l 1
+  unfolding oneGone
+  gone-one h = rw (lt-ltb (l .at) (length (partMs mode l)) h) refl
+
+  pub stays-left : (ends : Bool) → isOver mode l ≡ false → closed mode ends l ≡ l
+  unfolding closed
+  stays-left ends e = rw e refl
+
+  pub ends-over : isOver mode l ≡ true → isCode l ≡ true → closed mode true l ≡ idle
+  unfolding closed
+  ends-over e f = rw (e, f) refl

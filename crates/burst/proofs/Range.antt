@@ -1,0 +1,192 @@
+-- What a ms starts with is in range, and every ms keeps what is on the line in range.
+use mathlib.Core.Path.{_≡_, refl}
+use mathlib.Core.Bool.{Bool, true, false, cond, not, _&&_, false≢true}
+use Prim.Native.Nat.{ℕ, _+_, _<_, _≤_}
+use native.Mathlib.Omega.{arith}
+use lib.Dec.{eqb, leb, ltb}
+use lib.ListN.{length}
+use borrow.Author.Tests.{eqb-true, eqb-false, leb-true, leb-false, ltb-true, le-leb, lt-ltb, not-true}
+use Rattle.lists.proofs.Lists.{either, and-left, and-right}
+use Rattle.alphabet.specs.declared.Alphabet.{Alphabet}
+use Rattle.alphabet.specs.declared.Alphabet.the-variants.{Baudot, Dtmf, Edt}
+use Rattle.alphabet.specs.declared.Mode.{Mode}
+use Rattle.alphabet.specs.declared.Sends.{Sends}
+use Rattle.alphabet.specs.declared.Sends.the-variants.{Nothing, Code}
+use Rattle.alphabet.specs.Modes.{alphabetOf, codes}
+use Rattle.alphabet.specs.Normal.{sends}
+use Rattle.alphabet.proofs.Rule.{leastShift, rule-of}
+use Rattle.baudot.specs.declared.Sender.{Sender}
+use Rattle.baudot.specs.Sending.{sender, differs, wanted, shiftCode, shifted, inRange as senderIn}
+use Rattle.burst.specs.declared.OnLine.{OnLine}
+use Rattle.burst.specs.declared.Loaded.{Loaded}
+use Rattle.burst.specs.Rules.{shiftWanted, senderAfterOwn}
+use Rattle.burst.specs.Line.{onLine, further, idle, inBurst, isCode, partMs, isOver, begun, loaded, codeBegins, nextCode, oneGone, closed}
+use Rattle.burst.specs.Range.{lineIn}
+use Rattle.burst.specs.code.Bounds.{LineIn, SenderIn, SendsIn}
+
+-- ---- question 1 in facts
+
+pub line-in : (mode : Mode) (l : OnLine) → lineIn mode l ≡ true → LineIn mode l
+line-in mode l e =
+    let a = leb (l .part) 2 in
+    let b = ltb (l .code .0) (codes (alphabetOf mode)) in
+    let c = leb (l .at) (length (partMs mode l)) in
+    let ab = and-left (a && b) c e in
+    record {
+      part-in = leb-true (l .part) 2 (and-left a b ab);
+      code-in = ltb-true (l .code .0) (codes (alphabetOf mode)) (and-right a b ab);
+      at-in = leb-true (l .at) (length (partMs mode l)) (and-right (a && b) c e);
+    }
+
+pub line-is : (mode : Mode) (l : OnLine) → LineIn mode l → lineIn mode l ≡ true
+line-is mode l h = rw (le-leb (l .part) 2 (h .part-in), lt-ltb (l .code .0) (codes (alphabetOf mode)) (h .code-in), le-leb (l .at) (length (partMs mode l)) (h .at-in)) refl
+
+pub sender-in : (s : Sender) → senderIn s ≡ true → SenderIn s
+sender-in s e =
+    let a = leb (s .shift) 2 in
+    let b = leb (s .count) 72 in
+    record { shift-in = leb-true (s .shift) 2 (and-left a b e); count-in = leb-true (s .count) 72 (and-right a b e) }
+
+pub sender-is : (s : Sender) → SenderIn s → senderIn s ≡ true
+sender-is s h = rw (le-leb (s .shift) 2 (h .shift-in), le-leb (s .count) 72 (h .count-in)) refl
+
+pub record LoadedIn (mode : Mode) (x : Loaded) : Type 0 where
+  pub line-in : LineIn mode (x .line)
+  pub sender-in : SenderIn (x .sender)
+
+-- ---- what characters send
+
+some-codes : (a : Alphabet) → 31 < codes a
+some-codes Baudot = omega arith
+some-codes Dtmf = omega arith
+some-codes Edt = omega arith
+
+some-shift : (a : Alphabet) → 1 ≤ leastShift a
+some-shift Baudot = omega arith
+some-shift Dtmf = omega arith
+some-shift Edt = omega arith
+
+pub sends-in : (a : Alphabet) (c : ℕ) → c < 128 → SendsIn a (sends a c)
+sends-in a c h = go (sends a c) refl
+  where
+    go : (x : Sends) → sends a c ≡ x → SendsIn a x
+    go Nothing e = tt
+    go (Code own k) e =
+        let r = rule-of a c h own k e in
+        let l = some-shift a in
+        let m = r .shift-least in
+        record { own-low = omega arith; own-in = r .shift-most; code-in = r .code-in }
+
+-- ---- the sending rule
+
+module _ (s : Sender) (own : ℕ) (lo : 1 ≤ own) (hi : own ≤ 3) (i : SenderIn s) where
+  wanted-in : wanted s own ≤ 2
+  unfolding wanted
+  wanted-in = go (eqb (s .shift) 0) (differs own (s .shift)) (leb 72 (s .count)) refl
+    where
+      go : (a b c : Bool) → differs own (s .shift) ≡ b → cond a 1 (cond b own (cond c (s .shift) 0)) ≤ 2
+      go true b c e = omega arith
+      go false true c e =
+          let n = eqb-false own 3 (not-true (eqb own 3) (and-left (not (eqb own 3)) (not (eqb own (s .shift))) e)) in
+          omega (arith, n)
+      go false false true e = i .shift-in
+      go false false false e = omega arith
+
+  none-below : wanted s own ≡ 0 → s .count < 72
+  unfolding wanted
+  none-below = go (eqb (s .shift) 0) refl (differs own (s .shift)) (leb 72 (s .count)) refl
+    where
+      go : (a : Bool) → eqb (s .shift) 0 ≡ a → (b c : Bool) → leb 72 (s .count) ≡ c → cond a 1 (cond b own (cond c (s .shift) 0)) ≡ 0 → s .count < 72
+      go true e b c f z = absurd (omega arith)
+      go false e true c f z = absurd (omega arith)
+      go false e false true f z = absurd (eqb-false (s .shift) 0 e z)
+      go false e false false f z = leb-false 72 (s .count) f
+
+  any-wanted-in : (a : Alphabet) → shiftWanted a s own ≤ 2
+  any-wanted-in Baudot = wanted-in
+  any-wanted-in Dtmf = omega arith
+  any-wanted-in Edt = omega arith
+
+  shifted-in : (w : ℕ) → w ≤ 2 → SenderIn (shifted s w)
+  shifted-in w h = either SenderIn (eqb w 0) s (sender w 0) i (record { shift-in = h; count-in = omega arith })
+
+  own-sender-in : (a : Alphabet) → eqb (shiftWanted a s own) 0 ≡ true → SenderIn (senderAfterOwn a s)
+  own-sender-in Baudot e = let l = none-below (eqb-true (wanted s own) 0 e) in record { shift-in = i .shift-in; count-in = omega arith }
+  own-sender-in Dtmf e = i
+  own-sender-in Edt e = i
+
+shift-code-in : (a : Alphabet) (w : ℕ) → shiftCode w < codes a
+shift-code-in a w = let h = some-codes a in either (λ (n : ℕ). n < codes a) (eqb w 2) 0b11011 0b11111 (omega arith) (omega arith)
+
+-- ---- what a ms starts with
+
+start-in : (mode : Mode) (part code : ℕ) → part ≤ 2 → code < codes (alphabetOf mode) → LineIn mode (onLine part code 0)
+start-in mode part code p k = record { part-in = p; code-in = k; at-in = omega arith }
+
+pub blank-in : (mode : Mode) (part : ℕ) → part ≤ 2 → LineIn mode (onLine part 0 0)
+blank-in mode part p = let h = some-codes (alphabetOf mode) in start-in mode part 0 p (omega arith)
+
+module _ (mode : Mode) (l : OnLine) (s : Sender) (i : LineIn mode l) (j : SenderIn s) where
+  pub begins-in : (x : Sends) → SendsIn (alphabetOf mode) x → LoadedIn mode (codeBegins (alphabetOf mode) l s x)
+  unfolding codeBegins
+  begins-in Nothing h = record { line-in = i; sender-in = j }
+  begins-in (Code own k) h = go (eqb w 0) refl
+    where
+      a : Alphabet
+      a = alphabetOf mode
+
+      w : ℕ
+      w = shiftWanted a s own
+
+      go : (b : Bool) → eqb w 0 ≡ b
+          → LoadedIn mode (cond b (loaded (onLine 2 (k .0) 0) (senderAfterOwn a s) true) (loaded (onLine 2 (shiftCode w) 0) (shifted s w) false))
+      go true e = record { line-in = start-in mode 2 (k .0) (omega arith) (h .code-in); sender-in = own-sender-in s own (h .own-low) (h .own-in) j a e }
+      go false e = record {
+        line-in = start-in mode 2 (shiftCode w) (omega arith) (shift-code-in a w);
+        sender-in = shifted-in s own (h .own-low) (h .own-in) j w (any-wanted-in s own (h .own-low) (h .own-in) j a);
+      }
+
+  pub next-in : (waiting front : ℕ) → (1 ≤ waiting → front < 128) → LoadedIn mode (nextCode mode waiting front l s)
+  unfolding nextCode
+  next-in waiting front h = go (isOver mode l && ltb 0 waiting) refl
+    where
+      a : Alphabet
+      a = alphabetOf mode
+
+      go : (b : Bool) → (isOver mode l && ltb 0 waiting) ≡ b → LoadedIn mode (cond b (codeBegins a l s (sends a front)) (loaded l s false))
+      go true e =
+          let n = ltb-true 0 waiting (and-right (isOver mode l) (ltb 0 waiting) e) in
+          begins-in (sends a front) (sends-in a front (h (omega arith)))
+      go false e = record { line-in = i; sender-in = j }
+
+pub begun-in : (mode : Mode) (may : Bool) (l : OnLine) → LineIn mode l → LineIn mode (begun may l)
+unfolding begun
+begun-in mode may l i = either (LineIn mode) (may && not (inBurst l)) (onLine 1 0 0) l (blank-in mode 1 (omega arith)) i
+
+-- ---- after a ms
+
+pub gone-in : (mode : Mode) (l : OnLine) → LineIn mode l → LineIn mode (oneGone mode l)
+unfolding oneGone partMs
+gone-in mode l i = go (ltb (l .at) (length (partMs mode l))) refl
+  where
+    go : (b : Bool) → ltb (l .at) (length (partMs mode l)) ≡ b → LineIn mode (cond b (further l 1) l)
+    go true e =
+        let n = ltb-true (l .at) (length (partMs mode l)) e in
+        record { part-in = i .part-in; code-in = i .code-in; at-in = omega arith }
+    go false e = i
+
+pub closed-in : (mode : Mode) (ends : Bool) (l : OnLine) → LineIn mode l → LineIn mode (closed mode ends l)
+unfolding closed
+closed-in mode ends l i = either (LineIn mode) (isOver mode l && (isCode l && ends)) idle l (blank-in mode 0 (omega arith)) i
+
+-- one that is taken waits
+pub next-takes : (mode : Mode) (waiting front : ℕ) (l : OnLine) (s : Sender) → nextCode mode waiting front l s .takes ≡ true → 1 ≤ waiting
+unfolding nextCode
+next-takes mode waiting front l s = go (isOver mode l && ltb 0 waiting) refl
+  where
+    x : Loaded
+    x = codeBegins (alphabetOf mode) l s (sends (alphabetOf mode) front)
+
+    go : (b : Bool) → (isOver mode l && ltb 0 waiting) ≡ b → cond b x (loaded l s false) .takes ≡ true → 1 ≤ waiting
+    go true e t = let n = ltb-true 0 waiting (and-right (isOver mode l) (ltb 0 waiting) e) in omega arith
+    go false e t = absurd (false≢true t)

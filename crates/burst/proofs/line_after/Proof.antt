@@ -1,0 +1,24 @@
+-- `line_after` meets its contract.
+use Rattle.burst.specs.Line.{closed}
+use borrow.Author.Needs.{needs}
+use Rattle.burst.proofs.line_after.Statement.{statement}
+use Rattle.burst.proofs.line_after.Tie as tie
+use Rattle.burst.proofs.ended.Reads as ended-reads
+use Rattle.burst.proofs.is_over.Reads as is-over-reads
+use Rattle.burst.proofs.one_gone.Reads as one-gone-reads
+
+one-gone-requires : tie.Need-one-gone-requires
+one-gone-requires c κs = search needs
+
+is-over-requires : tie.Need-is-over-requires
+is-over-requires c κs = search needs
+
+ended-requires : tie.Need-ended-requires
+ended-requires c κs = search needs
+
+returns : tie.Need-returns
+unfolding closed
+returns c = simp (c .ended .ensures, c .before .is-over .ensures, c .before .before .one-gone .ensures)
+
+pub line-after-spec : {M : Type 1} → statement M
+line-after-spec = tie.close (tie.spec one-gone-requires is-over-requires ended-requires returns)

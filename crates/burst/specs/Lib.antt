@@ -1,0 +1,4 @@
+pub mod Rules
+pub mod Line
+pub mod Range
+pub mod code

@@ -1,0 +1,255 @@
+// A burst: what a station has on the line, part by part and ms by ms.
+use alphabet::Alphabet;
+use alphabet::Char;
+use alphabet::LineCode;
+use alphabet::Mode;
+use alphabet::Sends;
+use baudot::Sender;
+ghost use mathlib.Core.Path.{_≡_};
+ghost use Prim.Native.Nat.{_+_, _≤_, _<_};
+ghost use lib.ListN.{length};
+ghost use Rattle.baudot.specs.Sending.{wanted};
+ghost use Rattle.burst.specs.Rules.{shiftWanted, senderAfterOwn};
+ghost use Rattle.burst.specs.Line.{idle, partMs, isOver, begun, codeBegins, nextCode, levelOn, oneGone, ended, closed};
+ghost use Rattle.burst.specs.Range.{lineIn};
+ghost use Rattle.burst.specs.code.Bounds.{LineIn, SenderIn, SendsIn};
+
+pub mod rules;
+
+// What is on the line. Part 0: no burst; 1: the preamble; 2: a code. `at` of the part's ms are sent.
+#[repr(C)]
+pub struct OnLine {
+    pub at: u16,
+    pub part: u8,
+    pub code: LineCode,
+}
+
+// What a ms starts with: what is on the line, the sender, and whether the front character is taken.
+pub struct Loaded {
+    pub line: OnLine,
+    pub sender: Sender,
+    pub takes: bool,
+}
+
+pub const IDLE: u8 = 0;
+
+pub const PREAMBLE: u8 = 1;
+
+pub const CODE: u8 = 2;
+
+// Nothing is on the line.
+pub fn idle() -> OnLine
+    ensures { λ r. ⌜ r ≡ idle ⌝ }
+{
+    OnLine {
+        at: 0,
+        part: IDLE,
+        code: LineCode(0),
+    }
+}
+
+// The ms of a part.
+pub fn part_ms(mode: Mode, l: OnLine) -> u16
+    ensures { λ r. ⌜ r ≡ length (partMs mode l) ⌝ }
+{
+    if l.part == IDLE {
+        return 0;
+    }
+    if l.part == CODE {
+        return signal::duration(mode, l.code);
+    }
+    mode.preamble()
+}
+
+// In a burst with no ms of the part left?
+pub fn is_over(mode: Mode, l: OnLine) -> bool
+    ensures { λ r. ⌜ r ≡ isOver mode l ⌝ }
+{
+    if l.part == IDLE {
+        return false;
+    }
+    part_ms(mode, l) <= l.at
+}
+
+// In no burst, one begins with its preamble where it is to begin.
+pub fn begun(begins: bool, l: OnLine) -> OnLine
+    ensures { λ r. ⌜ r ≡ begun begins l ⌝ }
+{
+    if !begins {
+        return l;
+    }
+    if l.part != IDLE {
+        return l;
+    }
+    OnLine {
+        at: 0,
+        part: PREAMBLE,
+        code: LineCode(0),
+    }
+}
+
+// The shift code that a Baudot sender wants ahead of an own code, 0 for none.
+fn baudot_wanted(s: Sender, own: u8) -> u8
+    requires { ⌜ SenderIn s ⌝ }
+    requires { ⌜ (1 ≤ own) × (own ≤ 3) ⌝ }
+    ensures { λ r. ⌜ r ≡ wanted s own ⌝ }
+{
+    if s.shift == 0 {
+        return 1;
+    }
+    baudot::sending::wanted(s, own)
+}
+
+// The same in any alphabet.
+fn shift_wanted(a: Alphabet, s: Sender, own: u8) -> u8
+    requires { ⌜ SenderIn s ⌝ }
+    requires { ⌜ (1 ≤ own) × (own ≤ 3) ⌝ }
+    ensures { λ r. ⌜ r ≡ shiftWanted a s own ⌝ }
+{
+    match a {
+        Alphabet::Baudot => baudot_wanted(s, own),
+        Alphabet::Dtmf => 0,
+        Alphabet::Edt => 0,
+    }
+}
+
+// The sender after an own code.
+fn sender_after_own(a: Alphabet, s: Sender) -> Sender
+    requires { ⌜ SenderIn s ⌝ }
+    ensures { λ r. ⌜ r ≡ senderAfterOwn a s ⌝ }
+{
+    match a {
+        Alphabet::Baudot => Sender {
+            shift: s.shift,
+            count: s.count + 1,
+        },
+        Alphabet::Dtmf => s,
+        Alphabet::Edt => s,
+    }
+}
+
+// The first ms of a code.
+fn code_at(code: LineCode) -> OnLine
+    ensures { λ r. ⌜ r ≡ record { at = 0; part = 2; code = code } ⌝ }
+{
+    OnLine {
+        at: 0,
+        part: CODE,
+        code,
+    }
+}
+
+// The next code: a shift code where one is wanted ahead of the front character, else its own.
+pub fn code_begins(a: Alphabet, l: OnLine, s: Sender, sends: Sends) -> Loaded
+    requires { ⌜ SenderIn s ⌝ }
+    requires { ⌜ SendsIn a sends ⌝ }
+    ensures { λ r. ⌜ r ≡ codeBegins a l s sends ⌝ }
+{
+    let Sends::Code { shift: own, code } = sends else {
+        return Loaded {
+            line: l,
+            sender: s,
+            takes: true,
+        };
+    };
+    let w = shift_wanted(a, s, own);
+    if w == 0 {
+        return Loaded {
+            line: code_at(code),
+            sender: sender_after_own(a, s),
+            takes: true,
+        };
+    }
+    Loaded {
+        line: code_at(LineCode(baudot::sending::shift_code(w))),
+        sender: Sender { shift: w, count: 0 },
+        takes: false,
+    }
+}
+
+// In a burst with no ms of a part left, the next code begins.
+pub fn next_code(mode: Mode, waiting: u16, front: Char, l: OnLine, s: Sender) -> Loaded
+    requires { ⌜ SenderIn s ⌝ }
+    requires { ⌜ (1 ≤ waiting → front .0 < 128) ⌝ }
+    ensures { λ r. ⌜ r ≡ nextCode mode waiting (front .0) l s ⌝ }
+{
+    if waiting == 0 {
+        return Loaded {
+            line: l,
+            sender: s,
+            takes: false,
+        };
+    }
+    if !is_over(mode, l) {
+        return Loaded {
+            line: l,
+            sender: s,
+            takes: false,
+        };
+    }
+    let a = mode.alphabet();
+    code_begins(a, l, s, alphabet::table::lookup(a, front))
+}
+
+// The level that is sent: quiet outside a burst.
+pub fn level_on(mode: Mode, l: OnLine) -> u8
+    requires { ⌜ LineIn mode l ⌝ }
+    ensures { λ r. ⌜ r ≡ levelOn mode l ⌝ }
+{
+    if part_ms(mode, l) <= l.at {
+        return 0;
+    }
+    if l.part == PREAMBLE {
+        return 1;
+    }
+    signal::level(mode, l.code, l.at)
+}
+
+// One ms of the part has gone.
+fn one_gone(mode: Mode, l: OnLine) -> OnLine
+    requires { ⌜ LineIn mode l ⌝ }
+    ensures { λ r. ⌜ r ≡ oneGone mode l ⌝ }
+{
+    if part_ms(mode, l) <= l.at {
+        return l;
+    }
+    OnLine { at: l.at + 1, ..l }
+}
+
+// With no ms of a code left, the burst ends where it is to end.
+pub fn ended(over: bool, ends: bool, l: OnLine) -> OnLine
+    ensures { λ r. ⌜ r ≡ ended over ends l ⌝ }
+{
+    if !over {
+        return l;
+    }
+    if l.part != CODE {
+        return l;
+    }
+    if !ends {
+        return l;
+    }
+    idle()
+}
+
+// What is on the line after a ms: if the last ms of a code has come, the burst ends where it is to end.
+pub fn line_after(mode: Mode, ends: bool, l: OnLine) -> OnLine
+    requires { ⌜ LineIn mode l ⌝ }
+    ensures { λ r. ⌜ r ≡ closed mode ends (oneGone mode l) ⌝ }
+{
+    let gone = one_gone(mode, l);
+    ended(is_over(mode, gone), ends, gone)
+}
+
+// Question 1 of what is on the line.
+pub fn in_range(mode: Mode, l: OnLine) -> bool
+    ensures { λ r. ⌜ r ≡ lineIn mode l ⌝ }
+{
+    if CODE < l.part {
+        return false;
+    }
+    if mode.codes() <= l.code.0 as u16 {
+        return false;
+    }
+    l.at <= part_ms(mode, l)
+}
