@@ -10,7 +10,7 @@ use Rattle.alphabet.specs.Modes.{alphabetOf}
 use Rattle.baudot.specs.declared.Sender.{Sender}
 use Rattle.baudot.specs.Sending.{shiftCode}
 use Rattle.signal.specs.Signal.{signal}
-use Rattle.half_duplex.specs.Line.{shiftWanted, senderAfterOwn}
+use Rattle.burst.specs.Rules.{shiftWanted, senderAfterOwn}
 use Rattle.demand3.specs.Model.{Part, OwnCode, OnLine, Idle, Sending, Model, Loaded, Did, Step, Offer, Ms, offered, load, oneGone, ended, did, msAfter, does, takenIn}
 use Rattle.demand3.specs.Reading.{synchronizes, atOnce, endsSynchronizing, untilSynchronized}
 use Rattle.demand3.proofs.Laws.{SenderIn, Room, LawsOf}

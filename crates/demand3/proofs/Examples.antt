@@ -27,7 +27,7 @@ use Rattle.reader.specs.Reader.{fresh, hear, inhibited}
 use Rattle.reader.specs.Words.{wordsOf, characterWord, faultWord}
 use Rattle.line_theorems.specs.Examples.{chars}
 use Rattle.queue.specs.Queue.{waiters}
-use Rattle.half_duplex.specs.Rules.{mayBegin, mayEnd}
+use Rattle.burst.specs.Rules.{mayBegin, mayEnd}
 use Rattle.station.specs.Station.{hasDel}
 use Rattle.demand3.specs.Model.{Step, Offer, Ms, Did, freshModel, offered, begun, codeBegins, nextCode, load, levelOn, oneGone, ended, closed, isInhibited, did, msAfter, modelAfter, does, sentIn, takenIn, heardIn}
 use Rattle.demand3.specs.Reading.{synchronizes, untilSynchronized, synchronizedAfter, NoBurst, EndsIdle}

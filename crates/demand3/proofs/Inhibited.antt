@@ -6,7 +6,7 @@ use Prim.Native.Nat.{ℕ, _+_, _-_, _≤_}
 use native.Mathlib.Omega.{arith}
 use lib.ListN.{length}
 use Rattle.alphabet.specs.declared.Mode.{Mode}
-use Rattle.half_duplex.specs.Rules.{inhibitedAfter}
+use Rattle.burst.specs.Rules.{inhibitedAfter}
 use Rattle.demand3.specs.Model.{Model, Step, Offer, Ms, load, inBurst, offered, did, msAfter, modelAfter, does}
 use Rattle.demand3.specs.Reading.{NoBurst}
 

@@ -42,7 +42,7 @@ use Rattle.line_theorems.specs.Resting.{Settled}
 use Rattle.line_theorems.proofs.Chain.{Gives, none, marks-pass}
 use Rattle.line_theorems.proofs.BaudotChain.{codes-read, code-45, code-50, code-edt}
 use Rattle.line_theorems.proofs.DtmfChain.{keys-given, shape-keys, row-shape, row-read}
-use Rattle.half_duplex.specs.Line.{shiftWanted, senderAfterOwn}
+use Rattle.burst.specs.Rules.{shiftWanted, senderAfterOwn}
 use Rattle.demand3.specs.Model.{Preamble, ShiftCode, OwnCode}
 use Rattle.demand3.specs.Reading.{synchronizes, atOnce, mostBefore}
 

@@ -17,11 +17,11 @@ use Rattle.alphabet.specs.Normal.{sends, isCode}
 use Rattle.baudot.specs.declared.Sender.{Sender}
 use Rattle.baudot.specs.Sending.{shiftCode, shifted}
 use Rattle.signal.specs.Signal.{preamble}
-use Rattle.half_duplex.specs.declared.OnLine.{OnLine as Line}
-use Rattle.half_duplex.specs.declared.Loaded.{Loaded as LoadedLine}
-use Rattle.half_duplex.specs.Rules.{mayEnd}
-use Rattle.half_duplex.specs.Line as line
-use Rattle.half_duplex.specs.Line.{onLine, idle, partMs, shiftWanted}
+use Rattle.burst.specs.declared.OnLine.{OnLine as Line}
+use Rattle.burst.specs.declared.Loaded.{Loaded as LoadedLine}
+use Rattle.burst.specs.Rules.{mayEnd, shiftWanted}
+use Rattle.burst.specs.Line as line
+use Rattle.burst.specs.Line.{onLine, idle, partMs}
 use Rattle.demand3.specs.Model.{Part, Preamble, ShiftCode, OwnCode, OnLine, Idle, Sending, Loaded, isCodePart, begun, loaded, ownBegins, shiftBegins, codeBegins, nextCode, levelOn, inBurst, oneGone, closed}
 
 -- the number of a part

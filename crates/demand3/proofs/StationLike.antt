@@ -16,9 +16,9 @@ use Rattle.alphabet.specs.Modes.{modeNumber, modeOf, alphabetOf, highestLevel}
 use Rattle.alphabet.specs.Normal.{sends, isCode}
 use Rattle.reader.specs.declared.Reader.{Reader}
 use Rattle.reader.specs.Reader.{fresh}
-use Rattle.half_duplex.specs.declared.Loaded.{Loaded as LoadedLine}
-use Rattle.half_duplex.specs.Rules.{mayBegin, inhibitedAfter, isSilent, isInhibited as inhibitedBy}
-use Rattle.half_duplex.specs.Line as line
+use Rattle.burst.specs.declared.Loaded.{Loaded as LoadedLine}
+use Rattle.burst.specs.Rules.{mayBegin, inhibitedAfter, isSilent, isInhibited as inhibitedBy}
+use Rattle.burst.specs.Line as line
 use Rattle.half_duplex.specs.Core as core
 use Rattle.half_duplex.specs.Core.{readerMs, eventMs, settled, coreFrom}
 use Rattle.queue.specs.Queue.{waits, waiters, waitingOf, taken}

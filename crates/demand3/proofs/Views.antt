@@ -17,8 +17,7 @@ use Rattle.alphabet.specs.Modes.{alphabetOf}
 use Rattle.alphabet.specs.Normal.{sends, isCode}
 use Rattle.baudot.specs.declared.Sender.{Sender}
 use Rattle.signal.specs.Signal.{preamble}
-use Rattle.half_duplex.specs.Rules.{mayBegin, mayEnd}
-use Rattle.half_duplex.specs.Line.{shiftWanted}
+use Rattle.burst.specs.Rules.{mayBegin, mayEnd, shiftWanted}
 use Rattle.queue.specs.Queue.{waits, waiters, allWait}
 use Rattle.queue.proofs.Laws.{waiters-wait}
 use Rattle.demand3.specs.Model.{Part, Preamble, OnLine, Idle, Sending, Model, Loaded, Step, Offer, Ms, offered, isCodePart, begun, loaded, shiftBegins, ownBegins, codeBegins, nextCode, load, closed, msAfter, modelAfter}

@@ -14,8 +14,7 @@ use Rattle.alphabet.specs.Normal.{sends}
 use Rattle.baudot.specs.declared.Sender.{Sender}
 use Rattle.baudot.specs.Sending.{fresh, shiftCode, shifted}
 use Rattle.signal.specs.Signal.{quiet, signal, preamble}
-use Rattle.half_duplex.specs.Rules.{freeMs, mayBegin, mayEnd, isInhibited as inhibitedBy, inhibitedAfter, isSilent}
-use Rattle.half_duplex.specs.Line.{shiftWanted, senderAfterOwn}
+use Rattle.burst.specs.Rules.{freeMs, mayBegin, mayEnd, isInhibited as inhibitedBy, inhibitedAfter, isSilent, shiftWanted, senderAfterOwn}
 use Rattle.queue.specs.Queue.{waiters}
 
 -- What is on the line in a burst: the preamble (there: lead), a shift code (there: case code), a character's own code.

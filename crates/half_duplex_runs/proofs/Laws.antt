@@ -17,8 +17,8 @@ use Rattle.keys.specs.Keys.{needs}
 use Rattle.reader.specs.declared.Reader.{Reader}
 use Rattle.reader.specs.Reader.{reader}
 use Rattle.half_duplex.specs.declared.Core.{Core}
-use Rattle.half_duplex.specs.Rules.{mayBegin, isSilent}
-use Rattle.half_duplex.specs.Line.{inBurst}
+use Rattle.burst.specs.Rules.{mayBegin, isSilent}
+use Rattle.burst.specs.Line.{inBurst}
 use Rattle.half_duplex.specs.Core.{silenceAfter}
 use Rattle.half_duplex_runs.specs.code.Cores.{silenceFor, silenceNext, silenceOver, deafReader, burstLeft}
 

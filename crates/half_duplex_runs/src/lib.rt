@@ -2,9 +2,8 @@
 use baudot::Sender;
 use frames::Frame;
 use half_duplex::Core;
-use half_duplex::Loaded;
-use half_duplex::OnLine;
-use half_duplex::sending;
+use burst::Loaded;
+use burst::OnLine;
 use keys::Keys;
 use reader::Reader;
 ghost use mathlib.Core.Path.{_≡_};
@@ -12,7 +11,7 @@ ghost use mathlib.Core.Bool.{true, _&&_};
 ghost use Prim.Native.Nat.{_+_, _-_, _≤_};
 ghost use lib.Dec.{eqb};
 ghost use Rattle.lists.specs.Lists.{allAtMost};
-ghost use Rattle.half_duplex.specs.Line.{onLine, isOver};
+ghost use Rattle.burst.specs.Line.{onLine, isOver};
 ghost use Rattle.half_duplex.specs.Core.{modeIn};
 ghost use Rattle.half_duplex_runs.specs.code.Cores.{silenceFor, silenceOver, atRest, deafReader, loadedCore, sentFor, codedCore, deafFor, listened};
 
@@ -21,8 +20,8 @@ pub fn silence_for(silence: u16, n: usize) -> u16
     requires { ⌜ silence ≤ 300 ⌝ }
     ensures { λ r. ⌜ r ≡ silenceFor silence n ⌝ }
 {
-    if half_duplex::FREE as usize - silence as usize <= n {
-        return half_duplex::FREE;
+    if burst::rules::FREE as usize - silence as usize <= n {
+        return burst::rules::FREE;
     }
     silence + n as u16
 }
@@ -40,8 +39,8 @@ pub fn silence_over(silence: u16, heard: &[u8], bound: u8) -> u16
     let mut left = heard.len();
     let mut n: usize = 0;
     while 0 < left {
-        if n == half_duplex::FREE as usize {
-            return half_duplex::FREE;
+        if n == burst::rules::FREE as usize {
+            return burst::rules::FREE;
         }
         left -= 1;
         if heard[left] != 0 {
@@ -159,8 +158,8 @@ pub fn sent_for(c: Core, n: usize, over: bool) -> Core
     Core {
         waiting: c.waiting,
         silence: silence_for(c.silence, n),
-        inhibited: half_duplex::INHIBITED,
-        line: sending::ended(over, c.waiting, line),
+        inhibited: burst::rules::INHIBITED,
+        line: burst::ended(over, c.waiting, line),
         sender,
         reader: deaf_reader(reader, n),
         mode: c.mode,
@@ -175,7 +174,7 @@ pub fn coded(c: Core, taken: usize, sender: Sender, line: OnLine, n: usize) -> C
     ensures { λ r. ⌜ r ≡ codedCore c taken sender line n ⌝ }
 {
     let reader = c.reader;
-    let inhibited = half_duplex::INHIBITED;
+    let inhibited = burst::rules::INHIBITED;
     Core {
         waiting: c.waiting - taken as u16,
         silence: silence_for(c.silence, n),

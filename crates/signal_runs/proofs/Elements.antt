@@ -19,9 +19,9 @@ use Rattle.signal.specs.Signal.{mark, space, quiet, levelOf, digits, held, baud
 use Rattle.alphabet.specs.code.Numbers.{longest}
 use Rattle.signal.proofs.Levels.{test-22, test-20, baudot-at, edt-at, keys-on, keys-off}
 use Rattle.signal.proofs.Lengths.{digits-length, held-length, baudot-165, baudot-150, edt-100}
-use Rattle.half_duplex.specs.declared.OnLine.{OnLine}
-use Rattle.half_duplex.specs.Line.{further, inBurst, partMs}
-use Rattle.half_duplex.proofs.Laws.{within, level-preamble, level-code}
+use Rattle.burst.specs.declared.OnLine.{OnLine}
+use Rattle.burst.specs.Line.{further, inBurst, partMs}
+use Rattle.burst.proofs.Laws.{within, level-preamble, level-code}
 use Rattle.lists.specs.code.Places.{UpTo}
 use Rattle.signal_runs.specs.code.Levels.{codeLevel, partLevel, evenMs, elementAt, elementEnd, frameOf, Run, Framed}
 use Rattle.signal_runs.proofs.Parts.{few-codes, longest-480}

@@ -11,10 +11,10 @@ use Rattle.alphabet.specs.declared.Alphabet.the-variants as alphabet
 use Rattle.alphabet.specs.Modes.{alphabetOf, preambleOf, codes}
 use Rattle.signal.specs.Signal.{signal, preamble}
 use Rattle.alphabet.specs.code.Numbers.{longest}
-use Rattle.half_duplex.specs.declared.OnLine.{OnLine}
-use Rattle.half_duplex.specs.Line.{isCode, inBurst, partMs}
-use Rattle.half_duplex.specs.Range.{LineIn}
-use Rattle.half_duplex.proofs.Laws.{within}
+use Rattle.burst.specs.declared.OnLine.{OnLine}
+use Rattle.burst.specs.Line.{isCode, inBurst, partMs}
+use Rattle.burst.specs.code.Bounds.{LineIn}
+use Rattle.burst.proofs.Laws.{within}
 
 pub few-codes : (a : Alphabet) → codes a ≤ 256
 few-codes alphabet.Baudot = omega arith

@@ -1,7 +1,7 @@
 // The levels of a part, written to a slice.
 use alphabet::LineCode;
 use alphabet::Mode;
-use half_duplex::OnLine;
+use burst::OnLine;
 ghost use mathlib.Core.Path.{_≡_};
 ghost use mathlib.Core.Bool.{true};
 ghost use Prim.Native.Nat.{_+_, _-_, _*_, _/_, _%_, _^_, _≤_, _<_};
@@ -10,8 +10,8 @@ ghost use lib.Seq.{sets};
 ghost use Rattle.lists.specs.Tables.{tabulate};
 ghost use Rattle.alphabet.specs.Modes.{alphabetOf, codes};
 ghost use Rattle.signal.specs.Signal.{levelOf, digits, held, baudotSignal, signal};
-ghost use Rattle.half_duplex.specs.Line.{inBurst, partMs};
-ghost use Rattle.half_duplex.specs.Range.{LineIn};
+ghost use Rattle.burst.specs.Line.{inBurst, partMs};
+ghost use Rattle.burst.specs.code.Bounds.{LineIn};
 ghost use Rattle.alphabet.specs.declared.Mode.the-variants as mode;
 ghost use Rattle.signal_runs.specs.code.Levels.{evenMs, elementAt, elementEnd, frameOf, Run, Framed, codeLevel, partLevel};
 

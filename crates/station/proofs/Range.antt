@@ -29,11 +29,13 @@ use Rattle.reader.specs.declared.Reader.{Reader}
 use Rattle.reader.specs.Reader.{reader}
 use Rattle.reader.specs.Range.{ReaderIn}
 use Rattle.reader.proofs.Range as line
-use Rattle.half_duplex.specs.declared.OnLine.{OnLine}
-use Rattle.half_duplex.specs.Line.{partMs}
+use Rattle.burst.specs.declared.OnLine.{OnLine}
+use Rattle.burst.specs.Line.{partMs}
 use Rattle.half_duplex.specs.Core.{modeIn, settled, coreFrom}
-use Rattle.half_duplex.specs.Range.{LineIn, SenderIn, CoreIn}
-use Rattle.half_duplex.proofs.Range.{blank-in, takes-waiting, core-after-in}
+use Rattle.burst.specs.code.Bounds.{LineIn, SenderIn}
+use Rattle.half_duplex.specs.code.Bounds.{CoreIn}
+use Rattle.burst.proofs.Range.{blank-in}
+use Rattle.half_duplex.proofs.Range.{takes-waiting, core-after-in}
 use Rattle.queue.specs.Queue.{Queue, queue, waits, waiters, allWait, waitingOf, moved, room, offered, taken, inRange as queueIn}
 use Rattle.queue.proofs.Laws as queue
 use Rattle.station.specs.declared.Station.{Station}

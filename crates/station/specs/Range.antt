@@ -13,9 +13,9 @@ use Rattle.keys.specs.declared.Keys.{Keys}
 use Rattle.keys.specs.Keys.{keyMs, quietMs}
 use Rattle.reader.specs.declared.Reader.{Reader}
 use Rattle.half_duplex.specs.declared.Core.{Core}
-use Rattle.half_duplex.specs.declared.OnLine.{OnLine}
-use Rattle.half_duplex.specs.Rules.{freeMs, afterMs}
-use Rattle.half_duplex.specs.Line.{partMs}
+use Rattle.burst.specs.declared.OnLine.{OnLine}
+use Rattle.burst.specs.Rules.{freeMs, afterMs}
+use Rattle.burst.specs.Line.{partMs}
 use Rattle.half_duplex.specs.Core.{modeIn}
 use Rattle.queue.specs.Queue.{inRange as queueIn}
 use Rattle.station.specs.declared.Station.{Station}

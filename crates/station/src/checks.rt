@@ -4,7 +4,7 @@ use alphabet::Mode;
 use baudot::Sender;
 use frames::Frame;
 use half_duplex::Core;
-use half_duplex::OnLine;
+use burst::OnLine;
 use keys::Keys;
 use reader::Reader;
 ghost use mathlib.Core.Path.{_≡_};
@@ -102,7 +102,7 @@ fn line_in(mode: Mode, l: OnLine) -> bool
     if !code_in(mode.alphabet(), l.code) {
         return false;
     }
-    l.at <= half_duplex::sending::part_ms(mode, l)
+    l.at <= burst::part_ms(mode, l)
 }
 
 fn sender_in(s: Sender) -> bool
@@ -123,10 +123,10 @@ fn core_in(c: Core) -> bool
     if 4 < c.mode {
         return false;
     }
-    if half_duplex::FREE < c.silence {
+    if burst::rules::FREE < c.silence {
         return false;
     }
-    if half_duplex::INHIBITED < c.inhibited {
+    if burst::rules::INHIBITED < c.inhibited {
         return false;
     }
     let mode = Mode::of(c.mode);

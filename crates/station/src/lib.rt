@@ -3,7 +3,7 @@ use alphabet::Alphabet;
 use alphabet::Mode;
 use baudot::Sender;
 use half_duplex::Core;
-use half_duplex::OnLine;
+use burst::OnLine;
 use reader::Reader;
 ghost use mathlib.Core.Path.{_≡_};
 ghost use Rattle.alphabet.specs.declared.Alphabet.the-variants.{Baudot};
@@ -40,7 +40,7 @@ fn fresh(mode: u8) -> Core
     let reader = Reader::fresh();
     Core {
         waiting: 0,
-        silence: half_duplex::FREE,
+        silence: burst::rules::FREE,
         inhibited: 0,
         line: OnLine {
             at: 0,

@@ -22,14 +22,14 @@ use Rattle.signal.specs.Signal.{signal}
 use Rattle.signal.proofs.Lengths.{baudot-165, baudot-150, edt-100, dtmf-120, keyCount, key-count}
 use Rattle.reader.specs.declared.Reader.{Reader}
 use Rattle.half_duplex.specs.declared.Core.{Core}
-use Rattle.half_duplex.specs.declared.OnLine.{OnLine}
-use Rattle.half_duplex.specs.declared.Loaded.{Loaded}
-use Rattle.half_duplex.specs.Rules.{mayBegin, mayEnd}
-use Rattle.half_duplex.specs.Line.{further, onLine, inBurst, partMs, isOver, shiftWanted, codeBegins, nextCode, ended, closed}
+use Rattle.burst.specs.declared.OnLine.{OnLine}
+use Rattle.burst.specs.declared.Loaded.{Loaded}
+use Rattle.burst.specs.Rules.{mayBegin, mayEnd, shiftWanted}
+use Rattle.burst.specs.Line.{further, onLine, inBurst, partMs, isOver, codeBegins, nextCode, ended, closed}
 use Rattle.half_duplex.specs.Core.{core, modeIn, settled, waitingAfter}
-use Rattle.half_duplex.specs.Range.{SenderIn, SendsIn}
-use Rattle.half_duplex.proofs.Laws.{code-ms, code-next}
-use Rattle.half_duplex.proofs.Range.{LoadedIn, blank-in, sends-in, begins-in}
+use Rattle.burst.specs.code.Bounds.{SenderIn, SendsIn}
+use Rattle.burst.proofs.Laws.{code-ms, code-next}
+use Rattle.burst.proofs.Range.{LoadedIn, blank-in, sends-in, begins-in}
 use Rattle.queue.proofs.Moves.{moved-place}
 use Rattle.queue.specs.Queue.{waits, allWait, waitingOf, movedBy, inRange as queueIn}
 use Rattle.station.specs.declared.Station.{Station}

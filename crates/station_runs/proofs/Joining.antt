@@ -12,12 +12,13 @@ use Rattle.lists.specs.Steps.{stateAfter, outputs}
 use Rattle.reader.specs.declared.Reader.{Reader}
 use Rattle.reader.specs.Words.{wordOf, wordsOf, readerAfter, words}
 use Rattle.half_duplex.specs.declared.Core.{Core}
-use Rattle.half_duplex.specs.declared.Loaded.{Loaded}
+use Rattle.burst.specs.declared.Loaded.{Loaded}
 use Rattle.half_duplex.specs.declared.Stepped.{Stepped}
-use Rattle.half_duplex.specs.Line.{inBurst, partMs, isOver}
+use Rattle.burst.specs.Line.{inBurst, partMs, isOver}
 use Rattle.half_duplex.specs.Core.{modeIn, settled, stepped}
-use Rattle.half_duplex.specs.Range.{CoreIn}
-use Rattle.half_duplex.proofs.Range.{LoadedIn, settled-in}
+use Rattle.half_duplex.specs.code.Bounds.{CoreIn}
+use Rattle.burst.proofs.Range.{LoadedIn}
+use Rattle.half_duplex.proofs.Range.{settled-in}
 use Rattle.station.specs.declared.Station.{Station}
 use Rattle.station.specs.Station.{station, charsAfter, stationMs, sentMs, eventOf, stationAfter, sentBy, wordsBy}
 use Rattle.station_runs.specs.declared.Stretched.{Stretched}

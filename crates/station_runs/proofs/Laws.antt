@@ -20,12 +20,12 @@ use Rattle.reader.specs.declared.Reader.{Reader}
 use Rattle.reader.specs.Reader.{reader, hear, inhibited}
 use Rattle.reader.specs.Words.{wordOf, wordsOf, readerAfter, words}
 use Rattle.half_duplex.specs.declared.Core.{Core}
-use Rattle.half_duplex.specs.declared.OnLine.{OnLine}
-use Rattle.half_duplex.specs.declared.Loaded.{Loaded}
-use Rattle.half_duplex.specs.Rules.{mayBegin, isInhibited, isSilent}
-use Rattle.half_duplex.specs.Line.{further, onLine, inBurst, partMs, isOver, begun, loaded, nextCode, levelOn, oneGone, closed}
+use Rattle.burst.specs.declared.OnLine.{OnLine}
+use Rattle.burst.specs.declared.Loaded.{Loaded}
+use Rattle.burst.specs.Rules.{mayBegin, isInhibited, isSilent}
+use Rattle.burst.specs.Line.{further, onLine, inBurst, partMs, isOver, begun, loaded, nextCode, levelOn, oneGone, closed}
 use Rattle.half_duplex.specs.Core.{core, silenceAfter, eventMs, modeIn, settled, coreFrom}
-use Rattle.half_duplex.proofs.Laws.{level-over, not-over, gone-none, gone-one, stays-left}
+use Rattle.burst.proofs.Laws.{level-over, not-over, gone-none, gone-one, stays-left}
 use Rattle.station.specs.declared.Station.{Station}
 use Rattle.station.specs.Station.{station, front, charsAfter, stationMs, sentMs, eventOf, stationAfter, sentBy, wordsBy}
 use Rattle.signal_runs.specs.code.Levels.{partLevel}

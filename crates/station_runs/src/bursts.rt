@@ -4,8 +4,7 @@ use alphabet::Char;
 use alphabet::LineCode;
 use alphabet::Mode;
 use half_duplex::Core;
-use half_duplex::OnLine;
-use half_duplex::sending;
+use burst::OnLine;
 ghost use mathlib.Core.Path.{_≡_};
 ghost use mathlib.Core.Bool.{true, cond, _&&_};
 ghost use mathlib.Core.List.{List};
@@ -13,7 +12,7 @@ ghost use Prim.Native.Nat.{ℕ, _+_, _≤_};
 ghost use lib.Dec.{leb, ltb};
 ghost use lib.ListN.{length};
 ghost use Rattle.alphabet.specs.code.Numbers.{longest};
-ghost use Rattle.half_duplex.specs.Line.{isOver};
+ghost use Rattle.burst.specs.Line.{isOver};
 ghost use Rattle.half_duplex.specs.Core.{modeIn};
 ghost use Rattle.queue.specs.Queue.{movedBy};
 ghost use Rattle.station.specs.Station.{station};
@@ -48,7 +47,7 @@ pub fn follows(c: Core, room: usize) -> bool
 {
     let mode = Mode::of(c.mode);
     let line = c.line;
-    if !sending::is_over(mode, line) {
+    if !burst::is_over(mode, line) {
         return false;
     }
     goes_on(0, c.waiting as usize, longest(mode), room)
@@ -95,7 +94,7 @@ pub fn codes(
     let mut at = i;
     while goes_on(taken, waiting, most, heard.len() - at) {
         let sends = alphabet::table::lookup_in(&table, a, Char(chars[from + taken]));
-        let l = sending::code_begins(a, line, sender, sends);
+        let l = burst::code_begins(a, line, sender, sends);
         let begins = l.line;
         signal_runs::put_whole(mode, begins.code, sent, at);
         let ms = signal::duration(mode, LineCode(begins.code));
@@ -106,7 +105,7 @@ pub fn codes(
             part: begins.part,
             code: begins.code,
         };
-        line = sending::ended(true, (waiting - taken) as u16, over);
+        line = burst::ended(true, (waiting - taken) as u16, over);
         at += ms as usize;
     }
     Stretched {

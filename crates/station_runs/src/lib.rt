@@ -6,8 +6,8 @@ ghost use Prim.Native.Nat.{_+_, _-_, _≤_, _<_};
 ghost use lib.ListN.{length};
 ghost use lib.Seq.{sets};
 ghost use Rattle.lists.specs.Lists.{allAtMost};
-ghost use Rattle.half_duplex.specs.Rules.{mayBegin};
-ghost use Rattle.half_duplex.specs.Line.{inBurst};
+ghost use Rattle.burst.specs.Rules.{mayBegin};
+ghost use Rattle.burst.specs.Line.{inBurst};
 ghost use Rattle.half_duplex.specs.Core.{modeIn};
 ghost use Rattle.queue.specs.Queue.{movedBy};
 ghost use Rattle.station.specs.Station.{station, stationAfter, sentBy, wordsBy};
@@ -38,7 +38,7 @@ fn may_send(c: Core) -> bool
     if c.line.part != 0 {
         return true;
     }
-    half_duplex::may_begin(c.waiting, c.silence)
+    burst::rules::may_begin(c.waiting, c.silence)
 }
 
 // The next stretch: whole codes; the ms of a part; inhibited ms; ms that the receiver hears. Of the characters so many are

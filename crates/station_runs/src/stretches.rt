@@ -2,18 +2,18 @@
 use crate::Stretched;
 use alphabet::Mode;
 use half_duplex::Core;
-use half_duplex::Loaded;
-use half_duplex::sending;
+use burst::Loaded;
 ghost use mathlib.Core.Path.{_≡_};
 ghost use mathlib.Core.Bool.{true, false};
 ghost use mathlib.Core.List.{List};
 ghost use Prim.Native.Nat.{ℕ, _+_, _≤_, _<_};
 ghost use lib.ListN.{length, getD};
 ghost use Rattle.lists.specs.Lists.{allAtMost};
-ghost use Rattle.half_duplex.specs.Rules.{mayBegin};
-ghost use Rattle.half_duplex.specs.Line.{partMs};
+ghost use Rattle.burst.specs.Rules.{mayBegin};
+ghost use Rattle.burst.specs.Line.{partMs};
 ghost use Rattle.half_duplex.specs.Core.{modeIn, settled};
-ghost use Rattle.half_duplex.specs.Range.{LineIn, CoreIn};
+ghost use Rattle.burst.specs.code.Bounds.{LineIn};
+ghost use Rattle.half_duplex.specs.code.Bounds.{CoreIn};
 ghost use Rattle.station_runs.specs.code.Stretches.{Free, Stretches};
 
 // Where the ms end in which no burst may begin.
@@ -26,7 +26,7 @@ fn free_end(waiting: u16, silence: u16, i: usize, len: usize) -> usize
     if waiting == 0 {
         return len;
     }
-    lists::places::up_to(i, (half_duplex::FREE - silence) as usize, len)
+    lists::places::up_to(i, (burst::rules::FREE - silence) as usize, len)
 }
 
 // One ms by itself, after what it starts with.
@@ -107,7 +107,7 @@ pub fn begin(
     let l = half_duplex::settle(c, front);
     let line = l.line;
     let mode = Mode::of(c.mode);
-    let ms = sending::part_ms(mode, line);
+    let ms = burst::part_ms(mode, line);
     if ms <= line.at {
         return step(c, l, heard, i, sent, words, n);
     }

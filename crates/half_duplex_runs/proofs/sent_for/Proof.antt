@@ -1,6 +1,6 @@
 -- `sent_for` meets its contract.
 use mathlib.Core.Path.{_≡_, _∙_}
-use Rattle.half_duplex.specs.Line.{further, ended, closed}
+use Rattle.burst.specs.Line.{further, ended, closed}
 use Rattle.half_duplex.specs.Core.{core, modeIn}
 use Rattle.half_duplex_runs.specs.code.Cores.{sentFor}
 use Rattle.half_duplex_runs.proofs.Laws.{burst-some}

@@ -10,10 +10,10 @@ use Rattle.keys.specs.Keys.{needs}
 use Rattle.reader.specs.declared.Reader.{Reader}
 use Rattle.reader.specs.Reader.{reader}
 use Rattle.half_duplex.specs.declared.Core.{Core}
-use Rattle.half_duplex.specs.declared.OnLine.{OnLine}
-use Rattle.half_duplex.specs.declared.Loaded.{Loaded}
-use Rattle.half_duplex.specs.Rules.{freeMs, afterMs, isSilent}
-use Rattle.half_duplex.specs.Line.{further, closed}
+use Rattle.burst.specs.declared.OnLine.{OnLine}
+use Rattle.burst.specs.declared.Loaded.{Loaded}
+use Rattle.burst.specs.Rules.{freeMs, afterMs, isSilent}
+use Rattle.burst.specs.Line.{further, closed}
 use Rattle.half_duplex.specs.Core.{core, modeIn, silenceAfter, waitingAfter}
 
 -- The silence after n ms without signal, and after ms that the receiver hears.

@@ -3,7 +3,7 @@ use mathlib.Core.Path.{_∙_, ap}
 use Prim.Native.Nat.{_-_}
 use native.Mathlib.Omega.{arith}
 use lib.Seq.{sets}
-use Rattle.half_duplex.proofs.Laws.{code-ms}
+use Rattle.burst.proofs.Laws.{code-ms}
 use Rattle.signal_runs.proofs.Elements.{code-part, preamble-levels, code-levels}
 use borrow.Author.Needs.{needs}
 use Rattle.signal_runs.proofs.put.Statement.{statement}

@@ -10,8 +10,8 @@ use Rattle.alphabet.specs.Modes.{alphabetOf, codes}
 use Rattle.signal.specs.Signal.{quiet, levelOf, signal}
 use Rattle.alphabet.specs.code.Numbers.{longest}
 use Rattle.signal.specs.code.Packing.{edtFrame}
-use Rattle.half_duplex.specs.declared.OnLine.{OnLine}
-use Rattle.half_duplex.specs.Line.{further, levelOn}
+use Rattle.burst.specs.declared.OnLine.{OnLine}
+use Rattle.burst.specs.Line.{further, levelOn}
 
 abbrev pub codeLevel : Mode → ℕ → ℕ → ℕ → ℕ
 codeLevel mode code at k = getD (signal mode code) (at + k) quiet

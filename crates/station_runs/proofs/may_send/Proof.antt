@@ -3,7 +3,7 @@ use mathlib.Core.Path.{_∙_, sym, ap}
 use mathlib.Core.Bool.{Bool, not, _||_}
 use borrow.Author.Needs.{needs}
 use borrow.Author.Tests.{eq-eqb, ne-eqb}
-use Rattle.half_duplex.specs.Rules.{mayBegin}
+use Rattle.burst.specs.Rules.{mayBegin}
 use Rattle.station_runs.proofs.may_send.Statement.{statement}
 use Rattle.station_runs.proofs.may_send.Tie as tie
 

@@ -9,9 +9,9 @@ use borrow.Author.Needs.{needs}
 use borrow.Author.Tests.{leb-true, ltb-true}
 use Rattle.lists.proofs.Lists.{and-left, and-right}
 use Rattle.alphabet.specs.code.Numbers.{longest}
-use Rattle.half_duplex.specs.Line.{isOver}
+use Rattle.burst.specs.Line.{isOver}
 use Rattle.half_duplex.specs.Core.{modeIn}
-use Rattle.half_duplex.specs.Range.{CoreIn}
+use Rattle.half_duplex.specs.code.Bounds.{CoreIn}
 use Rattle.queue.specs.Queue.{movedBy}
 use Rattle.queue.proofs.Moves.{moved-by-length}
 use Rattle.station.specs.declared.Station.{Station}

@@ -4,7 +4,7 @@ use borrow.Author.Tests.{le-leb, lt-leb, not-true, not-false}
 use borrow.Author.Needs.{needs}
 use Rattle.station.proofs.checks.line_in.Statement.{statement}
 use Rattle.station.proofs.checks.line_in.Tie as tie
-use Rattle.half_duplex.proofs.sending.part_ms.Reads as part-ms-reads
+use Rattle.burst.proofs.part_ms.Reads as part-ms-reads
 use Rattle.alphabet.proofs.Mode.alphabet.Reads as alphabet-reads
 use Rattle.station.proofs.checks.code_in.Reads as code-in-reads
 

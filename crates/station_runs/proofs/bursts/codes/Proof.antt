@@ -12,11 +12,12 @@ use Rattle.alphabet.specs.Modes.{alphabetOf, codes}
 use Rattle.alphabet.specs.Normal.{sends}
 use Rattle.signal.specs.Signal.{signal}
 use Rattle.alphabet.specs.code.Numbers.{longest}
-use Rattle.half_duplex.specs.Line.{codeBegins}
+use Rattle.burst.specs.Line.{codeBegins}
 use Rattle.half_duplex.specs.Core.{modeIn}
-use Rattle.half_duplex.specs.Range.{CoreIn, SendsIn}
-use Rattle.half_duplex.proofs.Laws.{within}
-use Rattle.half_duplex.proofs.Range.{sends-in}
+use Rattle.burst.specs.code.Bounds.{SendsIn}
+use Rattle.half_duplex.specs.code.Bounds.{CoreIn}
+use Rattle.burst.proofs.Laws.{within}
+use Rattle.burst.proofs.Range.{sends-in}
 use Rattle.queue.specs.Queue.{movedBy}
 use Rattle.queue.proofs.Moves.{moved-by-length, moved-place}
 use Rattle.station.specs.Station.{station}

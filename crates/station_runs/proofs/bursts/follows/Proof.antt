@@ -6,7 +6,7 @@ use lib.Dec.{leb, ltb}
 use borrow.Author.Tests.{not-true, not-false}
 use Rattle.alphabet.specs.declared.Mode.{Mode}
 use Rattle.alphabet.specs.code.Numbers.{longest}
-use Rattle.half_duplex.specs.Line.{isOver}
+use Rattle.burst.specs.Line.{isOver}
 use Rattle.half_duplex.specs.Core.{modeIn}
 use borrow.Author.Needs.{needs}
 use Rattle.station_runs.proofs.bursts.follows.Statement.{statement}

@@ -5,9 +5,10 @@ use Prim.Native.Nat.{ℕ, _<_}
 use native.Mathlib.Omega.{arith}
 use lib.ListN.{length, getD}
 use Rattle.alphabet.specs.declared.Mode.{Mode}
-use Rattle.half_duplex.specs.Line.{partMs}
+use Rattle.burst.specs.Line.{partMs}
 use Rattle.half_duplex.specs.Core.{modeIn, settled}
-use Rattle.half_duplex.proofs.Range.{LoadedIn, settled-in}
+use Rattle.burst.proofs.Range.{LoadedIn}
+use Rattle.half_duplex.proofs.Range.{settled-in}
 use Rattle.station_runs.proofs.Joining.{loaded-sends, begin-stretch}
 use borrow.Author.Needs.{needs}
 use Rattle.station_runs.proofs.stretches.begin.Statement.{statement}

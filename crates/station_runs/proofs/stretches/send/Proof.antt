@@ -7,7 +7,7 @@ use lib.ListN.{length}
 use lib.Seq.{sets}
 use Rattle.lists.specs.Tables.{tabulate}
 use Rattle.alphabet.specs.declared.Mode.{Mode}
-use Rattle.half_duplex.specs.Line.{partMs}
+use Rattle.burst.specs.Line.{partMs}
 use Rattle.half_duplex.specs.Core.{modeIn}
 use Rattle.signal_runs.specs.code.Levels.{partLevel}
 use Rattle.signal_runs.proofs.Parts.{part-most}

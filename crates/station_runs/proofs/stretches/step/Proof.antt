@@ -4,7 +4,7 @@ use mathlib.Core.List.{List}
 use Prim.Native.Nat.{ℕ, _+_, _≤_}
 use native.Mathlib.Omega.{arith}
 use lib.ListN.{length, getD}
-use Rattle.half_duplex.specs.declared.Loaded.{Loaded}
+use Rattle.burst.specs.declared.Loaded.{Loaded}
 use Rattle.half_duplex.specs.Core.{settled, stepped}
 use Rattle.station_runs.proofs.Joining.{step-stretch}
 use borrow.Author.Needs.{needs}
