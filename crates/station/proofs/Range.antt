@@ -29,18 +29,17 @@ use Rattle.reader.specs.declared.Reader.{Reader}
 use Rattle.reader.specs.Reader.{reader}
 use Rattle.reader.specs.Range.{ReaderIn}
 use Rattle.reader.proofs.Range as line
-use Rattle.burst.specs.declared.OnLine.{OnLine}
-use Rattle.burst.specs.Line.{partMs}
+use Rattle.burst.specs.Range.{lineIn}
 use Rattle.half_duplex.specs.Core.{modeIn, settled, coreFrom}
 use Rattle.burst.specs.code.Bounds.{LineIn, SenderIn}
 use Rattle.half_duplex.specs.code.Bounds.{CoreIn}
-use Rattle.burst.proofs.Range.{blank-in}
+use Rattle.burst.proofs.Range.{blank-in, line-in, line-is, sender-in, sender-is}
 use Rattle.half_duplex.proofs.Range.{takes-waiting, core-after-in}
 use Rattle.queue.specs.Queue.{Queue, queue, waits, waiters, allWait, waitingOf, moved, room, offered, taken, inRange as queueIn}
 use Rattle.queue.proofs.Laws as queue
 use Rattle.station.specs.declared.Station.{Station}
 use Rattle.station.specs.Station.{modeOfStation, alphabetOfStation, queueOf, freshStation, hasDel, readerOffered, offeredTo, front, charsAfter, stationMs, stationAfter, wordsBy}
-use Rattle.station.specs.Range.{frameIn, keysIn, readerIn, lineIn, coreIn, inRange}
+use Rattle.station.specs.Range.{frameIn, keysIn, readerIn, coreIn, inRange}
 use Rattle.station.specs.Entries.{StationAnswered, StationRan, answered, isMode, openOf, offerAnswer, offerOf, runAnswer, ran, ranOf}
 
 -- ---- question 1 in facts

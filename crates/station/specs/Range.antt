@@ -2,9 +2,8 @@
 use Prim.Native.Nat.{ℕ, _+_}
 use mathlib.Core.Bool.{Bool, _&&_}
 use lib.Dec.{leb, ltb}
-use lib.ListN.{length}
 use Rattle.alphabet.specs.declared.Mode.{Mode}
-use Rattle.alphabet.specs.Modes.{alphabetOf, codes, frameCodes}
+use Rattle.alphabet.specs.Modes.{frameCodes}
 use Rattle.baudot.specs.Sending.{inRange as senderIn}
 use Rattle.frames.specs.declared.Frame.{Frame}
 use Rattle.frames.specs.Samples.{samplesOf}
@@ -13,9 +12,8 @@ use Rattle.keys.specs.declared.Keys.{Keys}
 use Rattle.keys.specs.Keys.{keyMs, quietMs}
 use Rattle.reader.specs.declared.Reader.{Reader}
 use Rattle.half_duplex.specs.declared.Core.{Core}
-use Rattle.burst.specs.declared.OnLine.{OnLine}
 use Rattle.burst.specs.Rules.{freeMs, afterMs}
-use Rattle.burst.specs.Line.{partMs}
+use Rattle.burst.specs.Range.{lineIn}
 use Rattle.half_duplex.specs.Core.{modeIn}
 use Rattle.queue.specs.Queue.{inRange as queueIn}
 use Rattle.station.specs.declared.Station.{Station}
@@ -33,10 +31,6 @@ keysIn k = leb (k .key) 16 && ltb (k .ms) keyMs && leb (k .needed) quietMs
 -- (there: marks at most 4).
 abbrev pub readerIn : Mode → Reader → Bool
 readerIn mode r = frameIn mode (r .frame) && keysIn (r .keys) && leb 1 (r .shift) && leb (r .shift) 2 && leb (r .prefix) 15
-
--- A part; a code of the alphabet; a place in the part or behind its last ms.
-abbrev pub lineIn : Mode → OnLine → Bool
-lineIn mode l = leb (l .part) 2 && ltb (l .code) (codes (alphabetOf mode)) && leb (l .at) (length (partMs mode l))
 
 -- Mode 1 to 4; timers; the line; the sender's shift at most 2 and its count at most 72; the reader.
 unfoldable pub coreIn : Core → Bool

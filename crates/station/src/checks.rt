@@ -1,20 +1,17 @@
 // Question 1: are the station's numbers in range?
-use alphabet::Alphabet;
 use alphabet::Mode;
 use baudot::Sender;
 use frames::Frame;
 use half_duplex::Core;
-use burst::OnLine;
 use keys::Keys;
 use reader::Reader;
 ghost use mathlib.Core.Path.{_≡_};
-ghost use lib.Dec.{ltb};
 ghost use Rattle.baudot.specs.Sending.{inRange as senderIn};
-ghost use Rattle.alphabet.specs.Modes.{codes, frameCodes};
+ghost use Rattle.alphabet.specs.Modes.{frameCodes};
 ghost use Rattle.frames.specs.Samples.{samplesOf};
 ghost use Rattle.frames.specs.Range.{lastMs};
 ghost use Rattle.station.specs.Station.{station};
-ghost use Rattle.station.specs.Range.{frameIn, keysIn, readerIn, lineIn, coreIn, inRange};
+ghost use Rattle.station.specs.Range.{frameIn, keysIn, readerIn, coreIn, inRange};
 
 // The ms of a frame's last sample.
 fn last_ms(mode: Mode) -> u8
@@ -82,29 +79,6 @@ fn reader_in(mode: Mode, r: Reader) -> bool
     r.prefix <= 15
 }
 
-// Is it a code of the alphabet? DTMF has 256.
-fn code_in(a: Alphabet, code: u8) -> bool
-    ensures { λ r. ⌜ r ≡ ltb code (codes a) ⌝ }
-{
-    match a {
-        Alphabet::Baudot => code < 32,
-        Alphabet::Dtmf => true,
-        Alphabet::Edt => code < 128,
-    }
-}
-
-fn line_in(mode: Mode, l: OnLine) -> bool
-    ensures { λ r. ⌜ r ≡ lineIn mode l ⌝ }
-{
-    if 2 < l.part {
-        return false;
-    }
-    if !code_in(mode.alphabet(), l.code) {
-        return false;
-    }
-    l.at <= burst::part_ms(mode, l)
-}
-
 fn sender_in(s: Sender) -> bool
     ensures { λ r. ⌜ r ≡ senderIn s ⌝ }
 {
@@ -131,7 +105,7 @@ fn core_in(c: Core) -> bool
     }
     let mode = Mode::of(c.mode);
     let l = c.line;
-    if !line_in(mode, l) {
+    if !burst::in_range(mode, l) {
         return false;
     }
     let s = c.sender;

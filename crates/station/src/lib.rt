@@ -3,7 +3,6 @@ use alphabet::Alphabet;
 use alphabet::Mode;
 use baudot::Sender;
 use half_duplex::Core;
-use burst::OnLine;
 use reader::Reader;
 ghost use mathlib.Core.Path.{_≡_};
 ghost use Rattle.alphabet.specs.declared.Alphabet.the-variants.{Baudot};
@@ -42,11 +41,7 @@ fn fresh(mode: u8) -> Core
         waiting: 0,
         silence: burst::rules::FREE,
         inhibited: 0,
-        line: OnLine {
-            at: 0,
-            part: 0,
-            code: 0,
-        },
+        line: burst::idle(),
         sender: Sender { shift: 0, count: 0 },
         reader,
         mode,
@@ -98,14 +93,7 @@ fn after_del(text: &[u8], r: Reader) -> Reader
     if !has_del(text) {
         return r;
     }
-    let frame = r.frame;
-    let keys = r.keys;
-    Reader {
-        frame,
-        keys,
-        shift: 1,
-        prefix: r.prefix,
-    }
+    Reader { shift: 1, ..r }
 }
 
 // The reader after an offer.
@@ -123,16 +111,10 @@ fn reader_offered(a: Alphabet, text: &[u8], r: Reader) -> Reader
 fn core_with(c: Core, waiting: u16, reader: Reader) -> Core
     ensures { λ r. ⌜ r ≡ coreWith c waiting reader ⌝ }
 {
-    let line = c.line;
-    let sender = c.sender;
     Core {
         waiting,
-        silence: c.silence,
-        inhibited: c.inhibited,
-        line,
-        sender,
         reader,
-        mode: c.mode,
+        ..c
     }
 }
 
