@@ -1,10 +1,10 @@
 // Whole codes of a burst, one after the other.
 use crate::Stretched;
 use alphabet::Char;
-use alphabet::LineCode;
 use alphabet::Mode;
 use half_duplex::Core;
 use burst::OnLine;
+use burst::rules;
 ghost use mathlib.Core.Path.{_≡_};
 ghost use mathlib.Core.Bool.{true, cond, _&&_};
 ghost use mathlib.Core.List.{List};
@@ -18,18 +18,6 @@ ghost use Rattle.queue.specs.Queue.{movedBy};
 ghost use Rattle.station.specs.Station.{station};
 ghost use Rattle.station.specs.Range.{inRange};
 ghost use Rattle.station_runs.specs.code.Stretches.{Stretches};
-
-// The most ms of a code.
-fn longest(mode: Mode) -> usize
-    ensures { λ r. ⌜ r ≡ longest mode ⌝ }
-{
-    match mode {
-        Mode::Baudot45 => 165,
-        Mode::Baudot50 => 150,
-        Mode::Dtmf => 480,
-        Mode::Edt => 100,
-    }
-}
 
 // Do characters wait, with room for any code?
 fn goes_on(taken: usize, waiting: usize, most: usize, room: usize) -> bool
@@ -50,7 +38,7 @@ pub fn follows(c: Core, room: usize) -> bool
     if !burst::is_over(mode, line) {
         return false;
     }
-    goes_on(0, c.waiting as usize, longest(mode), room)
+    goes_on(0, c.waiting as usize, mode.longest() as usize, room)
 }
 
 // How many are taken.
@@ -86,7 +74,7 @@ pub fn codes(
     let mode = Mode::of(c.mode);
     let a = mode.alphabet();
     let table = alphabet::table::send_table();
-    let most = longest(mode);
+    let most = mode.longest() as usize;
     let waiting = c.waiting as usize;
     let mut taken: usize = 0;
     let mut sender = c.sender;
@@ -96,16 +84,13 @@ pub fn codes(
         let sends = alphabet::table::lookup_in(&table, a, Char(chars[from + taken]));
         let l = burst::code_begins(a, line, sender, sends);
         let begins = l.line;
-        signal_runs::put_whole(mode, begins.code, sent, at);
-        let ms = signal::duration(mode, LineCode(begins.code));
+        let code = begins.code;
+        signal_runs::put_whole(mode, code, sent, at);
+        let ms = signal::duration(mode, code);
         taken = taken_after(l.takes, taken);
         sender = l.sender;
-        let over = OnLine {
-            at: ms,
-            part: begins.part,
-            code: begins.code,
-        };
-        line = burst::ended(true, (waiting - taken) as u16, over);
+        let over = OnLine { at: ms, ..begins };
+        line = burst::ended(true, rules::may_end((waiting - taken) as u16), over);
         at += ms as usize;
     }
     Stretched {

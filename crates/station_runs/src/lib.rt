@@ -1,4 +1,5 @@
 // The ms of a run, in stretches.
+use alphabet::Char;
 use half_duplex::Core;
 ghost use mathlib.Core.Path.{_≡_};
 ghost use mathlib.Core.Bool.{true, _||_};
@@ -35,7 +36,7 @@ pub struct Stretched {
 fn may_send(c: Core) -> bool
     ensures { λ r. ⌜ r ≡ (inBurst (c .line) || mayBegin (c .waiting) (c .silence)) ⌝ }
 {
-    if c.line.part != 0 {
+    if c.line.part != burst::IDLE {
         return true;
     }
     burst::rules::may_begin(c.waiting, c.silence)
@@ -68,7 +69,7 @@ fn stretch(
         return bursts::codes(c, chars, taken, heard, i, sent, n);
     }
     if may_send(c) {
-        let front = queue::front_after(chars, taken);
+        let front = Char(queue::front_after(chars, taken));
         return stretches::begin(c, front, heard, i, sent, words, n);
     }
     if c.inhibited != 0 {

@@ -1,5 +1,6 @@
 // The stretches of a run.
 use crate::Stretched;
+use alphabet::Char;
 use alphabet::Mode;
 use half_duplex::Core;
 use burst::Loaded;
@@ -90,7 +91,7 @@ fn send(
 // Sending is settled, and the ms of what is then on the line are sent; one ms if it has none.
 pub fn begin(
     c: Core,
-    front: u8,
+    front: Char,
     heard: &[u8],
     i: usize,
     sent: &mut [u8],
@@ -98,11 +99,11 @@ pub fn begin(
     n: usize,
 ) -> Stretched
     requires { ⌜ CoreIn c ⌝ }
-    requires { ⌜ (1 ≤ c .waiting → front < 128) ⌝ }
+    requires { ⌜ (1 ≤ c .waiting → front .0 < 128) ⌝ }
     requires { ⌜ i < length (now heard) ⌝ }
     requires { ⌜ length (now heard) ≤ length (now sent) ⌝ }
     requires { ⌜ n < length (now words) ⌝ }
-    ensures { λ x. ⌜ ((chars : List ℕ) → getD chars 0 0 ≡ front → Stretches (now (heard .entry)) c chars (now (sent .entry)) (now (words .entry)) i n x (now (sent .exit)) (now (words .exit))) ⌝ }
+    ensures { λ x. ⌜ ((chars : List ℕ) → getD chars 0 0 ≡ front .0 → Stretches (now (heard .entry)) c chars (now (sent .entry)) (now (words .entry)) i n x (now (sent .exit)) (now (words .exit))) ⌝ }
 {
     let l = half_duplex::settle(c, front);
     let line = l.line;
