@@ -144,7 +144,7 @@ pub fn code_begins(a: Alphabet, l: OnLine, s: Sender, sends: Sends) -> Loaded
         };
     }
     Loaded {
-        line: code_at(baudot::sending::shift_code(w)),
+        line: code_at(baudot::sending::shift_code(w).0),
         sender: Sender { shift: w, count: 0 },
         takes: false,
     }

@@ -68,7 +68,7 @@ fn stretch(
         return bursts::codes(c, chars, taken, heard, i, sent, n);
     }
     if may_send(c) {
-        let front = queue::front_after(chars, taken);
+        let front = queue::front_after(chars, taken).0;
         return stretches::begin(c, front, heard, i, sent, words, n);
     }
     if c.inhibited != 0 {
