@@ -19,7 +19,7 @@ use Rattle.alphabet.specs.declared.Reads.the-variants.{Character, Shift,
 use Rattle.alphabet.specs.Print.{leftRows, rightRows, rows, bitsFrom, bits, keys}
 use Rattle.alphabet.specs.TableA1.{a1}
 use Rattle.alphabet.specs.TableB1.{b1}
-use Rattle.alphabet.specs.Baudot.{printedAt, readBaudot}
+use Rattle.alphabet.specs.Baudot.{lettersCode, figuresCode, printedAt, readBaudot}
 use Rattle.alphabet.specs.Dtmf.{withMark, codeFrom, prefixes, keysOf, marksThenDigit, among, notStruck, remaining, names, firstSign, named, readIn, readDtmf}
 use Rattle.alphabet.specs.Normal.{sends}
 use Rattle.alphabet.specs.Modes.{codes}
@@ -149,19 +149,19 @@ shift-range s = go (eqb s 2)
     go false = (omega arith, omega arith)
 
 -- the codes that select a shift
-pub reads-figures-code : (s k : ℕ) → k ≡ 0b11011 → Shift 2 ≡ readBaudot s k
+pub reads-figures-code : (s k : ℕ) → k ≡ figuresCode → Shift 2 ≡ readBaudot s k
 unfolding readBaudot
 reads-figures-code s k e = simp e
 
-pub reads-letters-code : (s k : ℕ) → k ≡ 0b11111 → Shift 1 ≡ readBaudot s k
+pub reads-letters-code : (s k : ℕ) → k ≡ lettersCode → Shift 1 ≡ readBaudot s k
 unfolding readBaudot
 reads-letters-code s k e = simp e
 
 -- any other reads as a character, which the table t has
-module _ (s k : ℕ) (l : k ≡ 0b11111 → ⊥) (f : k ≡ 0b11011 → ⊥) where
+module _ (s k : ℕ) (l : k ≡ lettersCode → ⊥) (f : k ≡ figuresCode → ⊥) where
   other-char : Character (record { 0 = charIn (readBaudot s k) }) ≡ readBaudot s k
   unfolding readBaudot
-  other-char = simp (ne-eqb k 0b11111 l, ne-eqb k 0b11011 f)
+  other-char = simp (ne-eqb k lettersCode l, ne-eqb k figuresCode f)
 
   pub table-char : (t : List ℕ) → t ≡ readTable → 1 ≤ s → s ≤ 2 → k < 32
       → Character (record { 0 = getD t ((s - 1) * 32 + k) 0 }) ≡ readBaudot s k

@@ -31,11 +31,18 @@ printedAt n (r ∷ rs) =
     let later = printedAt n rs in
     cond (eqb (bits (r .from)) n) (r .to) later
 
--- Reading follows Table A.1's T.50 column; 11111 selects letters and 11011 figures, and neither gives a character.
+-- 11111 selects letters, 11011 figures.
+abbrev pub lettersCode : ℕ
+lettersCode = 0b11111
+
+abbrev pub figuresCode : ℕ
+figuresCode = 0b11011
+
+-- Reading follows Table A.1's T.50 column; the codes that select a shift give no character.
 unfoldable pub readBaudot : ℕ → ℕ → Reads
 readBaudot shift code =
-    cond (eqb code 0b11111) (Shift letters)
-    (cond (eqb code 0b11011) (Shift figures)
+    cond (eqb code lettersCode) (Shift letters)
+    (cond (eqb code figuresCode) (Shift figures)
     (Character (record { 0 = bits (printedAt code (cond (eqb shift figures) (rightRows a1) (leftRows a1))) })))
 
 -- The codes that mean BACKSPACE, LF, SPACE and CR in both shifts.

@@ -8,10 +8,15 @@ ghost use mathlib.Core.Path.{_≡_};
 ghost use Prim.Native.Nat.{_≤_, _<_};
 ghost use Rattle.alphabet.specs.declared.Alphabet.the-variants as alphabets;
 ghost use Rattle.alphabet.specs.declared.Reads.the-variants.{Character};
-ghost use Rattle.alphabet.specs.Baudot.{readBaudot};
+ghost use Rattle.alphabet.specs.Baudot.{lettersCode, figuresCode, readBaudot};
 ghost use Rattle.alphabet.specs.Dtmf.{readDtmf};
 ghost use Rattle.alphabet.specs.Normal.{sends, reads, readBack};
 ghost use Rattle.alphabet.specs.code.Packing.{base, sendTable, readTable, shiftOf, dtmfAt};
+
+// The codes that select letters and figures.
+pub const LETTERS: LineCode = LineCode(0b11111);
+
+pub const FIGURES: LineCode = LineCode(0b11011);
 
 // The 384 entries: 128 for each alphabet. 0 for a character that sends nothing, else 256 times its shift plus its code.
 const SEND: [u16; 384] = [
@@ -785,7 +790,7 @@ pub fn read_char(table: &[u8; 64], shift: u8, code: LineCode) -> Char
     requires { ⌜ now table ≡ readTable ⌝ }
     requires { ⌜ (1 ≤ shift) × (shift ≤ 2) ⌝ }
     requires { ⌜ code .0 < 32 ⌝ }
-    requires { ⌜ (code .0 ≡ 0b11111 → ⊥) × (code .0 ≡ 0b11011 → ⊥) ⌝ }
+    requires { ⌜ (code .0 ≡ lettersCode → ⊥) × (code .0 ≡ figuresCode → ⊥) ⌝ }
     ensures { λ r. ⌜ Character r ≡ readBaudot shift (code .0) ⌝ }
 {
     let at = (shift as usize - 1) * 32 + code.0 as usize;
@@ -807,10 +812,10 @@ pub fn read_baudot(shift: u8, code: LineCode) -> Reads
     requires { ⌜ code .0 < 32 ⌝ }
     ensures { λ r. ⌜ r ≡ readBaudot shift (code .0) ⌝ }
 {
-    if code.0 == 0b11111 {
+    if code.0 == LETTERS.0 {
         return Reads::Shift(1);
     }
-    if code.0 == 0b11011 {
+    if code.0 == FIGURES.0 {
         return Reads::Shift(2);
     }
     let table = read_table();

@@ -3,9 +3,10 @@ use Prim.Native.Nat.{ℕ, _+_, _-_}
 use mathlib.Core.Bool.{cond}
 use mathlib.Core.List.{List, [], _∷_}
 use lib.Dec.{eqb, leb}
+use Rattle.alphabet.specs.Baudot.{lettersCode, figuresCode}
 
 abbrev pub shiftOne : ℕ → ℕ
-shiftOne k = cond (eqb k 0b11111) 1 (cond (eqb k 0b11011) 1 0)
+shiftOne k = cond (eqb k lettersCode) 1 (cond (eqb k figuresCode) 1 0)
 
 -- the shift codes of a list
 unfoldable pub shiftsIn : List ℕ → ℕ

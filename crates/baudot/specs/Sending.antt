@@ -6,7 +6,7 @@ use lib.Dec.{eqb, leb}
 use Rattle.alphabet.specs.declared.Alphabet.the-variants.{Baudot}
 use Rattle.alphabet.specs.declared.Sends.{Sends}
 use Rattle.alphabet.specs.declared.Sends.the-variants.{Nothing, Code}
-use Rattle.alphabet.specs.Baudot.{letters, figures, anyShift}
+use Rattle.alphabet.specs.Baudot.{letters, figures, anyShift, lettersCode, figuresCode}
 use Rattle.alphabet.specs.Normal.{sends}
 use Rattle.baudot.specs.declared.Sender.{Sender}
 
@@ -16,9 +16,9 @@ sender shift count = record { shift = shift; count = count }
 abbrev pub fresh : Sender
 fresh = sender 0 0
 
--- 11111 selects letters, 11011 figures.
+-- The code that selects a shift.
 abbrev pub shiftCode : ℕ → ℕ
-shiftCode shift = cond (eqb shift figures) 0b11011 0b11111
+shiftCode shift = cond (eqb shift figures) figuresCode lettersCode
 
 -- A code of the shift `own` (3: of both) is not of this shift.
 abbrev pub differs : ℕ → ℕ → Bool

@@ -1,4 +1,5 @@
 // The lines of the listing program.
+use alphabet::LineCode;
 ghost use mathlib.Core.Path.{_≡_};
 ghost use Prim.Native.Nat.{_+_, _*_, _≤_, _<_};
 ghost use lib.ListN.{length};
@@ -14,15 +15,15 @@ fn digit(n: u8) -> u8
 }
 
 // A code as five digits and LF, written at a place.
-fn put_line(lines: &mut [u8], at: usize, code: u8)
+fn put_line(lines: &mut [u8], at: usize, code: LineCode)
     requires { ⌜ at + 6 ≤ length (now lines) ⌝ }
-    ensures { λ r. ⌜ now (lines .exit) ≡ sets (now (lines .entry)) at (lineOf code) ⌝ }
+    ensures { λ r. ⌜ now (lines .exit) ≡ sets (now (lines .entry)) at (lineOf (code .0)) ⌝ }
 {
-    lines[at] = digit(code / 16);
-    lines[at + 1] = digit(code / 8);
-    lines[at + 2] = digit(code / 4);
-    lines[at + 3] = digit(code / 2);
-    lines[at + 4] = digit(code);
+    lines[at] = digit(code.0 / 16);
+    lines[at + 1] = digit(code.0 / 8);
+    lines[at + 2] = digit(code.0 / 4);
+    lines[at + 3] = digit(code.0 / 2);
+    lines[at + 4] = digit(code.0);
     lines[at + 5] = 10;
 }
 
@@ -33,7 +34,7 @@ fn put_lines(codes: &[u8], lines: &mut [u8])
 {
     let mut i: usize = 0;
     while i < codes.len() {
-        put_line(lines, 6 * i, codes[i]);
+        put_line(lines, 6 * i, LineCode(codes[i]));
         i += 1;
     }
 }

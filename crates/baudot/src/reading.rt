@@ -30,10 +30,10 @@ fn put_code(table: &[u8; 64], text: &mut [u8], at: usize, shift: u8, code: LineC
     ensures { λ r. ⌜ r ≡ record { at = at + length (charsOf (readBaudot shift (code .0))); shift = shiftBy shift (readBaudot shift (code .0)) } ⌝ }
     ensures { λ r. ⌜ now (text .exit) ≡ sets (now (text .entry)) at (charsOf (readBaudot shift (code .0))) ⌝ }
 {
-    if code.0 == 0b11111 {
+    if code.0 == alphabet::table::LETTERS.0 {
         return Taken { at, shift: 1 };
     }
-    if code.0 == 0b11011 {
+    if code.0 == alphabet::table::FIGURES.0 {
         return Taken { at, shift: 2 };
     }
     let c = alphabet::table::read_char(table, shift, code);
@@ -60,13 +60,13 @@ fn put_codes(table: &[u8; 64], codes: &[u8], shift: u8, text: &mut [u8]) -> Take
 }
 
 // 1 for a shift code, 0 for any other.
-fn shift_one(code: u8) -> u8
-    ensures { λ r. ⌜ r ≡ shiftOne code ⌝ }
+fn shift_one(code: LineCode) -> u8
+    ensures { λ r. ⌜ r ≡ shiftOne (code .0) ⌝ }
 {
-    if code == 0b11111 {
+    if code.0 == alphabet::table::LETTERS.0 {
         return 1;
     }
-    if code == 0b11011 {
+    if code.0 == alphabet::table::FIGURES.0 {
         return 1;
     }
     0
@@ -80,7 +80,7 @@ fn count_block(codes: &[u8]) -> u8
     let mut n: u8 = 0;
     let mut i: usize = 0;
     while i < codes.len() {
-        n += shift_one(codes[i]);
+        n += shift_one(LineCode(codes[i]));
         i += 1;
     }
     n

@@ -3,6 +3,7 @@ use crate::BaudotSent;
 use crate::Sender;
 use alphabet::Alphabet;
 use alphabet::Char;
+use alphabet::LineCode;
 use alphabet::Sends;
 ghost use mathlib.Core.Path.{_≡_};
 ghost use mathlib.Core.Bool.{true};
@@ -35,13 +36,13 @@ pub struct Opening {
 }
 
 // The code that selects a shift.
-pub fn shift_code(shift: u8) -> u8
-    ensures { λ r. ⌜ r ≡ shiftCode shift ⌝ }
+pub fn shift_code(shift: u8) -> LineCode
+    ensures { λ r. ⌜ r .0 ≡ shiftCode shift ⌝ }
 {
     if shift == 2 {
-        return 0b11011;
+        return alphabet::table::FIGURES;
     }
-    0b11111
+    alphabet::table::LETTERS
 }
 
 // The shift code that a running sender wants ahead of a code of the shift `own`: 1 letters, 2 figures, 0 none.
@@ -93,7 +94,7 @@ fn put_char(table: &[u16; 384], codes: &mut [u8], at: usize, s: Sender, c: Char)
             },
         };
     }
-    codes[at] = shift_code(w);
+    codes[at] = shift_code(w).0;
     codes[at + 1] = code.0;
     Placed {
         at: at + 2,
@@ -273,7 +274,7 @@ fn put_opened(table: &[u16; 384], text: &[u8], o: Opening, codes: &mut [u8]) -> 
     ensures { λ r. ⌜ now (codes .exit) ≡ sets (now (codes .entry)) 0 (openingCodes (o .at) ++ codesOf (o .sender) (drop (o .from) (now (text .entry)))) ⌝ }
 {
     if o.at == 1 {
-        codes[0] = shift_code(1);
+        codes[0] = shift_code(1).0;
         return put_from(table, text, o.from, codes, 1, o.sender);
     }
     put_from(table, text, o.from, codes, 0, o.sender)

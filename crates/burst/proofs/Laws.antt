@@ -16,8 +16,6 @@ use Rattle.alphabet.specs.declared.LineCode.{LineCode}
 use Rattle.alphabet.specs.Modes.{preambleOf, alphabetOf}
 use Rattle.alphabet.specs.Normal.{sends}
 use Rattle.signal.specs.Signal.{signal, preamble}
-use Rattle.alphabet.specs.code.Numbers.{longest}
-use Rattle.signal.proofs.Lengths.{baudot-165, baudot-150, edt-100, dtmf-120, four-keys}
 use Rattle.baudot.specs.declared.Sender.{Sender}
 use Rattle.baudot.specs.Sending.{sender, shiftCode}
 use Rattle.burst.specs.declared.OnLine.{OnLine}
@@ -68,13 +66,6 @@ module _ (mode : Mode) (l : OnLine) where
 
   pub code-ms : l .part ≡ 2 → length (partMs mode l) ≡ length (signal mode (l .code .0))
   code-ms e = ap length (code-is e)
-
--- no signal is longer than the longest of its mode
-pub within : (mode : Mode) (k : ℕ) → k < 256 → length (signal mode k) ≤ longest mode
-within Baudot45 k h = let n = baudot-165 k in omega arith
-within Baudot50 k h = let n = baudot-150 k in omega arith
-within Dtmf k h = let n = dtmf-120 k in let f = four-keys k h in omega arith
-within Edt k h = let n = edt-100 k in omega arith
 
 -- the code that begins: none, an own code, a shift code
 module _ (a : Alphabet) (l : OnLine) (s : Sender) where

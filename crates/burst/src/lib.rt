@@ -161,7 +161,7 @@ pub fn code_begins(a: Alphabet, l: OnLine, s: Sender, sends: Sends) -> Loaded
         };
     }
     Loaded {
-        line: code_at(LineCode(baudot::sending::shift_code(w))),
+        line: code_at(baudot::sending::shift_code(w)),
         sender: Sender { shift: w, count: 0 },
         takes: false,
     }

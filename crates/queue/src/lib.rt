@@ -1,5 +1,6 @@
 // Characters that wait to be sent: at most 256, the front one first.
 use alphabet::Alphabet;
+use alphabet::Char;
 ghost use mathlib.Core.Path.{_≡_};
 ghost use mathlib.Core.Bool.{_&&_};
 ghost use mathlib.Core.List.{[], _∷_};
@@ -13,40 +14,40 @@ ghost use Rattle.queue.specs.Queue.{waits, waiters, allWait, queue, inRa
 // The most characters that wait.
 pub const MOST: u16 = 256;
 
-fn between(c: u8, least: u8, most: u8) -> bool
-    ensures { λ r. ⌜ r ≡ (leb least c && leb c most) ⌝ }
+fn between(c: Char, least: u8, most: u8) -> bool
+    ensures { λ r. ⌜ r ≡ (leb least (c .0) && leb (c .0) most) ⌝ }
 {
-    (least <= c) & (c <= most)
+    (least <= c.0) & (c.0 <= most)
 }
 
 // Does a character wait when it is offered? Those that send something do. The test is by ranges and has no branch, so that a
 // loop over characters is compiled to vector instructions.
-fn waits_baudot(c: u8) -> bool
-    ensures { λ r. ⌜ r ≡ waits Baudot c ⌝ }
+fn waits_baudot(c: Char) -> bool
+    ensures { λ r. ⌜ r ≡ waits Baudot (c .0) ⌝ }
 {
-    between(c, 0x08, 0x0d) | (c == 0x1a) | between(c, 0x1c, 0x7e)
+    between(c, 0x08, 0x0d) | (c.0 == 0x1a) | between(c, 0x1c, 0x7e)
 }
 
-fn waits_dtmf(c: u8) -> bool
-    ensures { λ r. ⌜ r ≡ waits Dtmf c ⌝ }
+fn waits_dtmf(c: Char) -> bool
+    ensures { λ r. ⌜ r ≡ waits Dtmf (c .0) ⌝ }
 {
     between(c, 0x08, 0x0c)
-        | (c == 0x1a)
+        | (c.0 == 0x1a)
         | between(c, 0x1c, 0x21)
         | between(c, 0x25, 0x26)
         | between(c, 0x28, 0x2e)
         | between(c, 0x30, 0x5d)
-        | (c == 0x5f)
+        | (c.0 == 0x5f)
         | between(c, 0x61, 0x7f)
 }
 
-fn waits(a: Alphabet, c: u8) -> bool
-    ensures { λ r. ⌜ r ≡ waits a c ⌝ }
+fn waits(a: Alphabet, c: Char) -> bool
+    ensures { λ r. ⌜ r ≡ waits a (c .0) ⌝ }
 {
     match a {
         Alphabet::Baudot => waits_baudot(c),
         Alphabet::Dtmf => waits_dtmf(c),
-        Alphabet::Edt => c <= 0x7f,
+        Alphabet::Edt => c.0 <= 0x7f,
     }
 }
 
@@ -57,7 +58,7 @@ fn count_waiters(a: Alphabet, text: &[u8]) -> usize
     let mut n: usize = 0;
     let mut i: usize = 0;
     while i < text.len() {
-        if waits(a, text[i]) {
+        if waits(a, Char(text[i])) {
             n += 1;
         }
         i += 1;
@@ -66,13 +67,13 @@ fn count_waiters(a: Alphabet, text: &[u8]) -> usize
 }
 
 // A character, written at a place if it waits; the next place.
-fn put_char(a: Alphabet, c: u8, chars: &mut [u8], at: usize) -> usize
-    requires { ⌜ at + length (waiters a (c ∷ [])) ≤ length (now chars) ⌝ }
-    ensures { λ r. ⌜ r ≡ at + length (waiters a (c ∷ [])) ⌝ }
-    ensures { λ r. ⌜ now (chars .exit) ≡ sets (now (chars .entry)) at (waiters a (c ∷ [])) ⌝ }
+fn put_char(a: Alphabet, c: Char, chars: &mut [u8], at: usize) -> usize
+    requires { ⌜ at + length (waiters a (c .0 ∷ [])) ≤ length (now chars) ⌝ }
+    ensures { λ r. ⌜ r ≡ at + length (waiters a (c .0 ∷ [])) ⌝ }
+    ensures { λ r. ⌜ now (chars .exit) ≡ sets (now (chars .entry)) at (waiters a (c .0 ∷ [])) ⌝ }
 {
     if waits(a, c) {
-        chars[at] = c;
+        chars[at] = c.0;
         return at + 1;
     }
     at
@@ -86,7 +87,7 @@ fn put_waiters(a: Alphabet, text: &[u8], chars: &mut [u8], at: usize)
     let mut n = at;
     let mut i: usize = 0;
     while i < text.len() {
-        n = put_char(a, text[i], chars, n);
+        n = put_char(a, Char(text[i]), chars, n);
         i += 1;
     }
 }
@@ -98,7 +99,7 @@ fn all_baudot(chars: &[u8]) -> bool
     let mut good = true;
     let mut i: usize = 0;
     while i < chars.len() {
-        good = good & waits_baudot(chars[i]);
+        good = good & waits_baudot(Char(chars[i]));
         i += 1;
     }
     good
@@ -110,7 +111,7 @@ fn all_dtmf(chars: &[u8]) -> bool
     let mut good = true;
     let mut i: usize = 0;
     while i < chars.len() {
-        good = good & waits_dtmf(chars[i]);
+        good = good & waits_dtmf(Char(chars[i]));
         i += 1;
     }
     good
@@ -127,17 +128,17 @@ fn all_wait(a: Alphabet, chars: &[u8]) -> bool
 }
 
 // The character in front after n are taken.
-pub fn front_after(chars: &[u8], n: usize) -> u8
-    ensures { λ r. ⌜ r ≡ getD (movedBy n (now (chars .entry))) 0 0 ⌝ }
+pub fn front_after(chars: &[u8], n: usize) -> Char
+    ensures { λ r. ⌜ r .0 ≡ getD (movedBy n (now (chars .entry))) 0 0 ⌝ }
 {
     if chars.len() == 0 {
-        return 0;
+        return Char(0);
     }
     let last = chars.len() - 1;
     if last < n {
-        return chars[last];
+        return Char(chars[last]);
     }
-    chars[n]
+    Char(chars[n])
 }
 
 // All move up n places in one pass; the last character stays in the places that are left. It is stored twice at each of

@@ -14,6 +14,7 @@ use Rattle.alphabet.specs.Print.{keys}
 use Rattle.alphabet.specs.declared.Mode.{Mode}
 use Rattle.alphabet.specs.declared.Mode.the-variants.{Baudot45, Baudot50, Dtmf, Edt}
 use Rattle.alphabet.specs.Dtmf.{prefixes, keysOf}
+use Rattle.alphabet.specs.code.Numbers.{longest}
 use Rattle.signal.specs.Signal.{levelOf, digits, held, baudotSignal, edtElements, edtSignal, heldKeys, keysSignal, signal}
 
 pub digits-length : (n k : ℕ) → length (digits n k) ≡ n
@@ -87,6 +88,13 @@ module _ (n : ℕ) (h : n < 256) where
 
   pub four-keys : length (keysOf n) ≤ 4
   four-keys = leb-true _ 4 (is-true _ (both-right (eqb (length (keysOf n)) (keyCount (n / 16))) (leb (length (keysOf n)) 4) both))
+
+-- no signal is longer than the longest of its mode
+pub within-longest : (mode : Mode) (k : ℕ) → k < 256 → length (signal mode k) ≤ longest mode
+within-longest Baudot45 k h = let n = baudot-165 k in omega arith
+within-longest Baudot50 k h = let n = baudot-150 k in omega arith
+within-longest Dtmf k h = let n = dtmf-120 k in let f = four-keys k h in omega arith
+within-longest Edt k h = let n = edt-100 k in omega arith
 
 -- the length of a signal in a mode that is known
 pub length-in : (d o : Mode) (k n : ℕ) → d ≡ o → n ≡ length (signal o k) → n ≡ length (signal d k)

@@ -5,6 +5,7 @@ ghost use mathlib.Core.Path.{_≡_};
 ghost use Prim.Native.Nat.{_+_, _*_, _/_, _%_, _^_, _-_, _<_};
 ghost use lib.ListN.{length, getD};
 ghost use Rattle.signal.specs.Signal.{levelOf, parityOf, keysSignal, signal};
+ghost use Rattle.alphabet.specs.declared.Mode.the-variants.{Dtmf};
 ghost use Rattle.alphabet.specs.Dtmf.{keysOf};
 ghost use Rattle.alphabet.specs.Modes.{alphabetOf, codes};
 ghost use Rattle.alphabet.specs.code.Numbers.{longest};
@@ -49,11 +50,11 @@ pub fn edt_frame(code: LineCode) -> u16
 
 // The level of a DTMF code at a ms.
 fn keys_level(code: LineCode, at: u16) -> u8
-    requires { ⌜ at < 480 ⌝ }
+    requires { ⌜ at < longest Dtmf ⌝ }
     ensures { λ r. ⌜ r ≡ getD (keysSignal (keysOf (code .0))) at 0 ⌝ }
 {
-    if at % 120 < 70 {
-        return alphabet::dtmf::key(code, (at / 120) as u8);
+    if at % Mode::KEY < Mode::KEY_ON {
+        return alphabet::dtmf::key(code, (at / Mode::KEY) as u8);
     }
     0
 }
@@ -68,7 +69,7 @@ pub fn level(mode: Mode, code: LineCode, at: u16) -> u8
         Mode::Baudot45 => frame_level(baudot_frame(code), at / Mode::BAUDOT_45_ELEMENT),
         Mode::Baudot50 => frame_level(baudot_frame(code), at / Mode::BAUDOT_50_ELEMENT),
         Mode::Dtmf => keys_level(code, at),
-        Mode::Edt => frame_level(edt_frame(code), 11 * at / 100),
+        Mode::Edt => frame_level(edt_frame(code), Mode::EDT_ELEMENTS * at / Mode::EDT_CODE),
     }
 }
 
@@ -97,9 +98,9 @@ pub fn duration(mode: Mode, code: LineCode) -> u16
     ensures { λ r. ⌜ r ≡ length (signal mode (code .0)) ⌝ }
 {
     match mode {
-        Mode::Baudot45 => 165,
-        Mode::Baudot50 => 150,
-        Mode::Dtmf => 120 * key_count(code),
-        Mode::Edt => 100,
+        Mode::Baudot45 => Mode::BAUDOT_45_CODE,
+        Mode::Baudot50 => Mode::BAUDOT_50_CODE,
+        Mode::Dtmf => Mode::KEY * key_count(code),
+        Mode::Edt => Mode::EDT_CODE,
     }
 }

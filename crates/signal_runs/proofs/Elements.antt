@@ -18,10 +18,10 @@ use Rattle.alphabet.specs.Modes.{alphabetOf, codes}
 use Rattle.signal.specs.Signal.{mark, space, quiet, levelOf, digits, held, baudotSignal, parityOf, edtElements, edtSignal, heldKeys, keysSignal, signal}
 use Rattle.alphabet.specs.code.Numbers.{longest}
 use Rattle.signal.proofs.Levels.{test-22, test-20, baudot-at, edt-at, keys-on, keys-off}
-use Rattle.signal.proofs.Lengths.{digits-length, held-length, baudot-165, baudot-150, edt-100}
+use Rattle.signal.proofs.Lengths.{digits-length, held-length, baudot-165, baudot-150, edt-100, within-longest}
 use Rattle.burst.specs.declared.OnLine.{OnLine}
 use Rattle.burst.specs.Line.{further, inBurst, partMs}
-use Rattle.burst.proofs.Laws.{within, level-preamble, level-code}
+use Rattle.burst.proofs.Laws.{level-preamble, level-code}
 use Rattle.lists.specs.code.Places.{UpTo}
 use Rattle.signal_runs.specs.code.Levels.{codeLevel, partLevel, evenMs, elementAt, elementEnd, frameOf, Run, Framed}
 use Rattle.signal_runs.proofs.Parts.{few-codes, longest-480}
@@ -187,7 +187,7 @@ pub short : (mode : Mode) (k : ℕ) → k < codes (alphabetOf mode) → Short mo
 short mode k h =
     let f = few-codes (alphabetOf mode) in
     let l = longest-480 mode in
-    let w = within mode k (omega arith) in
+    let w = within-longest mode k (omega arith) in
     record { longest = w; most = omega arith }
 
 -- a part in a burst that is not the preamble is a code

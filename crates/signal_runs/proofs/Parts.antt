@@ -14,7 +14,7 @@ use Rattle.alphabet.specs.code.Numbers.{longest}
 use Rattle.burst.specs.declared.OnLine.{OnLine}
 use Rattle.burst.specs.Line.{isCode, inBurst, partMs}
 use Rattle.burst.specs.code.Bounds.{LineIn}
-use Rattle.burst.proofs.Laws.{within}
+use Rattle.signal.proofs.Lengths.{within-longest}
 
 pub few-codes : (a : Alphabet) → codes a ≤ 256
 few-codes alphabet.Baudot = omega arith
@@ -39,7 +39,7 @@ unfolding partMs
 part-most mode l i =
     let f = few-codes (alphabetOf mode) in
     let k = i .code-in in
-    let a = within mode (l .code) (omega arith) in
+    let a = within-longest mode (l .code) (omega arith) in
     let b = longest-480 mode in
     let p = length-replicate {A = ℕ} (preambleOf mode) 1 in
     let q = preamble-480 mode in

@@ -1,5 +1,4 @@
 // The ms of a run, in stretches.
-use alphabet::Char;
 use half_duplex::Core;
 ghost use mathlib.Core.Path.{_≡_};
 ghost use mathlib.Core.Bool.{true, _||_};
@@ -69,7 +68,7 @@ fn stretch(
         return bursts::codes(c, chars, taken, heard, i, sent, n);
     }
     if may_send(c) {
-        let front = Char(queue::front_after(chars, taken));
+        let front = queue::front_after(chars, taken);
         return stretches::begin(c, front, heard, i, sent, words, n);
     }
     if c.inhibited != 0 {

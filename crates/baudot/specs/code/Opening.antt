@@ -6,6 +6,7 @@ use Prim.Native.Nat.{ℕ, _≤_, _<_}
 use lib.Dec.{eqb}
 use lib.ListN.{length, getD, drop}
 use Rattle.alphabet.specs.declared.Alphabet.the-variants.{Baudot}
+use Rattle.alphabet.specs.Baudot.{lettersCode}
 use Rattle.alphabet.specs.Normal.{sends, isCode}
 use Rattle.baudot.specs.declared.Sender.{Sender}
 use Rattle.baudot.specs.declared.sending.Opening.{Opening}
@@ -19,7 +20,7 @@ pub record Silent (text : List ℕ) (n : ℕ) : Type 0 where
   pub then-code : n < length text → isCode (sends Baudot (getD text n 0)) ≡ true
 
 abbrev pub openingCodes : ℕ → List ℕ
-openingCodes n = cond (eqb n 0) [] (0b11111 ∷ [])
+openingCodes n = cond (eqb n 0) [] (lettersCode ∷ [])
 
 -- What is left to be sent from an opening, of a text and a sender.
 pub record Opened (text : List ℕ) (s : Sender) (o : Opening) : Type 0 where

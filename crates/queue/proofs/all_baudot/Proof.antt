@@ -20,8 +20,8 @@ abbrev μ-loop : tie.MeasureT-loop
 loop-holds : tie.Need-loop-holds Inv-loop μ-loop
 loop-holds c = refl
 
-shared-slice-read-waits-baudot : tie.Need-shared-slice-read-waits-baudot Inv-loop μ-loop
-shared-slice-read-waits-baudot c = search needs
+shared-slice-read-t7 : tie.Need-shared-slice-read-t7 Inv-loop μ-loop
+shared-slice-read-t7 c = search needs
 
 waits-baudot-requires : tie.Need-waits-baudot-requires Inv-loop μ-loop
 waits-baudot-requires c κs = search needs
@@ -48,7 +48,7 @@ all-baudot-spec =
     Inv-loop
     μ-loop
     loop-holds
-    shared-slice-read-waits-baudot
+    shared-slice-read-t7
     waits-baudot-requires
     add-i
     loop-less

@@ -20,8 +20,8 @@ abbrev μ-loop : tie.MeasureT-loop
 loop-holds : tie.Need-loop-holds Inv-loop μ-loop
 loop-holds c = refl
 
-shared-slice-read-waits-dtmf : tie.Need-shared-slice-read-waits-dtmf Inv-loop μ-loop
-shared-slice-read-waits-dtmf c = search needs
+shared-slice-read-t7 : tie.Need-shared-slice-read-t7 Inv-loop μ-loop
+shared-slice-read-t7 c = search needs
 
 waits-dtmf-requires : tie.Need-waits-dtmf-requires Inv-loop μ-loop
 waits-dtmf-requires c κs = search needs
@@ -48,7 +48,7 @@ all-dtmf-spec =
     Inv-loop
     μ-loop
     loop-holds
-    shared-slice-read-waits-dtmf
+    shared-slice-read-t7
     waits-dtmf-requires
     add-i
     loop-less

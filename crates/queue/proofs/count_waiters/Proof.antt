@@ -22,8 +22,8 @@ abbrev μ-loop : tie.MeasureT-loop
 loop-holds : tie.Need-loop-holds Inv-loop μ-loop
 loop-holds c = (omega arith, omega arith)
 
-shared-slice-read-waits : tie.Need-shared-slice-read-waits Inv-loop μ-loop
-shared-slice-read-waits c = search needs
+shared-slice-read-t9 : tie.Need-shared-slice-read-t9 Inv-loop μ-loop
+shared-slice-read-t9 c = search needs
 
 waits-requires : tie.Need-waits-requires Inv-loop μ-loop
 waits-requires c κs = search needs
@@ -64,7 +64,7 @@ count-waiters-spec =
     Inv-loop
     μ-loop
     loop-holds
-    shared-slice-read-waits
+    shared-slice-read-t9
     waits-requires
     add-n
     add-i

@@ -14,14 +14,14 @@ returns c = sym (front-none _ _ (c .if1 .taken))
 sub-last : tie.Need-sub-last
 sub-last c = search needs
 
-shared-slice-read-result : tie.Need-shared-slice-read-result
-shared-slice-read-result c = search needs
+shared-slice-read-t7 : tie.Need-shared-slice-read-t7
+shared-slice-read-t7 c = search needs
 
 returns-2 : tie.Need-returns-2
 returns-2 c = sym (front-last _ _ (omega arith) (omega arith))
 
-shared-slice-read-result-2 : tie.Need-shared-slice-read-result-2
-shared-slice-read-result-2 c = search needs
+shared-slice-read-t9 : tie.Need-shared-slice-read-t9
+shared-slice-read-t9 c = search needs
 
 returns-3 : tie.Need-returns-3
 returns-3 c =
@@ -35,7 +35,7 @@ front-after-spec =
     (tie.spec
     returns
     sub-last
-    shared-slice-read-result
+    shared-slice-read-t7
     returns-2
-    shared-slice-read-result-2
+    shared-slice-read-t9
     returns-3)

@@ -14,7 +14,7 @@ waits-requires c κs = search needs
 slice-write-chars : tie.Need-slice-write-chars
 slice-write-chars c =
     let s = c .before .before .before in
-    let e = ap length (waiter (s .args .a) (s .args .c) (sym (c .before .waits .ensures) ∙ c .if1 .taken)) in
+    let e = ap length (waiter (s .args .a) (s .args .c .0) (sym (c .before .waits .ensures) ∙ c .if1 .taken)) in
     let r = s .pre in
     omega arith
 
@@ -27,13 +27,13 @@ same-length c = search needs
 returns : tie.Need-returns
 returns c =
     let s = c .before .before .before in
-    let e = waiter (s .args .a) (s .args .c) (sym (c .before .waits .ensures) ∙ c .if1 .taken) in
+    let e = waiter (s .args .a) (s .args .c .0) (sym (c .before .waits .ensures) ∙ c .if1 .taken) in
     (simp e, simp e)
 
 returns-2 : tie.Need-returns-2
 returns-2 c =
     let s = c .before .before .before in
-    let e = no-waiter (s .args .a) (s .args .c) (sym (c .before .waits .ensures) ∙ c .if1 .left) in
+    let e = no-waiter (s .args .a) (s .args .c .0) (sym (c .before .waits .ensures) ∙ c .if1 .left) in
     (simp e (omega arith), simp e)
 
 pub put-char-spec : {M : Type 1} → statement M

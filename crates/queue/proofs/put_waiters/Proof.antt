@@ -16,8 +16,8 @@ abbrev μ-loop : tie.MeasureT-loop
 loop-holds : tie.Need-loop-holds Inv-loop μ-loop
 loop-holds c = putting-start _ _ _ _
 
-shared-slice-read-put-char : tie.Need-shared-slice-read-put-char Inv-loop μ-loop
-shared-slice-read-put-char c = search needs
+shared-slice-read-t10 : tie.Need-shared-slice-read-t10 Inv-loop μ-loop
+shared-slice-read-t10 c = search needs
 
 put-char-requires : tie.Need-put-char-requires Inv-loop μ-loop
 put-char-requires c κs =
@@ -50,7 +50,7 @@ put-waiters-spec =
     Inv-loop
     μ-loop
     loop-holds
-    shared-slice-read-put-char
+    shared-slice-read-t10
     put-char-requires
     add-i
     loop-less

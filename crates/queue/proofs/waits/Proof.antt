@@ -28,7 +28,7 @@ returns-2 : tie.Need-returns-2
 returns-2 c = simp (c .before .enum-told2 .given .1) (c .waits-dtmf .ensures)
 
 returns-3 : tie.Need-returns-3
-returns-3 c = simp (c .enum-told3 .given .1) (in-edt (c .before .before .args .c))
+returns-3 c = simp (c .before .enum-told3 .given .1) (in-edt (c .before .before .before .args .c .0))
 
 pub waits-spec : {M : Type 1} → statement M
 waits-spec =

@@ -16,8 +16,8 @@ between-requires-2 c κs = search needs
 
 returns : tie.Need-returns
 returns c =
-    let x = c .before .before .args .c in
-    (λ j. (c .before .between .ensures j || eqb x 0x1a) || c .between2 .ensures j) ∙ in-baudot x (search needs)
+    let x = c .before .before .before .args .c .0 in
+    (λ j. (c .before .before .between .ensures j || eqb x 0x1a) || c .between2 .ensures j) ∙ in-baudot x (search needs)
 
 pub waits-baudot-spec : {M : Type 1} → statement M
 waits-baudot-spec = tie.close (tie.spec between-requires between-requires-2 returns)

@@ -28,8 +28,12 @@ between-requires-6 c κs = search needs
 
 returns : tie.Need-returns
 returns c =
-    let x = c .before .before .before .before .before .before .args .c in
-    (λ j. (((((((c .before .before .before .before .before .between .ensures j || eqb x 0x1a) || c .before .before .before .before .between2 .ensures j) || c .before .before .before .between3 .ensures j) || c .before .before .between4 .ensures j) || c .before .between5 .ensures j) || eqb x 0x5f) || c .between6 .ensures j))
+    let b5 = c .before .before in
+    let b2 = b5 .before .before .before in
+    let b1 = b2 .before .before in
+    let x = b1 .before .args .c .0 in
+    (λ j. (((((((b1 .between .ensures j || eqb x 0x1a) || b2 .between2 .ensures j) || b5 .before .before .between3 .ensures j)
+    || b5 .before .between4 .ensures j) || b5 .between5 .ensures j) || eqb x 0x5f) || c .between6 .ensures j))
     ∙ in-dtmf x (search needs)
 
 pub waits-dtmf-spec : {M : Type 1} → statement M

@@ -1,25 +1,10 @@
 -- `print_signal` is safe and ends: a signal has at most the longest ms of its mode, and a run at most the ms that passed.
-use Prim.Native.Nat.{ℕ, _-_, _≤_, _<_}
+use Prim.Native.Nat.{_-_, _≤_}
 use native.Mathlib.Omega.{arith}
 use borrow.Author.Needs.{needs}
-use lib.ListN.{length}
-use Rattle.alphabet.specs.declared.Mode.{Mode}
-use Rattle.alphabet.specs.declared.Mode.the-variants.{Baudot45, Baudot50, Dtmf, Edt}
-use Rattle.alphabet.specs.Modes.{alphabetOf, codes}
-use Rattle.signal.specs.Signal.{signal}
-use Rattle.alphabet.specs.code.Numbers.{longest}
-use Rattle.signal.proofs.Lengths.{baudot-165, baudot-150, dtmf-120, four-keys, edt-100}
+use Rattle.signal.proofs.Lengths.{within-longest}
 use Rattle.signal_tables.proofs.print_signal.Statement.{statement}
 use Rattle.signal_tables.proofs.print_signal.Tie as tie
-
-at-most : (d : Mode) (k : ℕ) → k < codes (alphabetOf d) → length (signal d k) ≤ longest d
-at-most Baudot45 k h = let e = baudot-165 k in omega arith
-at-most Baudot50 k h = let e = baudot-150 k in omega arith
-at-most Dtmf k h =
-    let e = dtmf-120 k in
-    let f = four-keys k h in
-    omega arith
-at-most Edt k h = let e = edt-100 k in omega arith
 
 abbrev Inv-loop : tie.InvT-loop
 Inv-loop mode code ms run₀ at₀ run at = (at ≤ ms) × (run .ms ≤ at)
@@ -37,7 +22,7 @@ level-requires : tie.Need-level-requires Inv-loop μ-loop
 level-requires c κs =
     let d = c .before .before in
     let s = d .before in
-    let m = at-most (s .args .mode) (s .args .code .0) (s .pre) in
+    let m = within-longest (s .args .mode) (s .args .code .0) (search needs) in
     (s .pre, omega (arith, d .duration .ensures))
 
 with-ms-requires : tie.Need-with-ms-requires Inv-loop μ-loop

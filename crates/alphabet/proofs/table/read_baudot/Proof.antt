@@ -21,14 +21,14 @@ shift-of-requires c κs = search needs
 
 read-char-requires : tie.Need-read-char-requires
 read-char-requires c κs =
-    let s = c .before .before .before .before .before .before .before in (
+    let s = c .before .before .before .before .before .before .before .before .before in (
       c .before .before .read-table .ensures,
-      (rw (c .shift-of .ensures) (shift-range (s .args .shift)), (s .pre, (c .before .before .before .before .before .if1 .left, c .before .before .before .if2 .left))),
+      (rw (c .shift-of .ensures) (shift-range (s .args .shift)), (s .pre, (c .before .before .before .before .before .before .if1 .left, c .before .before .before .if2 .left))),
     )
 
 returns-3 : tie.Need-returns-3
 returns-3 c =
-    let a = c .before .before .before .before .before .before .before .before .args in
+    let a = c .before .before .before .before .before .before .before .before .before .before .args in
     c .read-char .ensures ∙ ap (λ (n : ℕ). readBaudot n (a .code .0)) (c .before .shift-of .ensures) ∙ reads-shift (a .shift) (a .code .0)
 
 pub read-baudot-spec : {M : Type 1} → statement M

@@ -59,8 +59,11 @@ same-length c = search needs
 
 returns : tie.Need-returns
 returns c =
-    let a = c .before .before .before .before .before .before .args in
-    six-stores (a .lines .now) (a .at) (a .code) _ _ _ _ _ (c .before .before .before .before .digit .ensures) (c .before .before .before .digit2 .ensures) (c .before .before .digit3 .ensures) (c .before .digit4 .ensures) (c .digit5 .ensures)
+    let d3 = c .before .before .before in
+    let d1 = d3 .before .before .before .before in
+    let a = d1 .before .before .before .args in
+    six-stores (a .lines .now) (a .at) (a .code .0) _ _ _ _ _ (d1 .digit .ensures) (d3 .before .before .digit2 .ensures) (d3 .digit3 .ensures)
+    (c .before .digit4 .ensures) (c .digit5 .ensures)
 
 pub put-line-spec : {M : Type 1} → statement M
 put-line-spec =

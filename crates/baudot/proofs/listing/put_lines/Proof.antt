@@ -22,8 +22,8 @@ mul-put-line c =
     let l = c .before .before in
     omega (arith, s .pre, s .good, l .loop .inv .size, c .before .loop-test .taken)
 
-shared-slice-read-put-line : tie.Need-shared-slice-read-put-line Inv-loop μ-loop
-shared-slice-read-put-line c = search needs
+shared-slice-read-t10 : tie.Need-shared-slice-read-t10 Inv-loop μ-loop
+shared-slice-read-t10 c = search needs
 
 put-line-requires : tie.Need-put-line-requires Inv-loop μ-loop
 put-line-requires c κs =
@@ -54,7 +54,7 @@ put-lines-spec =
     μ-loop
     loop-holds
     mul-put-line
-    shared-slice-read-put-line
+    shared-slice-read-t10
     put-line-requires
     add-i
     loop-less

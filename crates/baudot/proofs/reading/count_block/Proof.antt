@@ -18,8 +18,8 @@ abbrev μ-loop : tie.MeasureT-loop
 loop-holds : tie.Need-loop-holds Inv-loop μ-loop
 loop-holds c = omega arith
 
-shared-slice-read-shift-one : tie.Need-shared-slice-read-shift-one Inv-loop μ-loop
-shared-slice-read-shift-one c = search needs
+shared-slice-read-t8 : tie.Need-shared-slice-read-t8 Inv-loop μ-loop
+shared-slice-read-t8 c = search needs
 
 shift-one-requires : tie.Need-shift-one-requires Inv-loop μ-loop
 shift-one-requires c κs = search needs
@@ -54,7 +54,7 @@ count-block-spec =
     Inv-loop
     μ-loop
     loop-holds
-    shared-slice-read-shift-one
+    shared-slice-read-t8
     shift-one-requires
     add-n
     add-i

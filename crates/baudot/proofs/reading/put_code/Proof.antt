@@ -8,13 +8,13 @@ use Rattle.baudot.proofs.reading.put_code.Tie as tie
 
 returns : tie.Need-returns
 returns c =
-    let a = c .before .before .before .args in
+    let a = c .before .before .before .before .args in
     let g = got-shift (a .text .now) (a .at) (a .shift) _ _ (sym (reads-letters-code (a .shift) (a .code .0) (c .if1 .taken))) in
     (g .placed, g .stored)
 
 returns-2 : tie.Need-returns-2
 returns-2 c =
-    let a = c .before .before .before .before .before .args in
+    let a = c .before .before .before .before .before .before .before .args in
     let g = got-shift (a .text .now) (a .at) (a .shift) _ _ (sym (reads-figures-code (a .shift) (a .code .0) (c .if2 .taken))) in
     (g .placed, g .stored)
 
@@ -23,22 +23,22 @@ read-char-requires c κs = search needs
 
 slice-write-text : tie.Need-slice-write-text
 slice-write-text c =
-    let s = c .before .before .before .before .before .before in
+    let s = c .before .before .before .before .before .before .before .before in
     room-character (s .args .text .now) (s .args .at) (s .args .shift) _ _ (sym (c .read-char .ensures)) (s .pre .1 .1 .1)
 
-add-t9 : tie.Need-add-t9
-add-t9 c = search needs
+add-t10 : tie.Need-add-t10
+add-t10 c = search needs
 
 same-length : tie.Need-same-length
 same-length c = search needs
 
 returns-3 : tie.Need-returns-3
 returns-3 c =
-    let a = c .before .before .before .before .before .before .args in
+    let a = c .before .before .before .before .before .before .before .before .args in
     let g = got-character (a .text .now) (a .at) (a .shift) _ _ (sym (c .read-char .ensures)) in
     (g .placed, g .stored)
 
 pub put-code-spec : {M : Type 1} → statement M
 put-code-spec =
     tie.close
-    (tie.spec returns returns-2 read-char-requires slice-write-text add-t9 same-length returns-3)
+    (tie.spec returns returns-2 read-char-requires slice-write-text add-t10 same-length returns-3)

@@ -10,7 +10,7 @@ returns-2 : tie.Need-returns-2
 returns-2 c = simp (c .if2 .taken)
 
 returns-3 : tie.Need-returns-3
-returns-3 c = simp (ne-eqb _ _ (c .before .if1 .left), ne-eqb _ _ (c .if2 .left))
+returns-3 c = simp (ne-eqb _ _ (c .before .before .before .if1 .left), ne-eqb _ _ (c .if2 .left))
 
 pub shift-one-spec : {M : Type 1} → statement M
 shift-one-spec = tie.close (tie.spec returns returns-2 returns-3)
