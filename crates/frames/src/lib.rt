@@ -5,6 +5,7 @@ ghost use mathlib.Core.Path.{_≡_};
 ghost use mathlib.Core.Bool.{true, cond};
 ghost use Prim.Native.Nat.{_-_, _≤_, _<_};
 ghost use Rattle.frames.specs.Samples.{baudotSamples, edtSamples, samplesOf, sampleAt};
+ghost use Rattle.frames.specs.Range.{frameIn};
 ghost use Rattle.frames.specs.Frames.{gives, goesOn, faulty, sampled, frameStep};
 ghost use Rattle.frames.specs.declared.Found.the-variants as found;
 ghost use Rattle.frames.specs.declared.Sample.the-variants as kind;
@@ -235,4 +236,14 @@ pub fn frame_step(mode: Mode, f: Frame, heard: u8) -> FrameRead
         return at(HUNTING, 0);
     }
     sampled(sample_on(mode, f.place - 1), f, heard)
+}
+
+// Question 1, of a frame.
+pub fn in_range(mode: Mode, f: Frame) -> bool
+    ensures { λ r. ⌜ r ≡ frameIn mode f ⌝ }
+{
+    if mode.last_sample() + 1 < f.place as u16 {
+        return false;
+    }
+    (f.digits as u16) < mode.frame_codes()
 }

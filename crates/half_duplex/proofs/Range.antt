@@ -18,7 +18,7 @@ use Rattle.alphabet.proofs.Rule.{leastShift, rule-of}
 use Rattle.baudot.specs.declared.Sender.{Sender}
 use Rattle.baudot.specs.Sending.{sender, differs, wanted, shiftCode, shifted}
 use Rattle.reader.specs.Reader.{hear, inhibited}
-use Rattle.reader.specs.Range.{ReaderIn}
+use Rattle.reader.specs.code.Bounds.{ReaderIn}
 use Rattle.reader.proofs.Range.{hear-in, inhibited-in}
 use Rattle.half_duplex.specs.declared.Core.{Core}
 use Rattle.half_duplex.specs.declared.OnLine.{OnLine}

@@ -7,7 +7,7 @@ use Rattle.alphabet.specs.declared.Sends.{Sends}
 use Rattle.alphabet.specs.declared.Sends.the-variants.{Nothing, Code}
 use Rattle.alphabet.specs.Modes.{alphabetOf, codes}
 use Rattle.baudot.specs.declared.Sender.{Sender}
-use Rattle.reader.specs.Range.{ReaderIn}
+use Rattle.reader.specs.code.Bounds.{ReaderIn}
 use Rattle.half_duplex.specs.declared.Core.{Core}
 use Rattle.half_duplex.specs.declared.OnLine.{OnLine}
 use Rattle.half_duplex.specs.Rules.{freeMs, afterMs}

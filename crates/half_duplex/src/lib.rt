@@ -6,7 +6,7 @@ use reader::Reader;
 use reader::Reading;
 ghost use mathlib.Core.Path.{_≡_};
 ghost use Prim.Native.Nat.{_≤_, _<_};
-ghost use Rattle.reader.specs.Range.{ReaderIn};
+ghost use Rattle.reader.specs.code.Bounds.{ReaderIn};
 ghost use Rattle.half_duplex.specs.Rules.{mayBegin, isInhibited, inhibitedAfter, isSilent};
 ghost use Rattle.half_duplex.specs.Core.{silenceAfter, readerMs, eventMs, modeIn, settled, waitingAfter, coreFrom, stepped};
 ghost use Rattle.half_duplex.specs.Line.{inBurst};

@@ -14,9 +14,9 @@ ghost use Prim.Native.Nat.{ℕ, suc, _+_, _-_, _≤_, _<_};
 ghost use lib.ListN.{length};
 ghost use Rattle.lists.specs.Lists.{allAtMost};
 ghost use Rattle.alphabet.specs.declared.Mode.the-variants as mode;
-ghost use Rattle.frames.specs.Range.{FrameOf};
-ghost use Rattle.keys.specs.Range.{KeysIn};
-ghost use Rattle.reader.specs.Range.{ReaderIn};
+ghost use Rattle.frames.specs.code.Bounds.{FrameOf};
+ghost use Rattle.keys.specs.code.Bounds.{KeysIn};
+ghost use Rattle.reader.specs.code.Bounds.{ReaderIn};
 ghost use Rattle.reader_runs.specs.code.Runs.{Alike, Through};
 ghost use Rattle.reader_runs.specs.code.Skipping.{frameAt, readerAt, keysOf, readerWith, rowOf, placeAfter, msAfter, Framed, Skips, Passes, PassesKeys, QuietFrom, Stays};
 

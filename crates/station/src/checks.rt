@@ -2,85 +2,14 @@
 use alphabet::Alphabet;
 use alphabet::Mode;
 use baudot::Sender;
-use frames::Frame;
 use half_duplex::Core;
 use half_duplex::OnLine;
-use keys::Keys;
-use reader::Reader;
 ghost use mathlib.Core.Path.{_≡_};
 ghost use lib.Dec.{ltb};
 ghost use Rattle.baudot.specs.Sending.{inRange as senderIn};
-ghost use Rattle.alphabet.specs.Modes.{codes, frameCodes};
-ghost use Rattle.frames.specs.Samples.{samplesOf};
-ghost use Rattle.frames.specs.Range.{lastMs};
+ghost use Rattle.alphabet.specs.Modes.{codes};
 ghost use Rattle.station.specs.Station.{station};
-ghost use Rattle.station.specs.Range.{frameIn, keysIn, readerIn, lineIn, coreIn, inRange};
-
-// The ms of a frame's last sample.
-fn last_ms(mode: Mode) -> u8
-    ensures { λ r. ⌜ r ≡ lastMs (samplesOf mode) ⌝ }
-{
-    match mode {
-        Mode::Baudot45 => 143,
-        Mode::Baudot50 => 130,
-        Mode::Dtmf => 0,
-        Mode::Edt => 95,
-    }
-}
-
-// The digits of a frame are below this.
-fn frame_codes(mode: Mode) -> u8
-    ensures { λ r. ⌜ r ≡ frameCodes mode ⌝ }
-{
-    match mode {
-        Mode::Baudot45 => 32,
-        Mode::Baudot50 => 32,
-        Mode::Dtmf => 1,
-        Mode::Edt => 128,
-    }
-}
-
-fn frame_in(mode: Mode, f: Frame) -> bool
-    ensures { λ r. ⌜ r ≡ frameIn mode f ⌝ }
-{
-    let last = last_ms(mode) as u16;
-    if last + 1 < f.place as u16 {
-        return false;
-    }
-    f.digits < frame_codes(mode)
-}
-
-fn keys_in(k: Keys) -> bool
-    ensures { λ r. ⌜ r ≡ keysIn k ⌝ }
-{
-    if 16 < k.key {
-        return false;
-    }
-    if 40 <= k.ms {
-        return false;
-    }
-    k.needed <= 40
-}
-
-fn reader_in(mode: Mode, r: Reader) -> bool
-    ensures { λ q. ⌜ q ≡ readerIn mode r ⌝ }
-{
-    let f = r.frame;
-    if !frame_in(mode, f) {
-        return false;
-    }
-    let k = r.keys;
-    if !keys_in(k) {
-        return false;
-    }
-    if r.shift < 1 {
-        return false;
-    }
-    if 2 < r.shift {
-        return false;
-    }
-    r.prefix <= 15
-}
+ghost use Rattle.station.specs.Range.{lineIn, coreIn, inRange};
 
 // Is it a code of the alphabet? DTMF has 256.
 fn code_in(a: Alphabet, code: u8) -> bool
@@ -139,7 +68,7 @@ fn core_in(c: Core) -> bool
         return false;
     }
     let r = c.reader;
-    reader_in(mode, r)
+    reader::in_range(mode, r)
 }
 
 pub fn in_range(c: Core, chars: &[u8; 256]) -> bool

@@ -1,7 +1,8 @@
 use Rattle.station.proofs.Laws.{last-of-7}
 use mathlib.Core.Bool.{Bool, true}
 use Rattle.alphabet.specs.declared.Mode.{Mode}
-use Rattle.station.specs.Range.{lineIn, readerIn}
+use Rattle.reader.specs.Range.{readerIn}
+use Rattle.station.specs.Range.{lineIn}
 -- `checks::core_in` meets its contract.
 use mathlib.Core.Path.{_∙_, sym, ap}
 use borrow.Author.Tests.{le-leb, lt-leb, not-true, not-false}
@@ -11,7 +12,7 @@ use Rattle.station.proofs.checks.core_in.Statement.{statement}
 use Rattle.station.proofs.checks.core_in.Tie as tie
 use Rattle.alphabet.proofs.Mode.of.Reads as of-reads
 use Rattle.station.proofs.checks.line_in.Reads as line-in-reads
-use Rattle.station.proofs.checks.reader_in.Reads as reader-in-reads
+use Rattle.reader.proofs.in_range.Reads as in-range-reads
 use Rattle.station.proofs.checks.sender_in.Reads as sender-in-reads
 
 returns : tie.Need-returns
@@ -47,8 +48,8 @@ returns-6 : tie.Need-returns-6
 unfolding coreIn
 returns-6 c = simp (le-leb 1 _ (c .before .before .before .before .before .before .before .before .before .before .before .before .before .if1 .left), le-leb _ 4 (c .before .before .before .before .before .before .before .before .before .before .before .if2 .left), le-leb _ 300 (c .before .before .before .before .before .before .before .before .before .if3 .left), le-leb _ 300 (c .before .before .before .before .before .before .before .if4 .left), sym (c .before .before .before .before .before .before .of .ensures), sym (c .before .before .before .before .line-in .ensures) ∙ not-false (c .before .before .before .before .line-in .result) (c .before .before .before .if5 .left), sym (c .before .sender-in .ensures) ∙ not-true (c .before .sender-in .result) (c .if6 .taken))
 
-reader-in-requires : tie.Need-reader-in-requires
-reader-in-requires c κs = search needs
+in-range-requires : tie.Need-in-range-requires
+in-range-requires c κs = search needs
 
 returns-7 : tie.Need-returns-7
 unfolding coreIn
@@ -56,7 +57,7 @@ returns-7 c = let s = c .before .before .before .before .before .before .before 
     let m = c .before .before .before .before .before .before .before .before .of .ensures in
     let l = ap (λ (n : Mode). lineIn n (s .line)) (sym m) ∙ sym (c .before .before .before .before .before .before .line-in .ensures) ∙ not-false (c .before .before .before .before .before .before .line-in .result) (c .before .before .before .before .before .if5 .left) in
     let t = sym (c .before .before .before .sender-in .ensures) ∙ not-false (c .before .before .before .sender-in .result) (c .before .before .if6 .left) in
-    c .reader-in .ensures ∙ ap (λ (n : Mode). readerIn n (s .reader)) m ∙ last-of-7 _ _ _ _ _ _ _ (le-leb 1 _ (c .before .before .before .before .before .before .before .before .before .before .before .before .before .before .before .if1 .left)) (le-leb _ 4 (c .before .before .before .before .before .before .before .before .before .before .before .before .before .if2 .left)) (le-leb _ 300 (c .before .before .before .before .before .before .before .before .before .before .before .if3 .left)) (le-leb _ 300 (c .before .before .before .before .before .before .before .before .before .if4 .left)) l t
+    c .in-range .ensures ∙ ap (λ (n : Mode). readerIn n (s .reader)) m ∙ last-of-7 _ _ _ _ _ _ _ (le-leb 1 _ (c .before .before .before .before .before .before .before .before .before .before .before .before .before .before .before .if1 .left)) (le-leb _ 4 (c .before .before .before .before .before .before .before .before .before .before .before .before .before .if2 .left)) (le-leb _ 300 (c .before .before .before .before .before .before .before .before .before .before .before .if3 .left)) (le-leb _ 300 (c .before .before .before .before .before .before .before .before .before .if4 .left)) l t
 
 pub core-in-spec : {M : Type 1} → statement M
 core-in-spec =
@@ -71,5 +72,5 @@ core-in-spec =
     returns-5
     sender-in-requires
     returns-6
-    reader-in-requires
+    in-range-requires
     returns-7)
