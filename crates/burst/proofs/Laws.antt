@@ -1,5 +1,5 @@
 -- What the functions of this crate need of the definitions.
-use mathlib.Core.Path.{_≡_, _∙_, refl, ap}
+use mathlib.Core.Path.{_≡_, _∙_, refl, sym, ap}
 use mathlib.Core.Bool.{Bool, true, false, _&&_}
 use mathlib.Core.List.{List, [], _∷_}
 use Prim.Native.Nat.{ℕ, zero, suc, _+_, _≤_, _<_}
@@ -78,9 +78,10 @@ module _ (a : Alphabet) (l : OnLine) (s : Sender) where
     unfolding codeBegins
     own-code w = rw (e, w) refl
 
-    pub shift-code : (shiftWanted a s own ≡ 0 → ⊥) → codeBegins a l s x ≡ loaded (onLine 2 (shiftCode (shiftWanted a s own)) 0) (sender (shiftWanted a s own) 0) false
-    unfolding codeBegins
-    shift-code n = rw (e, ne-eqb (shiftWanted a s own) 0 n) refl
+    module _ (w : ℕ) (f : w ≡ shiftWanted a s own) (k′ : LineCode) (g : k′ .0 ≡ shiftCode w) where
+      pub shift-code : (w ≡ 0 → ⊥) → codeBegins a l s x ≡ loaded (onLine 2 (k′ .0) 0) (sender w 0) false
+      unfolding codeBegins
+      shift-code n = rw (e, sym f, ne-eqb w 0 n, g) refl
 
 and-false : (b : Bool) → (b && false) ≡ false
 and-false true = refl

@@ -18,7 +18,7 @@ use Rattle.reader.specs.declared.Event.{Event}
 use Rattle.reader.specs.declared.Event.the-variants.{Nothing}
 use Rattle.reader.specs.declared.Reader.{Reader}
 use Rattle.reader.specs.Reader.{fresh, hear, inhibited}
-use Rattle.reader.specs.Range.{ReaderIn}
+use Rattle.reader.specs.code.Bounds.{ReaderIn}
 use Rattle.reader.proofs.Range.{fresh-in, hear-in, inhibited-in}
 use Rattle.half_duplex.specs.Core.{readerMs}
 use Rattle.station.specs.Station.{hasDel, readerOffered}

@@ -14,7 +14,7 @@ use Rattle.reader.specs.declared.Event.the-variants.{Nothing}
 use Rattle.reader.specs.declared.Reader.{Reader}
 use Rattle.reader.specs.Reader.{hear, inhibited}
 use Rattle.reader.specs.Words.{wordsOf}
-use Rattle.reader.specs.Range.{ReaderIn}
+use Rattle.reader.specs.code.Bounds.{ReaderIn}
 use Rattle.demand3.specs.Model.{Part, Preamble, ShiftCode, OwnCode, Step, Did, freshModel, modelAfter, does, sentIn, takenIn}
 
 -- The synchronizing code (there: the settling code): the first shift code (Baudot); the first own code, which is the first

@@ -1,12 +1,12 @@
--- Every step keeps a frame in range.
+-- A frame in range: what question 1 says in facts, and that every step keeps it.
 use mathlib.Core.Path.{_≡_, _∙_, refl, ap}
-use mathlib.Core.Bool.{Bool, true, false, cond}
+use mathlib.Core.Bool.{Bool, true, false, cond, _&&_}
 use mathlib.Core.List.{List}
 use Prim.Native.Nat.{ℕ, _+_, _-_, _*_, _/_, _<_, _≤_}
 use native.Mathlib.Omega.{arith}
-use lib.Dec.{eqb}
-use borrow.Author.Tests.{eqb-true, eqb-false}
-use Rattle.lists.proofs.Lists.{either}
+use lib.Dec.{eqb, leb, ltb}
+use borrow.Author.Tests.{eqb-true, eqb-false, leb-true, ltb-true, le-leb, lt-ltb}
+use Rattle.lists.proofs.Lists.{either, and-left, and-right}
 use Rattle.lists.proofs.Tables.{is-true}
 use Rattle.alphabet.specs.declared.Mode.{Mode}
 use Rattle.alphabet.specs.declared.Mode.the-variants.{Baudot45, Baudot50, Dtmf, Edt}
@@ -17,12 +17,46 @@ use Rattle.frames.specs.declared.Frame.{Frame}
 use Rattle.frames.specs.declared.Found.{Found}
 use Rattle.frames.specs.declared.Found.the-variants.{Nothing, Fault, Code}
 use Rattle.frames.specs.declared.FrameRead.{FrameRead}
-use Rattle.frames.specs.code.Bounds.{FoundIn}
+use Rattle.frames.specs.code.Bounds.{FrameIn, FrameOf, FoundIn}
 use Rattle.frames.specs.Samples.{Placed, placed, sampleAt, samplesOf, baudotKinds, baudotPlace, baudotSamples, edtKinds, edtPlace, edtSamples}
 use Rattle.frames.specs.Frames.{inFrame, hunting, waiting, gives, goesOn, faulty, parityHeard, withDigit, sampled, frameStep}
 use Rattle.alphabet.specs.Modes.{frameCodes}
-use Rattle.frames.specs.Range.{lastMs, FrameIn, FrameOf}
+use Rattle.alphabet.specs.code.Numbers.{lastSample}
+use Rattle.frames.specs.Range.{lastMs, frameIn}
 use Rattle.frames.proofs.Samples.{allKinds, kinds-pass, baudot-on}
+
+-- the constant of a mode is the ms of its last sample
+pub last-is : (mode : Mode) → lastSample mode ≡ lastMs (samplesOf mode)
+unfolding samplesOf lastMs placed baudotKinds edtKinds
+last-is Baudot45 = refl
+last-is Baudot50 = refl
+last-is Dtmf = refl
+last-is Edt = refl
+
+pub last-few : (mode : Mode) → lastMs (samplesOf mode) ≤ 143
+unfolding samplesOf lastMs placed baudotKinds edtKinds
+last-few Baudot45 = omega arith
+last-few Baudot50 = omega arith
+last-few Dtmf = omega arith
+last-few Edt = omega arith
+
+-- question 1 in facts, and back
+pub frame-in : (mode : Mode) (f : Frame) → frameIn mode f ≡ true → FrameOf mode f
+frame-in mode f e =
+    let last = lastMs (samplesOf mode) in
+    let p = leb (f .place) (last + 1) in
+    let d = ltb (f .digits) (frameCodes mode) in
+    record {
+      place-in = leb-true (f .place) (last + 1) (and-left p d e);
+      digits-in = ltb-true (f .digits) (frameCodes mode) (and-right p d e);
+    }
+
+pub frame-is : (mode : Mode) (f : Frame) → FrameOf mode f → frameIn mode f ≡ true
+frame-is mode f h =
+    rw (
+      le-leb (f .place) (lastMs (samplesOf mode) + 1) (h .place-in),
+      lt-ltb (f .digits) (frameCodes mode) (h .digits-in),
+    ) refl
 
 pub digits-128 : (mode : Mode) (f : Frame) → FrameOf mode f → f .digits < 128
 digits-128 Baudot45 f h = let d = h .digits-in in omega arith
@@ -31,11 +65,10 @@ digits-128 Dtmf f h = let d = h .digits-in in omega arith
 digits-128 Edt f h = h .digits-in
 
 pub place-255 : (mode : Mode) (f : Frame) → FrameOf mode f → f .place < 255
-unfolding samplesOf lastMs placed baudotKinds edtKinds
-place-255 Baudot45 f h = let p = h .place-in in omega arith
-place-255 Baudot50 f h = let p = h .place-in in omega arith
-place-255 Dtmf f h = let p = h .place-in in omega arith
-place-255 Edt f h = let p = h .place-in in omega arith
+place-255 mode f h =
+    let p = h .place-in in
+    let l = last-few mode in
+    omega arith
 
 -- a code that is found has the digits of its frame
 module _ (n : ℕ) where

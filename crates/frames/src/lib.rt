@@ -5,6 +5,7 @@ ghost use mathlib.Core.Path.{_≡_};
 ghost use mathlib.Core.Bool.{true, cond};
 ghost use Prim.Native.Nat.{_-_, _≤_, _<_};
 ghost use Rattle.frames.specs.Samples.{baudotSamples, edtSamples, samplesOf, sampleAt};
+ghost use Rattle.frames.specs.Range.{frameIn};
 ghost use Rattle.frames.specs.Frames.{gives, goesOn, faulty, sampled, frameStep};
 ghost use Rattle.frames.specs.declared.Found.the-variants as found;
 ghost use Rattle.frames.specs.declared.Sample.the-variants as kind;
@@ -44,6 +45,16 @@ const HUNTING: u8 = 0;
 
 const WAITING: u8 = 1;
 
+// The weight of a frame's last digit.
+pub const BAUDOT_TOP: u8 = (Mode::BAUDOT_CODES / 2) as u8;
+
+pub const EDT_TOP: u8 = (Mode::EDT_CODES / 2) as u8;
+
+// EDT's sample j falls at ms (100 j + 50) / 11: 11 times that ms is 100 j + 50, less a rest of at most 10.
+const EDT_REST: u16 = Mode::EDT_ELEMENTS - 1;
+
+const EDT_AHEAD: u16 = Mode::EDT_CODE / 2 + EDT_REST;
+
 // The sample on a ms of a Baudot frame.
 fn baudot_sample(element: u16, place: u8) -> Sample
     requires { ⌜ 1 ≤ element ⌝ }
@@ -58,7 +69,7 @@ fn baudot_sample(element: u16, place: u8) -> Sample
         return Sample::Start;
     }
     if j < 6 {
-        return Sample::Digit(16);
+        return Sample::Digit(BAUDOT_TOP);
     }
     if j == 6 {
         return Sample::Last;
@@ -70,16 +81,16 @@ fn baudot_sample(element: u16, place: u8) -> Sample
 fn edt_sample(place: u8) -> Sample
     ensures { λ r. ⌜ r ≡ sampleAt edtSamples place ⌝ }
 {
-    let m = 11 * (place as u16) + 60;
-    if 10 < m % 100 {
+    let m = Mode::EDT_ELEMENTS * (place as u16) + EDT_AHEAD;
+    if EDT_REST < m % Mode::EDT_CODE {
         return Sample::None;
     }
-    let j = m / 100;
+    let j = m / Mode::EDT_CODE;
     if j == 1 {
         return Sample::Start;
     }
     if j < 9 {
-        return Sample::Digit(64);
+        return Sample::Digit(EDT_TOP);
     }
     match j {
         9 => Sample::Parity,
@@ -235,4 +246,14 @@ pub fn frame_step(mode: Mode, f: Frame, heard: u8) -> FrameRead
         return at(HUNTING, 0);
     }
     sampled(sample_on(mode, f.place - 1), f, heard)
+}
+
+// Question 1, of a frame.
+pub fn in_range(mode: Mode, f: Frame) -> bool
+    ensures { λ r. ⌜ r ≡ frameIn mode f ⌝ }
+{
+    if mode.last_sample() + 1 < f.place as u16 {
+        return false;
+    }
+    (f.digits as u16) < mode.frame_codes()
 }

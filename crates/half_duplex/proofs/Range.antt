@@ -1,21 +1,81 @@
--- What a ms starts with is in range, and every ms keeps a core in range: whenever a burst begins and ends.
+-- Question 1 in facts; what a ms starts with is in range, and every ms keeps a core in range, whenever a burst begins and ends.
 use mathlib.Core.Path.{_≡_, refl}
-use mathlib.Core.Bool.{Bool, true, false, cond}
+use mathlib.Core.Bool.{Bool, true, false, cond, _&&_}
 use Prim.Native.Nat.{ℕ, _+_, _-_, _<_, _≤_}
 use native.Mathlib.Omega.{arith}
-use lib.Dec.{ltb}
-use borrow.Author.Tests.{ltb-true}
-use Rattle.lists.proofs.Lists.{either}
+use lib.Dec.{leb, ltb}
+use borrow.Author.Tests.{leb-true, ltb-true, le-leb}
+use Rattle.lists.proofs.Lists.{either, and-left, and-right}
+use Rattle.baudot.specs.Sending.{inRange as senderIn}
 use Rattle.reader.specs.Reader.{hear, inhibited}
-use Rattle.reader.specs.Range.{ReaderIn}
-use Rattle.reader.proofs.Range.{hear-in, inhibited-in}
+use Rattle.reader.specs.code.Bounds.{ReaderIn}
+use Rattle.reader.specs.Range.{readerIn}
+use Rattle.reader.proofs.Range.{reader-in, reader-is, hear-in, inhibited-in}
 use Rattle.burst.specs.declared.Loaded.{Loaded}
 use Rattle.burst.specs.Rules.{isInhibited, isSilent}
 use Rattle.burst.specs.Line.{inBurst, begun, oneGone}
-use Rattle.burst.proofs.Range.{LoadedIn, begun-in, next-in, gone-in, closed-in, next-takes}
+use Rattle.burst.specs.Range.{lineIn}
+use Rattle.burst.proofs.Range.{line-in, line-is, sender-in, sender-is, LoadedIn, begun-in, next-in, gone-in, closed-in, next-takes}
 use Rattle.half_duplex.specs.declared.Core.{Core}
 use Rattle.half_duplex.specs.Core.{silenceAfter, modeIn, settledBy, settled, beginsIn, endsIn, waitingAfter, coreFromBy, coreFrom, coreAfter}
+use Rattle.half_duplex.specs.Range.{timersIn, partsIn, coreIn}
 use Rattle.half_duplex.specs.code.Bounds.{CoreIn}
+
+-- ---- question 1 in facts
+
+pub record TimersIn (c : Core) : Type 0 where
+  pub mode-low : 1 ≤ c .mode
+  pub mode-in : c .mode ≤ 4
+  pub silence-in : c .silence ≤ 300
+  pub inhibited-in : c .inhibited ≤ 300
+
+timers-in : (c : Core) → timersIn c ≡ true → TimersIn c
+timers-in c e =
+    let a = leb 1 (c .mode) in
+    let b = leb (c .mode) 4 in
+    let s = leb (c .silence) 300 in
+    let i = leb (c .inhibited) 300 in
+    let abs = and-left (a && b && s) i e in
+    let ab = and-left (a && b) s abs in
+    record {
+      mode-low = leb-true 1 (c .mode) (and-left a b ab);
+      mode-in = leb-true (c .mode) 4 (and-right a b ab);
+      silence-in = leb-true (c .silence) 300 (and-right (a && b) s abs);
+      inhibited-in = leb-true (c .inhibited) 300 (and-right (a && b && s) i e);
+    }
+
+module _ (c : Core) where
+  pub core-timers : coreIn c ≡ true → TimersIn c
+  unfolding coreIn
+  core-timers e = timers-in c (and-left (timersIn c) (partsIn c) e)
+
+  -- with those waiting, who are the queue's
+  pub core-in : coreIn c ≡ true → c .waiting ≤ 256 → CoreIn c
+  unfolding coreIn
+  core-in e w =
+      let t = core-timers e in
+      let l = lineIn (modeIn c) (c .line) in
+      let s = senderIn (c .sender) in
+      let r = readerIn (modeIn c) (c .reader) in
+      let p = and-right (timersIn c) (partsIn c) e in
+      let ls = and-left (l && s) r p in
+      record {
+        waiting-in = w;
+        silence-in = t .silence-in;
+        inhibited-in = t .inhibited-in;
+        line-in = line-in (modeIn c) (c .line) (and-left l s ls);
+        sender-in = sender-in (c .sender) (and-right l s ls);
+        reader-in = reader-in (modeIn c) (c .reader) (and-right (l && s) r p);
+      }
+
+  pub core-is : 1 ≤ c .mode → c .mode ≤ 4 → CoreIn c → coreIn c ≡ true
+  unfolding coreIn
+  core-is m n i =
+      rw (le-leb 1 (c .mode) m, le-leb (c .mode) 4 n, le-leb (c .silence) 300 (i .silence-in),
+        le-leb (c .inhibited) 300 (i .inhibited-in), line-is (modeIn c) (c .line) (i .line-in),
+        sender-is (c .sender) (i .sender-in), reader-is (modeIn c) (c .reader) (i .reader-in)) refl
+
+-- ---- what a ms starts with
 
 pub settled-by-in : (begins : Bool) (c : Core) (front : ℕ) → CoreIn c → (1 ≤ c .waiting → front < 128)
     → LoadedIn (modeIn c) (settledBy begins c front)

@@ -10,11 +10,12 @@ use reader::Reader;
 use reader::Reading;
 ghost use mathlib.Core.Path.{_≡_};
 ghost use Prim.Native.Nat.{_≤_, _<_};
-ghost use Rattle.reader.specs.Range.{ReaderIn};
+ghost use Rattle.reader.specs.code.Bounds.{ReaderIn};
 ghost use Rattle.burst.specs.Rules.{isInhibited};
 ghost use Rattle.burst.specs.Line.{inBurst};
 ghost use Rattle.burst.specs.code.Bounds.{LineIn};
 ghost use Rattle.half_duplex.specs.Core.{silenceAfter, readerMs, eventMs, modeIn, settledBy, settled, waitingAfter, coreFromBy, steppedBy, stepped};
+ghost use Rattle.half_duplex.specs.Range.{timersIn, partsIn, coreIn};
 ghost use Rattle.half_duplex.specs.code.Bounds.{CoreIn};
 
 // A station beside its queue: how many wait, the ms of silence up to 300, the inhibited ms to come, what is on the line, the
@@ -157,4 +158,47 @@ pub fn step(c: Core, l: Loaded, heard: u8) -> Stepped
         l,
         heard,
     )
+}
+
+// Are the mode and the timers in range?
+fn timers_in(c: Core) -> bool
+    ensures { λ r. ⌜ r ≡ timersIn c ⌝ }
+{
+    if c.mode < 1 {
+        return false;
+    }
+    if 4 < c.mode {
+        return false;
+    }
+    if rules::FREE < c.silence {
+        return false;
+    }
+    c.inhibited <= rules::INHIBITED
+}
+
+// Are what is on the line, the sender and the reader in range?
+fn parts_in(c: Core) -> bool
+    ensures { λ r. ⌜ r ≡ partsIn c ⌝ }
+{
+    let mode = Mode::of(c.mode);
+    let l = c.line;
+    if !burst::in_range(mode, l) {
+        return false;
+    }
+    let s = c.sender;
+    if !burst::sender_in_range(s) {
+        return false;
+    }
+    let r = c.reader;
+    reader::in_range(mode, r)
+}
+
+// Question 1 of a station beside its queue.
+pub fn in_range(c: Core) -> bool
+    ensures { λ r. ⌜ r ≡ coreIn c ⌝ }
+{
+    if !timers_in(c) {
+        return false;
+    }
+    parts_in(c)
 }

@@ -1,15 +1,33 @@
--- Every step keeps the keys in range.
+-- Keys in range: what question 1 says in facts, and that every step keeps it.
 use mathlib.Core.Path.{_≡_, refl}
-use mathlib.Core.Bool.{Bool, true, false}
+use mathlib.Core.Bool.{Bool, true, false, _&&_}
 use Prim.Native.Nat.{ℕ, _+_, _-_, _<_, _≤_}
 use native.Mathlib.Omega.{arith}
-use lib.Dec.{eqb}
-use borrow.Author.Tests.{eqb-false}
-use Rattle.lists.proofs.Lists.{either}
+use lib.Dec.{eqb, leb, ltb}
+use borrow.Author.Tests.{eqb-false, leb-true, ltb-true, le-leb, lt-ltb}
+use Rattle.lists.proofs.Lists.{either, and-left, and-right}
 use Rattle.keys.specs.declared.Keys.{Keys}
 use Rattle.keys.specs.declared.KeyRead.{KeyRead}
 use Rattle.keys.specs.Keys.{ready, needs, nthMs, keyStep}
-use Rattle.keys.specs.Range.{KeysIn}
+use Rattle.keys.specs.Range.{keysIn}
+use Rattle.keys.specs.code.Bounds.{KeysIn}
+
+-- question 1 in facts, and back
+pub keys-in : (k : Keys) → keysIn k ≡ true → KeysIn k
+keys-in k e =
+    let a = leb (k .key) 16 in
+    let b = ltb (k .ms) 40 in
+    let c = leb (k .needed) 40 in
+    let ab = and-left (a && b) c e in
+    record {
+      key-in = leb-true (k .key) 16 (and-left a b ab);
+      ms-in = ltb-true (k .ms) 40 (and-right a b ab);
+      needed-in = leb-true (k .needed) 40 (and-right (a && b) c e);
+    }
+
+pub keys-are : (k : Keys) → KeysIn k → keysIn k ≡ true
+keys-are k h =
+    rw (le-leb (k .key) 16 (h .key-in), lt-ltb (k .ms) 40 (h .ms-in), le-leb (k .needed) 40 (h .needed-in)) refl
 
 pub ready-in : KeysIn ready
 ready-in = record { key-in = omega arith; ms-in = omega arith; needed-in = omega arith }

@@ -1,8 +1,10 @@
 // Reading DTMF: keys that last, and the quiet between them.
+use alphabet::Mode;
 ghost use mathlib.Core.Path.{_≡_};
 ghost use mathlib.Core.Bool.{cond};
 ghost use lib.Dec.{eqb};
 ghost use Prim.Native.Nat.{_+_, _-_, _≤_, _<_};
+ghost use Rattle.keys.specs.Range.{keysIn};
 ghost use Rattle.keys.specs.Keys.{keyMs, quietMs, needs, counts, keyStep};
 
 // A reader of keys: the key that is heard (0 none) and its ms in a row, and the quiet ms that are still needed.
@@ -20,10 +22,10 @@ pub struct KeyRead {
 }
 
 // A key counts at its 40th ms in a row.
-const KEY_MS: u8 = 40;
+pub const KEY_MS: u8 = 40;
 
 // Then as many quiet ms in a row are needed before the next.
-const QUIET_MS: u8 = 40;
+pub const QUIET_MS: u8 = 40;
 
 // The quiet ms still needed, after a ms.
 fn needed_after(needed: u8, heard: u8) -> u8
@@ -84,4 +86,17 @@ pub fn key_step(k: Keys, heard: u8) -> KeyRead
         },
         key: 0,
     }
+}
+
+// Question 1, of keys.
+pub fn in_range(k: Keys) -> bool
+    ensures { λ r. ⌜ r ≡ keysIn k ⌝ }
+{
+    if Mode::LAST_KEY < k.key {
+        return false;
+    }
+    if KEY_MS <= k.ms {
+        return false;
+    }
+    k.needed <= QUIET_MS
 }

@@ -19,9 +19,10 @@ use Rattle.frames.specs.Samples.{Placed, placed, sampleAt, samplesOf, baudotKin
 use Rattle.frames.specs.Frames.{hunting, sampled, frameStep, frameNext, frameAfter}
 use Rattle.keys.specs.Keys.{ready, keyStep, keyNext, keysAfter}
 use Rattle.reader.specs.Reader.{hear, inhibited}
-use Rattle.frames.specs.Range.{lastMs, FrameOf}
-use Rattle.keys.specs.Range.{KeysIn}
-use Rattle.reader.specs.Range.{ReaderIn}
+use Rattle.frames.specs.Range.{lastMs}
+use Rattle.frames.specs.code.Bounds.{FrameOf}
+use Rattle.keys.specs.code.Bounds.{KeysIn}
+use Rattle.reader.specs.code.Bounds.{ReaderIn}
 use Rattle.line_theorems.specs.Resting.{rests, restsAll, Settled}
 use Rattle.line_theorems.proofs.EdtReading.{isHunting, is-hunting}
 

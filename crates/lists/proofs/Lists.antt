@@ -34,6 +34,13 @@ pub and-right : (a b : Bool) → (a && b) ≡ true → b ≡ true
 and-right true b e = e
 and-right false b e = cc
 
+pub both : {a b : Bool} → a ≡ true → b ≡ true → (a && b) ≡ true
+both e f = rw (e, f) refl
+
+-- where the test before it has passed, the last one decides
+pub last-decides : {a b : Bool} → a ≡ true → b ≡ (a && b)
+last-decides e = rw e refl
+
 -- what follows from a test does not change it
 and-weaker : (a b rest : Bool) → (a ≡ true → b ≡ true) → (a && rest) ≡ (b && (a && rest))
 and-weaker true b rest h = rw (h refl) refl

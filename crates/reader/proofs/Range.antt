@@ -1,11 +1,11 @@
--- Every step keeps a reader in range.
+-- A reader in range: what question 1 says in facts, and that every step keeps it.
 use mathlib.Core.Path.{_≡_, refl}
-use mathlib.Core.Bool.{Bool, true, false, cond, _||_}
+use mathlib.Core.Bool.{Bool, true, false, cond, _&&_, _||_}
 use Prim.Native.Nat.{ℕ, _+_, _-_, _*_, _<_, _≤_}
 use native.Mathlib.Omega.{arith}
-use lib.Dec.{eqb, ltb}
-use borrow.Author.Tests.{eqb-true, ltb-true}
-use Rattle.lists.proofs.Lists.{either}
+use lib.Dec.{eqb, leb, ltb}
+use borrow.Author.Tests.{eqb-true, leb-true, ltb-true, le-leb}
+use Rattle.lists.proofs.Lists.{either, and-left, and-right}
 use Rattle.alphabet.specs.declared.Alphabet.{Alphabet}
 use Rattle.alphabet.specs.declared.Alphabet.the-variants.{Baudot, Edt as edt}
 use Rattle.alphabet.specs.declared.Mode.{Mode}
@@ -22,13 +22,49 @@ use Rattle.frames.specs.declared.Found.the-variants.{Nothing, Fault, Code}
 use Rattle.frames.specs.Samples.{samplesOf}
 use Rattle.frames.specs.Frames.{frameStep}
 use Rattle.alphabet.specs.Modes.{frameCodes}
-use Rattle.frames.specs.Range.{FrameOf}
-use Rattle.frames.proofs.Range.{frame-45, frame-50, frame-edt}
+use Rattle.frames.specs.code.Bounds.{FrameOf}
+use Rattle.frames.specs.Range.{frameIn}
+use Rattle.frames.proofs.Range.{frame-in, frame-is, frame-45, frame-50, frame-edt}
 use Rattle.keys.specs.Keys.{keyStep}
-use Rattle.keys.proofs.Range.{ready-in, key-step-in}
+use Rattle.keys.specs.Range.{keysIn}
+use Rattle.keys.proofs.Range.{keys-in, keys-are, ready-in, key-step-in}
 use Rattle.reader.specs.declared.Reader.{Reader}
 use Rattle.reader.specs.Reader.{reader, fresh, foundShift, prefixAfter, hear, inhibited}
-use Rattle.reader.specs.Range.{ReaderIn}
+use Rattle.reader.specs.code.Bounds.{ReaderIn}
+use Rattle.reader.specs.Range.{readerIn}
+
+-- question 1 in facts, and back
+pub reader-in : (mode : Mode) (r : Reader) → readerIn mode r ≡ true → ReaderIn mode r
+reader-in mode r e =
+    let a = frameIn mode (r .frame) in
+    let b = keysIn (r .keys) in
+    let c = leb 1 (r .shift) in
+    let d = leb (r .shift) 2 in
+    let p = leb (r .prefix) 15 in
+    let abcd = and-left (a && b && c && d) p e in
+    let abc = and-left (a && b && c) d abcd in
+    let ab = and-left (a && b) c abc in
+    record {
+      frame-in = frame-in mode (r .frame) (and-left a b ab);
+      keys-in = keys-in (r .keys) (and-right a b ab);
+      shift-low = leb-true 1 (r .shift) (and-right (a && b) c abc);
+      shift-in = leb-true (r .shift) 2 (and-right (a && b && c) d abcd);
+      prefix-in = leb-true (r .prefix) 15 (and-right (a && b && c && d) p e);
+    }
+
+pub reader-is : (mode : Mode) (r : Reader) → ReaderIn mode r → readerIn mode r ≡ true
+reader-is mode r h =
+    rw (
+      frame-is mode (r .frame) (h .frame-in),
+      keys-are (r .keys) (h .keys-in),
+      le-leb 1 (r .shift) (h .shift-low),
+      le-leb (r .shift) 2 (h .shift-in),
+      le-leb (r .prefix) 15 (h .prefix-in),
+    ) refl
+
+-- where all the tests before the last one passed, the last one decides
+pub last-decides : (a b c d e : Bool) → a ≡ true → b ≡ true → c ≡ true → d ≡ true → e ≡ (a && b && c && d && e)
+last-decides a b c d e p q r s = rw (p, q, r, s) refl
 
 -- a shift that is read is letters or figures
 abbrev ShiftIn : ℕ → Type 0

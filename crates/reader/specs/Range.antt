@@ -1,14 +1,12 @@
 -- Document 01, question 1, as far as it asks about a reader: its numbers are within the values that document 01 gives them.
-use Prim.Native.Nat.{_≤_}
+use mathlib.Core.Bool.{Bool, _&&_}
+use lib.Dec.{leb}
 use Rattle.alphabet.specs.declared.Mode.{Mode}
-use Rattle.frames.specs.Range.{FrameOf}
-use Rattle.keys.specs.Range.{KeysIn}
+use Rattle.frames.specs.Range.{frameIn}
+use Rattle.keys.specs.Range.{keysIn}
 use Rattle.reader.specs.declared.Reader.{Reader}
 
--- The prefix has 15 for more than three; document 01 counts its marks, at most 4.
-pub record ReaderIn (mode : Mode) (r : Reader) : Type 0 where
-  pub frame-in : FrameOf mode (r .frame)
-  pub keys-in : KeysIn (r .keys)
-  pub shift-low : 1 ≤ r .shift
-  pub shift-in : r .shift ≤ 2
-  pub prefix-in : r .prefix ≤ 15
+-- The shift of a reader is 1 or 2 (document 01: cases); its prefix is one of 0 to 3 marks, or more than three, which is 15
+-- (there: marks at most 4).
+abbrev pub readerIn : Mode → Reader → Bool
+readerIn mode r = frameIn mode (r .frame) && keysIn (r .keys) && leb 1 (r .shift) && leb (r .shift) 2 && leb (r .prefix) 15

@@ -10,12 +10,12 @@ ghost use mathlib.Core.Path.{_≡_};
 ghost use Prim.Native.Nat.{_≤_, _<_};
 ghost use Rattle.alphabet.specs.Modes.{alphabetOf, frameCodes};
 ghost use Rattle.baudot.specs.Reading.{shiftBy};
-ghost use Rattle.frames.specs.code.Bounds.{FoundIn};
+ghost use Rattle.frames.specs.code.Bounds.{FrameOf, FoundIn};
 ghost use Rattle.reader.specs.code.Outcomes.{outcome};
 ghost use Rattle.reader.specs.Reader.{fresh, eventOf, foundEvent, foundShift, keyEvent, prefixAfter, hearFrame, hearKey, hear, inhibited};
-ghost use Rattle.frames.specs.Range.{FrameOf};
-ghost use Rattle.keys.specs.Range.{KeysIn};
-ghost use Rattle.reader.specs.Range.{ReaderIn};
+ghost use Rattle.keys.specs.code.Bounds.{KeysIn};
+ghost use Rattle.reader.specs.code.Bounds.{ReaderIn};
+ghost use Rattle.reader.specs.Range.{readerIn};
 
 pub mod words;
 
@@ -215,4 +215,25 @@ pub fn inhibited(r: Reader) -> Reader
         shift: r.shift,
         prefix: r.prefix,
     }
+}
+
+// Question 1, of a reader.
+pub fn in_range(mode: Mode, r: Reader) -> bool
+    ensures { λ q. ⌜ q ≡ readerIn mode r ⌝ }
+{
+    let f = r.frame;
+    if !frames::in_range(mode, f) {
+        return false;
+    }
+    let k = r.keys;
+    if !keys::in_range(k) {
+        return false;
+    }
+    if r.shift < 1 {
+        return false;
+    }
+    if 2 < r.shift {
+        return false;
+    }
+    r.prefix <= 15
 }

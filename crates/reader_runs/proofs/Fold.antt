@@ -13,7 +13,7 @@ use Rattle.alphabet.specs.declared.Mode.{Mode}
 use Rattle.reader.specs.declared.Reader.{Reader}
 use Rattle.reader.specs.declared.Reading.{Reading}
 use Rattle.reader.specs.Reader.{hear}
-use Rattle.reader.specs.Range.{ReaderIn}
+use Rattle.reader.specs.code.Bounds.{ReaderIn}
 use Rattle.reader.specs.Words.{wordOf, wordsOf, readerAfter, words}
 use Rattle.reader.proofs.WordLists.{one-word}
 use Rattle.reader_runs.specs.declared.Skipped.{Skipped}

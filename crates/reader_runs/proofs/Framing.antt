@@ -17,12 +17,12 @@ use Rattle.frames.specs.declared.FrameRead.{FrameRead}
 use Rattle.frames.specs.declared.Found.the-variants.{Nothing as nothing}
 use Rattle.frames.specs.Samples.{sampleAt, samplesOf}
 use Rattle.frames.specs.Frames.{gives, sampled, frameStep}
-use Rattle.frames.specs.Range.{FrameOf}
+use Rattle.frames.specs.code.Bounds.{FrameOf}
 use Rattle.frames.proofs.Range.{place-255, digits-128}
 use Rattle.reader.specs.declared.Event.the-variants.{Nothing}
 use Rattle.reader.specs.declared.Reader.{Reader}
 use Rattle.reader.specs.Reader.{fresh, ends, withFrame, hear}
-use Rattle.reader.specs.Range.{ReaderIn}
+use Rattle.reader.specs.code.Bounds.{ReaderIn}
 use Rattle.reader.proofs.Range.{fresh-in}
 use Rattle.reader_runs.specs.declared.samples.Effect.the-variants.{On, Hunts}
 use Rattle.reader_runs.specs.code.Runs.{Until, Through}

@@ -14,7 +14,7 @@ use Rattle.alphabet.specs.declared.Mode.the-variants.{Dtmf}
 use Rattle.keys.specs.declared.Keys.{Keys}
 use Rattle.keys.specs.Keys.{keysAt, needs, counts, keyStep}
 use Rattle.reader.specs.declared.Reader.{Reader}
-use Rattle.reader.specs.Range.{ReaderIn}
+use Rattle.reader.specs.code.Bounds.{ReaderIn}
 use Rattle.reader_runs.specs.declared.skipping.Keyed.{Keyed}
 use Rattle.reader_runs.specs.code.Skipping.{keysOf, readerWith, rowOf, PassesKeys, msNext}
 use Rattle.reader_runs.proofs.Rows.{next-same}

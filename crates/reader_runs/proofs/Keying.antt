@@ -11,12 +11,12 @@ use borrow.Author.Tests.{eqb-true, ne-eqb}
 use Rattle.lists.specs.Lists.{allAtMost}
 use Rattle.alphabet.specs.declared.Mode.the-variants.{Dtmf}
 use Rattle.keys.specs.declared.Keys.{Keys}
-use Rattle.keys.specs.Range.{KeysIn}
+use Rattle.keys.specs.code.Bounds.{KeysIn}
 use Rattle.keys.specs.Keys.{keysAt, ready, needs, counts, nthMs, keyStep}
 use Rattle.reader.specs.declared.Event.the-variants.{Nothing}
 use Rattle.reader.specs.declared.Reader.{Reader}
 use Rattle.reader.specs.Reader.{fresh, ends, withKey, prefixAfter, keyEvent, hear}
-use Rattle.reader.specs.Range.{ReaderIn}
+use Rattle.reader.specs.code.Bounds.{ReaderIn}
 use Rattle.reader.specs.Words.{readerAfter, words}
 use Rattle.reader.proofs.Range.{fresh-in}
 use Rattle.lists.specs.code.Places.{UpTo}

@@ -13,7 +13,8 @@ use Rattle.alphabet.specs.declared.Mode.the-variants.{Baudot45, Baudot50, Dtmf,
 use Rattle.frames.specs.declared.Sample.{Sample}
 use Rattle.frames.specs.declared.Sample.the-variants.{None, Start, Digit, Parity, Stop, Last}
 use Rattle.frames.specs.Samples.{placed, sampleAt, samplesOf, baudotKinds, edtKinds}
-use Rattle.frames.specs.Range.{lastMs, FrameOf}
+use Rattle.frames.specs.Range.{lastMs}
+use Rattle.frames.specs.code.Bounds.{FrameOf}
 use Rattle.frames.proofs.Samples.{baudot-on, edt-on}
 use Rattle.reader_runs.specs.declared.samples.Effect.{Effect}
 use Rattle.reader_runs.specs.code.Samples.{numberAt, sampleMs, kindOf, Does}

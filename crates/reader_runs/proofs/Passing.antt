@@ -13,7 +13,7 @@ use Rattle.reader.specs.declared.Event.the-variants.{Nothing}
 use Rattle.reader.specs.declared.Reader.{Reader}
 use Rattle.reader.specs.declared.Reading.{Reading}
 use Rattle.reader.specs.Reader.{ends, hear}
-use Rattle.reader.specs.Range.{ReaderIn}
+use Rattle.reader.specs.code.Bounds.{ReaderIn}
 use Rattle.reader.specs.Words.{wordOf, readerAfter, words}
 use Rattle.reader.proofs.Range.{hear-in}
 use Rattle.reader_runs.specs.declared.Skipped.{Skipped}

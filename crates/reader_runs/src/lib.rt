@@ -9,7 +9,7 @@ ghost use Prim.Native.Nat.{_+_, _≤_};
 ghost use lib.ListN.{length};
 ghost use lib.Seq.{sets};
 ghost use Rattle.lists.specs.Lists.{allAtMost};
-ghost use Rattle.reader.specs.Range.{ReaderIn};
+ghost use Rattle.reader.specs.code.Bounds.{ReaderIn};
 ghost use Rattle.reader.specs.Words.{readerAfter, words as wordsHeard};
 ghost use Rattle.reader_runs.specs.code.Runs.{Alike};
 ghost use Rattle.reader_runs.specs.code.Skipping.{Skips};

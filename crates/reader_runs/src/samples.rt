@@ -14,16 +14,42 @@ pub enum Effect {
     Finds,
 }
 
+// A code of Baudot is sampled in the middle of its elements; what is added rounds up to the next sample.
+const ELEMENT_45: usize = Mode::BAUDOT_45_ELEMENT as usize;
+
+const HALF_45: usize = ELEMENT_45 / 2;
+
+const UP_45: usize = ELEMENT_45 - 1 - HALF_45;
+
+const ELEMENT_50: usize = Mode::BAUDOT_50_ELEMENT as usize;
+
+const HALF_50: usize = ELEMENT_50 / 2;
+
+const UP_50: usize = ELEMENT_50 - 1 - HALF_50;
+
+// One of EDT too, in elements that are no whole ms.
+const CODE: usize = Mode::EDT_CODE as usize;
+
+const ELEMENTS: usize = Mode::EDT_ELEMENTS as usize;
+
+const HALF: usize = CODE / 2;
+
+const UP: usize = CODE - 1 - HALF;
+
+const BAUDOT_TOP: usize = frames::BAUDOT_TOP as usize;
+
+const EDT_TOP: usize = frames::EDT_TOP as usize;
+
 // The number of the first sample from a ms on.
 pub fn number_at(mode: Mode, m: usize) -> usize
     requires { ⌜ m < 256 ⌝ }
     ensures { λ r. ⌜ r ≡ numberAt mode m ⌝ }
 {
     match mode {
-        Mode::Baudot45 => (m + 10) / 22,
-        Mode::Baudot50 => (m + 9) / 20,
+        Mode::Baudot45 => (m + UP_45) / ELEMENT_45,
+        Mode::Baudot50 => (m + UP_50) / ELEMENT_50,
         Mode::Dtmf => m,
-        Mode::Edt => (11 * m + 49) / 100,
+        Mode::Edt => (ELEMENTS * m + UP) / CODE,
     }
 }
 
@@ -33,10 +59,10 @@ pub fn sample_ms(mode: Mode, j: usize) -> usize
     ensures { λ r. ⌜ r ≡ sampleMs mode j ⌝ }
 {
     match mode {
-        Mode::Baudot45 => 22 * j + 11,
-        Mode::Baudot50 => 20 * j + 10,
+        Mode::Baudot45 => ELEMENT_45 * j + HALF_45,
+        Mode::Baudot50 => ELEMENT_50 * j + HALF_50,
         Mode::Dtmf => j,
-        Mode::Edt => (100 * j + 50) / 11,
+        Mode::Edt => (CODE * j + HALF) / ELEMENTS,
     }
 }
 
@@ -95,7 +121,7 @@ fn baudot_effect(j: usize, digits: usize, heard: u8) -> Effect
         return start(digits, heard);
     }
     if j < 6 {
-        return digit(16, digits, heard);
+        return digit(BAUDOT_TOP, digits, heard);
     }
     Effect::Finds
 }
@@ -109,7 +135,7 @@ fn edt_effect(j: usize, digits: usize, heard: u8) -> Effect
         return start(digits, heard);
     }
     if j < 8 {
-        return digit(64, digits, heard);
+        return digit(EDT_TOP, digits, heard);
     }
     match j {
         8 => parity(digits, heard),

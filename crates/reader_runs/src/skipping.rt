@@ -14,11 +14,18 @@ ghost use Prim.Native.Nat.{ℕ, suc, _+_, _-_, _≤_, _<_};
 ghost use lib.ListN.{length};
 ghost use Rattle.lists.specs.Lists.{allAtMost};
 ghost use Rattle.alphabet.specs.declared.Mode.the-variants as mode;
-ghost use Rattle.frames.specs.Range.{FrameOf};
-ghost use Rattle.keys.specs.Range.{KeysIn};
-ghost use Rattle.reader.specs.Range.{ReaderIn};
+ghost use Rattle.frames.specs.code.Bounds.{FrameOf};
+ghost use Rattle.keys.specs.code.Bounds.{KeysIn};
+ghost use Rattle.reader.specs.code.Bounds.{ReaderIn};
 ghost use Rattle.reader_runs.specs.code.Runs.{Alike, Through};
 ghost use Rattle.reader_runs.specs.code.Skipping.{frameAt, readerAt, keysOf, readerWith, rowOf, placeAfter, msAfter, Framed, Skips, Passes, PassesKeys, QuietFrom, Stays};
+
+// A key counts at this ms in a row, and with so many not yet; then so many quiet ms are needed.
+const KEY_MS: usize = keys::KEY_MS as usize;
+
+const NOT_YET: usize = KEY_MS - 1;
+
+const QUIET_MS: usize = keys::QUIET_MS as usize;
 
 // A reader of frames before a ms, and whether it may pass more.
 struct Passed {
@@ -218,12 +225,12 @@ fn pass_count(heard: &[u8], k: Keyed) -> Keyed
     let mut ms = k.ms;
     let mut to = k.to;
     while to < heard.len() {
-        let last = lists::places::up_to(to, 39 - ms, heard.len() - 1);
+        let last = lists::places::up_to(to, NOT_YET - ms, heard.len() - 1);
         let n = ms_after(heard, to, key, ms, last);
-        if n == 40 {
+        if n == KEY_MS {
             return Keyed {
                 key: heard[last],
-                ms: 39,
+                ms: NOT_YET,
                 needed: 0,
                 to: last,
             };
@@ -245,7 +252,7 @@ fn quiet_from(heard: &[u8], needed: usize, i: usize) -> usize
     requires { ⌜ i ≤ length (now heard) ⌝ }
     ensures { λ r. ⌜ QuietFrom (now (heard .entry)) needed i r ⌝ }
 {
-    if needed != 40 {
+    if needed != QUIET_MS {
         return i;
     }
     runs::until(heard, i, heard.len(), 0)
@@ -332,10 +339,10 @@ fn pass_held(k: Keyed, level: u8, end: usize) -> Keyed
         return needing(k.needed - lists::places::up_to(0, k.needed, n), end);
     }
     if k.needed != 0 {
-        return needing(40, end);
+        return needing(QUIET_MS, end);
     }
     let ms = row(k, level);
-    if n < 40 - ms {
+    if n < KEY_MS - ms {
         return Keyed {
             key: level,
             ms: ms + n,
@@ -345,9 +352,9 @@ fn pass_held(k: Keyed, level: u8, end: usize) -> Keyed
     }
     Keyed {
         key: level,
-        ms: 39,
+        ms: NOT_YET,
         needed: 0,
-        to: k.to + (39 - ms),
+        to: k.to + (NOT_YET - ms),
     }
 }
 

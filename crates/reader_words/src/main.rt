@@ -7,7 +7,7 @@ use libc::STDOUT_FILENO;
 use reader::Event;
 use reader::Reader;
 ghost use Prim.Native.Nat.{_≤_};
-ghost use Rattle.reader.specs.Range.{ReaderIn};
+ghost use Rattle.reader.specs.code.Bounds.{ReaderIn};
 
 const LF: u8 = b'\n';
 

@@ -8,11 +8,7 @@ use native.Mathlib.Numerals.{add-one}
 use lib.ListN.{length, getD, drop, drop-of-length-le}
 use lib.Seq.{drop-cons}
 use Rattle.alphabet.specs.declared.Alphabet.{Alphabet}
-use Rattle.alphabet.specs.declared.Mode.{Mode}
-use Rattle.alphabet.specs.declared.Mode.the-variants.{Baudot45, Baudot50, Dtmf, Edt}
 use Rattle.alphabet.specs.Normal.{allChars}
-use Rattle.frames.specs.Samples.{placed, samplesOf, baudotKinds, edtKinds}
-use Rattle.frames.specs.Range.{lastMs}
 use Rattle.reader.specs.declared.Reader.{Reader}
 use Rattle.half_duplex.specs.declared.Core.{Core}
 use Rattle.queue.specs.Queue.{Queue, QueueOffered, room, offered, offerOf as queueOffer}
@@ -21,30 +17,6 @@ use Rattle.station.specs.Station.{station, alphabetOfStation, queueOf, h
 use Rattle.station.specs.Range.{inRange}
 use Rattle.station.specs.Entries.{StationAnswered, answered, offerAnswer, offerOf}
 use Rattle.station.proofs.Answers.{offer-4, offer-0}
-
--- where all the tests before the last one passed, the last one decides
-pub last-of-5 : (a b c d e : Bool) → a ≡ true → b ≡ true → c ≡ true → d ≡ true → e ≡ (a && b && c && d && e)
-last-of-5 a b c d e p q r s = rw (p, q, r, s) refl
-
-pub last-of-7 : (a b c d e f g : Bool) → a ≡ true → b ≡ true → c ≡ true → d ≡ true → e ≡ true → f ≡ true → g ≡ (a && b && c && d && e && f && g)
-last-of-7 a b c d e f g p q r s t u = rw (p, q, r, s, t, u) refl
-
--- the ms of the last sample in each mode
-abbrev pub lastOf : Mode → ℕ
-lastOf Baudot45 = 143
-lastOf Baudot50 = 130
-lastOf Dtmf = 0
-lastOf Edt = 95
-
-pub last-is : (mode : Mode) → lastOf mode ≡ lastMs (samplesOf mode)
-unfolding samplesOf lastMs placed baudotKinds edtKinds
-last-is Baudot45 = refl
-last-is Baudot50 = refl
-last-is Dtmf = refl
-last-is Edt = refl
-
-pub last-at : (mode o : Mode) → mode ≡ o → lastOf o ≡ lastMs (samplesOf mode)
-last-at mode o e = ap lastOf (sym e) ∙ last-is mode
 
 -- DEL, in what is left of a text
 pub del-left : (text : List ℕ) (i : ℕ) → i < length text → hasDel (drop i text) ≡ (eqb (getD text i 0) 0x7f || hasDel (drop (i + 1) text))

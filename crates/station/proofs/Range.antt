@@ -19,72 +19,24 @@ use Rattle.alphabet.specs.Modes.{alphabetOf, codes, frameCodes, highestLevel}
 use Rattle.alphabet.specs.Normal.{sends, allChars}
 use Rattle.baudot.specs.declared.Sender.{Sender}
 use Rattle.alphabet.specs.Normal.{isCode}
-use Rattle.baudot.specs.Sending.{inRange as senderIn}
-use Rattle.frames.specs.declared.Frame.{Frame}
-use Rattle.frames.specs.Samples.{samplesOf}
-use Rattle.frames.specs.Range.{lastMs, FrameOf}
-use Rattle.keys.specs.declared.Keys.{Keys}
-use Rattle.keys.specs.Range.{KeysIn}
 use Rattle.reader.specs.declared.Reader.{Reader}
 use Rattle.reader.specs.Reader.{reader}
-use Rattle.reader.specs.Range.{ReaderIn}
-use Rattle.reader.proofs.Range as line
-use Rattle.burst.specs.Range.{lineIn}
+use Rattle.reader.specs.code.Bounds.{ReaderIn}
+use Rattle.reader.proofs.Range as reader
+use Rattle.burst.proofs.Range.{blank-in}
 use Rattle.half_duplex.specs.Core.{modeIn, settled, coreFrom}
-use Rattle.burst.specs.code.Bounds.{LineIn, SenderIn}
+use Rattle.half_duplex.specs.Range.{coreIn}
 use Rattle.half_duplex.specs.code.Bounds.{CoreIn}
-use Rattle.burst.proofs.Range.{blank-in, line-in, line-is, sender-in, sender-is}
+use Rattle.half_duplex.proofs.Range as half
 use Rattle.half_duplex.proofs.Range.{takes-waiting, core-after-in}
 use Rattle.queue.specs.Queue.{Queue, queue, waits, waiters, allWait, waitingOf, moved, room, offered, taken, inRange as queueIn}
 use Rattle.queue.proofs.Laws as queue
 use Rattle.station.specs.declared.Station.{Station}
 use Rattle.station.specs.Station.{modeOfStation, alphabetOfStation, queueOf, freshStation, hasDel, readerOffered, offeredTo, front, charsAfter, stationMs, stationAfter, wordsBy}
-use Rattle.station.specs.Range.{frameIn, keysIn, readerIn, coreIn, inRange}
+use Rattle.station.specs.Range.{inRange}
 use Rattle.station.specs.Entries.{StationAnswered, StationRan, answered, isMode, openOf, offerAnswer, offerOf, runAnswer, ran, ranOf}
 
 -- ---- question 1 in facts
-
-frame-in : (mode : Mode) (f : Frame) → frameIn mode f ≡ true → FrameOf mode f
-frame-in mode f e =
-    let p = leb (f .place) (lastMs (samplesOf mode) + 1) in
-    let d = ltb (f .digits) (frameCodes mode) in
-    record { place-in = leb-true (f .place) (lastMs (samplesOf mode) + 1) (and-left p d e); digits-in = ltb-true (f .digits) (frameCodes mode) (and-right p d e) }
-
-frame-is : (mode : Mode) (f : Frame) → FrameOf mode f → frameIn mode f ≡ true
-frame-is mode f h = rw (le-leb (f .place) (lastMs (samplesOf mode) + 1) (h .place-in), lt-ltb (f .digits) (frameCodes mode) (h .digits-in)) refl
-
-keys-in : (k : Keys) → keysIn k ≡ true → KeysIn k
-keys-in k e =
-    let a = leb (k .key) 16 in
-    let b = ltb (k .ms) 40 in
-    let c = leb (k .needed) 40 in
-    let ab = and-left (a && b) c e in
-    record { key-in = leb-true (k .key) 16 (and-left a b ab); ms-in = ltb-true (k .ms) 40 (and-right a b ab); needed-in = leb-true (k .needed) 40 (and-right (a && b) c e) }
-
-keys-are : (k : Keys) → KeysIn k → keysIn k ≡ true
-keys-are k h = rw (le-leb (k .key) 16 (h .key-in), lt-ltb (k .ms) 40 (h .ms-in), le-leb (k .needed) 40 (h .needed-in)) refl
-
-reader-in : (mode : Mode) (r : Reader) → readerIn mode r ≡ true → ReaderIn mode r
-reader-in mode r e =
-    let a = frameIn mode (r .frame) in
-    let b = keysIn (r .keys) in
-    let c = leb 1 (r .shift) in
-    let d = leb (r .shift) 2 in
-    let p = leb (r .prefix) 15 in
-    let abcd = and-left (a && b && c && d) p e in
-    let abc = and-left (a && b && c) d abcd in
-    let ab = and-left (a && b) c abc in
-    record {
-      frame-in = frame-in mode (r .frame) (and-left a b ab);
-      keys-in = keys-in (r .keys) (and-right a b ab);
-      shift-low = leb-true 1 (r .shift) (and-right (a && b) c abc);
-      shift-in = leb-true (r .shift) 2 (and-right (a && b && c) d abcd);
-      prefix-in = leb-true (r .prefix) 15 (and-right (a && b && c && d) p e);
-    }
-
-reader-is : (mode : Mode) (r : Reader) → ReaderIn mode r → readerIn mode r ≡ true
-reader-is mode r h =
-    rw (frame-is mode (r .frame) (h .frame-in), keys-are (r .keys) (h .keys-in), le-leb 1 (r .shift) (h .shift-low), le-leb (r .shift) 2 (h .shift-in), le-leb (r .prefix) 15 (h .prefix-in)) refl
 
 -- the facts that question 1 stands for
 pub record StationIn (s : Station) : Type 0 where
@@ -98,44 +50,22 @@ unfolding queueIn
 few-wait a q e = leb-true (q .waiting) 256 (and-left (leb (q .waiting) 256) (allWait a (waitingOf q)) e)
 
 pub station-in : (s : Station) → inRange s ≡ true → StationIn s
-unfolding inRange coreIn
+unfolding inRange
 station-in s e =
-    let c = s .core in
-    let b₀ = leb 1 (c .mode) in
-    let b₁ = leb (c .mode) 4 in
-    let b₂ = leb (c .silence) 300 in
-    let b₃ = leb (c .inhibited) 300 in
-    let b₄ = lineIn (modeIn c) (c .line) in
-    let b₅ = senderIn (c .sender) in
-    let b₆ = readerIn (modeIn c) (c .reader) in
     let q = queueIn (alphabetOfStation s) (queueOf s) in
-    let t₆ = and-left (coreIn c) q e in
-    let t₅ = and-left (b₀ && b₁ && b₂ && b₃ && b₄ && b₅) b₆ t₆ in
-    let t₄ = and-left (b₀ && b₁ && b₂ && b₃ && b₄) b₅ t₅ in
-    let t₃ = and-left (b₀ && b₁ && b₂ && b₃) b₄ t₄ in
-    let t₂ = and-left (b₀ && b₁ && b₂) b₃ t₃ in
-    let t₁ = and-left (b₀ && b₁) b₂ t₂ in
-    let i = and-right (coreIn c) q e in
+    let c = and-left (coreIn (s .core)) q e in
+    let i = and-right (coreIn (s .core)) q e in
+    let t = half.core-timers (s .core) c in
     record {
-      core-in = record {
-        waiting-in = few-wait (alphabetOfStation s) (queueOf s) i;
-        silence-in = leb-true (c .silence) 300 (and-right (b₀ && b₁) b₂ t₂);
-        inhibited-in = leb-true (c .inhibited) 300 (and-right (b₀ && b₁ && b₂) b₃ t₃);
-        line-in = line-in (modeIn c) (c .line) (and-right (b₀ && b₁ && b₂ && b₃) b₄ t₄);
-        sender-in = sender-in (c .sender) (and-right (b₀ && b₁ && b₂ && b₃ && b₄) b₅ t₅);
-        reader-in = reader-in (modeIn c) (c .reader) (and-right (b₀ && b₁ && b₂ && b₃ && b₄ && b₅) b₆ t₆);
-      };
-      mode-low = leb-true 1 (c .mode) (and-left b₀ b₁ t₁);
-      mode-in = leb-true (c .mode) 4 (and-right b₀ b₁ t₁);
+      core-in = half.core-in (s .core) c (few-wait (alphabetOfStation s) (queueOf s) i);
+      mode-low = t .mode-low;
+      mode-in = t .mode-in;
       queue-in = i;
     }
 
 pub station-is : (s : Station) → StationIn s → inRange s ≡ true
-unfolding inRange coreIn
-station-is s h =
-    let c = s .core in
-    let i = h .core-in in
-    rw (le-leb 1 (c .mode) (h .mode-low), le-leb (c .mode) 4 (h .mode-in), le-leb (c .silence) 300 (i .silence-in), le-leb (c .inhibited) 300 (i .inhibited-in), line-is (modeIn c) (c .line) (i .line-in), sender-is (c .sender) (i .sender-in), reader-is (modeIn c) (c .reader) (i .reader-in)) (h .queue-in)
+unfolding inRange
+station-is s h = rw (half.core-is (s .core) (h .mode-low) (h .mode-in) (h .core-in)) (h .queue-in)
 
 pub core-in : (s : Station) → inRange s ≡ true → CoreIn (s .core)
 core-in s e = station-in s e .core-in
@@ -176,7 +106,7 @@ fresh-in mode e =
         inhibited-in = omega arith;
         line-in = blank-in (modeOfStation s) 0 (omega arith);
         sender-in = record { shift-in = omega arith; count-in = omega arith };
-        reader-in = line.fresh-in (modeOfStation s);
+        reader-in = reader.fresh-in (modeOfStation s);
       };
       mode-low = leb-true 1 mode (and-left (leb 1 mode) (leb mode 4) e);
       mode-in = leb-true mode 4 (and-right (leb 1 mode) (leb mode 4) e);

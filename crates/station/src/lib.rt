@@ -8,9 +8,8 @@ ghost use mathlib.Core.Path.{_≡_};
 ghost use Rattle.alphabet.specs.declared.Alphabet.the-variants.{Baudot};
 ghost use Rattle.half_duplex.specs.Core.{freshCore};
 ghost use Rattle.station.specs.Station.{station, hasDel, readerOffered, coreWith};
+ghost use Rattle.station.specs.Range.{inRange};
 ghost use Rattle.station.specs.Entries.{openOf, offerOf};
-
-pub mod checks;
 
 // A core, and the characters that wait, the front one first.
 #[repr(C)]
@@ -46,6 +45,17 @@ fn fresh(mode: u8) -> Core
         reader,
         mode,
     }
+}
+
+// Question 1: are the station's numbers in range?
+pub fn in_range(c: Core, chars: &[u8; 256]) -> bool
+    ensures { λ r. ⌜ r ≡ inRange (station c (now (chars .entry))) ⌝ }
+{
+    if !half_duplex::in_range(c) {
+        return false;
+    }
+    let a = Mode::of(c.mode).alphabet();
+    queue::in_range(a, c.waiting, chars)
 }
 
 // Opening a station: of mode 1 to 4.
@@ -123,7 +133,7 @@ pub fn offer(c: Core, chars: &mut [u8; 256], text: &[u8]) -> Answered
     ensures { λ r. ⌜ station (r .core) (now (chars .exit)) ≡ offerOf (station c (now (chars .entry))) (now (text .entry)) .station ⌝ }
     ensures { λ r. ⌜ r .answer ≡ offerOf (station c (now (chars .entry))) (now (text .entry)) .answer ⌝ }
 {
-    if !checks::in_range(c, chars) {
+    if !in_range(c, chars) {
         return Answered { core: c, answer: 1 };
     }
     if !lists::checks::all_at_most(text, 127) {

@@ -51,7 +51,7 @@ fn in_range(c: Core, chars: &[u8; 256]) -> bool
         reader,
         mode: c.mode,
     };
-    station::checks::in_range(same, chars)
+    station::in_range(same, chars)
 }
 
 // A run: the sent ms and the words of the ms that are heard.

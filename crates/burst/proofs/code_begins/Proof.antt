@@ -42,9 +42,11 @@ code-at-requires-2 : tie.Need-code-at-requires-2
 code-at-requires-2 c κs = search needs
 
 returns-3 : tie.Need-returns-3
-returns-3 c = let k = c .before .before .before .before .before .sends .given in
+returns-3 c =
+    let k = c .before .before .before .before .before .sends .given in
     let w = c .before .before .before .shift-wanted .ensures in
-    simp (c .code-at2 .ensures, c .before .shift-code .ensures, w) (sym (shift-code _ _ _ _ _ _ (k .1) (λ e. c .before .before .if1 .left (w ∙ e))))
+    let e = shift-code _ _ _ _ _ _ (k .1) _ w _ (c .before .shift-code .ensures) (c .before .before .if1 .left) in
+    simp (c .code-at2 .ensures) (sym e)
 
 pub code-begins-spec : {M : Type 1} → statement M
 code-begins-spec =

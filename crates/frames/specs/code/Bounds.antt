@@ -1,12 +1,24 @@
 -- The bounds that the functions of this crate ask for.
-use Prim.Native.Nat.{ℕ, _≤_, _<_}
+use Prim.Native.Nat.{ℕ, _+_, _≤_, _<_}
 use mathlib.Core.Bool.{Bool, true}
 use lib.Dec.{leb}
+use Rattle.alphabet.specs.declared.Mode.{Mode}
+use Rattle.alphabet.specs.Modes.{frameCodes}
 use Rattle.frames.specs.declared.Sample.{Sample}
 use Rattle.frames.specs.declared.Sample.the-variants.{None, Start, Digit, Parity, Stop, Last}
 use Rattle.frames.specs.declared.Frame.{Frame}
 use Rattle.frames.specs.declared.Found.{Found}
 use Rattle.frames.specs.declared.Found.the-variants.{Nothing, Fault, Code}
+use Rattle.frames.specs.Samples.{samplesOf}
+use Rattle.frames.specs.Range.{lastMs}
+
+-- what question 1 asks of a frame, for samples up to the ms `last` and digits below n, and for those of a mode
+pub record FrameIn (last n : ℕ) (f : Frame) : Type 0 where
+  pub place-in : f .place ≤ last + 1
+  pub digits-in : f .digits < n
+
+abbrev pub FrameOf : Mode → Frame → Type 0
+FrameOf mode f = FrameIn (lastMs (samplesOf mode)) (frameCodes mode) f
 
 -- in a frame, with a place to come
 pub record InFrame (f : Frame) : Type 0 where

@@ -1,6 +1,6 @@
 -- The bounds that the functions of this crate ask for.
 use Prim.Native.Nat.{_≤_}
-use Rattle.reader.specs.Range.{ReaderIn}
+use Rattle.reader.specs.code.Bounds.{ReaderIn}
 use Rattle.burst.specs.Rules.{freeMs, afterMs}
 use Rattle.burst.specs.code.Bounds.{LineIn, SenderIn}
 use Rattle.half_duplex.specs.declared.Core.{Core}

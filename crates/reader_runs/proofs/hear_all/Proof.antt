@@ -9,7 +9,7 @@ use Rattle.lists.proofs.Lists.{at-most-at, at-most-more}
 use Rattle.reader.specs.declared.Reader.{Reader}
 use Rattle.reader.specs.declared.Reading.{Reading}
 use Rattle.reader.specs.Reader.{hear}
-use Rattle.reader.specs.Range.{ReaderIn}
+use Rattle.reader.specs.code.Bounds.{ReaderIn}
 use Rattle.reader.proofs.Range.{hear-in}
 use borrow.Author.Needs.{needs}
 use Rattle.reader_runs.proofs.Fold.{Left, left-start, left-skip, left-hear, left-reader, left-place, left-slice}

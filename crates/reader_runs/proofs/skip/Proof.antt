@@ -12,7 +12,7 @@ use Rattle.alphabet.specs.declared.Mode.the-variants.{Baudot45, Baudot50, Dtmf,
 use Rattle.alphabet.proofs.Mode as declared
 use Rattle.reader.specs.declared.Reader.{Reader}
 use Rattle.reader.specs.Reader.{hear}
-use Rattle.reader.specs.Range.{ReaderIn}
+use Rattle.reader.specs.code.Bounds.{ReaderIn}
 use Rattle.reader_runs.specs.code.Skipping.{Framed, Skips}
 use borrow.Author.Needs.{needs}
 use Rattle.reader_runs.proofs.skip.Statement.{statement}

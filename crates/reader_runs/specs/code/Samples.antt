@@ -1,28 +1,32 @@
 -- The samples of a frame, by their numbers.
-use Prim.Native.Nat.{ℕ, _+_, _*_, _/_}
+use Prim.Native.Nat.{ℕ, _+_, _*_, _-_, _/_}
 use mathlib.Core.Path.{_≡_}
 use Rattle.alphabet.specs.declared.Mode.{Mode}
 use Rattle.alphabet.specs.declared.Mode.the-variants.{Baudot45, Baudot50, Dtmf, Edt}
+use Rattle.alphabet.specs.Modes.{elementOf}
 use Rattle.frames.specs.declared.Sample.{Sample}
 use Rattle.frames.specs.declared.Found.the-variants.{Nothing}
-use Rattle.frames.specs.Samples.{sampleAt, samplesOf}
+use Rattle.frames.specs.Samples.{baudotPlace, edtPlace, sampleAt, samplesOf}
 use Rattle.frames.specs.Frames.{hunting, gives, goesOn, sampled}
 use Rattle.reader_runs.specs.declared.samples.Effect.{Effect}
 use Rattle.reader_runs.specs.declared.samples.Effect.the-variants.{On, Hunts, Finds}
 
--- The number of the first sample from a ms on.
+-- The number of the first sample from a ms on: Baudot, in elements of e ms; a mode.
+abbrev pub baudotNumber : ℕ → ℕ → ℕ
+baudotNumber e m = (m + (e - 1 - e / 2)) / e
+
 unfoldable pub numberAt : Mode → ℕ → ℕ
-numberAt Baudot45 m = (m + 10) / 22
-numberAt Baudot50 m = (m + 9) / 20
+numberAt Baudot45 m = baudotNumber (elementOf Baudot45) m
+numberAt Baudot50 m = baudotNumber (elementOf Baudot50) m
 numberAt Dtmf m = m
 numberAt Edt m = (11 * m + 49) / 100
 
 -- The ms of a sample.
 unfoldable pub sampleMs : Mode → ℕ → ℕ
-sampleMs Baudot45 j = 22 * j + 11
-sampleMs Baudot50 j = 20 * j + 10
+sampleMs Baudot45 j = baudotPlace (elementOf Baudot45) j
+sampleMs Baudot50 j = baudotPlace (elementOf Baudot50) j
 sampleMs Dtmf j = j
-sampleMs Edt j = (100 * j + 50) / 11
+sampleMs Edt j = edtPlace j
 
 -- The kind of a sample.
 abbrev pub kindOf : Mode → ℕ → Sample

@@ -13,7 +13,7 @@ use Rattle.keys.specs.declared.Keys.{Keys}
 use Rattle.keys.specs.Keys.{keysAt}
 use Rattle.reader.specs.declared.Reader.{Reader}
 use Rattle.reader.specs.Reader.{reader, hearFrame, hear}
-use Rattle.reader.specs.Range.{ReaderIn}
+use Rattle.reader.specs.code.Bounds.{ReaderIn}
 use Rattle.reader.specs.Words.{readerAfter, words}
 use Rattle.reader_runs.specs.declared.Skipped.{Skipped}
 use Rattle.reader_runs.specs.declared.skipping.Keyed.{Keyed}

@@ -1,7 +1,7 @@
 -- `hear_all` keeps the reader in range, and ends.
 use Prim.Native.Nat.{_-_, _≤_}
 use borrow.Author.Needs.{needs}
-use Rattle.reader.specs.Range.{ReaderIn}
+use Rattle.reader.specs.code.Bounds.{ReaderIn}
 use Rattle.reader_words.proofs.hear_all.Statement.{statement}
 use Rattle.reader_words.proofs.hear_all.Tie as tie
 

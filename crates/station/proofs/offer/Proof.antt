@@ -11,7 +11,7 @@ use Rattle.alphabet.proofs.Mode.alphabet.Reads as alphabet-reads
 use Rattle.alphabet.proofs.Mode.of.Reads as of-reads
 use Rattle.lists.proofs.checks.all_at_most.Reads as all-at-most-reads
 use Rattle.queue.proofs.offer.Reads as offer-reads
-use Rattle.station.proofs.checks.in_range.Reads as in-range-reads
+use Rattle.station.proofs.in_range.Reads as in-range-reads
 use Rattle.station.proofs.core_with.Reads as core-with-reads
 use Rattle.station.proofs.reader_offered.Reads as reader-offered-reads
 

@@ -1,7 +1,7 @@
--- `checks::keys_in` meets its contract.
+-- `in_range` meets its contract.
 use borrow.Author.Tests.{le-leb, lt-leb, lt-ltb, le-ltb}
-use Rattle.station.proofs.checks.keys_in.Statement.{statement}
-use Rattle.station.proofs.checks.keys_in.Tie as tie
+use Rattle.keys.proofs.in_range.Statement.{statement}
+use Rattle.keys.proofs.in_range.Tie as tie
 
 returns : tie.Need-returns
 returns c = simp (lt-leb _ 16 (c .if1 .taken))
@@ -12,5 +12,5 @@ returns-2 c = simp (le-leb _ 16 (c .before .before .if1 .left), le-ltb _ 40 (c .
 returns-3 : tie.Need-returns-3
 returns-3 c = simp (le-leb _ 16 (c .before .before .before .if1 .left), lt-ltb _ 40 (c .before .if2 .left))
 
-pub keys-in-spec : {M : Type 1} → statement M
-keys-in-spec = tie.close (tie.spec returns returns-2 returns-3)
+pub in-range-spec : {M : Type 1} → statement M
+in-range-spec = tie.close (tie.spec returns returns-2 returns-3)

@@ -1,0 +1,12 @@
+-- The bounds that the functions of this crate ask for.
+use Prim.Native.Nat.{_≤_, _<_}
+use Rattle.alphabet.specs.declared.Mode.the-variants.{Dtmf}
+use Rattle.alphabet.specs.Modes.{highestLevel}
+use Rattle.keys.specs.declared.Keys.{Keys}
+use Rattle.keys.specs.Keys.{keyMs, quietMs}
+
+-- what question 1 asks of keys
+pub record KeysIn (k : Keys) : Type 0 where
+  pub key-in : k .key ≤ highestLevel Dtmf
+  pub ms-in : k .ms < keyMs
+  pub needed-in : k .needed ≤ quietMs
