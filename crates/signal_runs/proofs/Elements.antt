@@ -23,7 +23,7 @@ use Rattle.burst.specs.declared.OnLine.{OnLine}
 use Rattle.burst.specs.Line.{further, inBurst, partMs}
 use Rattle.burst.proofs.Laws.{within, level-preamble, level-code}
 use Rattle.lists.specs.code.Places.{UpTo}
-use Rattle.signal_runs.specs.code.Levels.{codeLevel, partLevel, evenMs, elementAt, elementEnd, frameOf, Run, Framed}
+use Rattle.signal_runs.specs.code.Levels.{codeLevel, partLevel, evenMs, elementAt, elementEnd, frameOf, frameLevel, Run, Framed}
 use Rattle.signal_runs.proofs.Parts.{few-codes, longest-480}
 use Rattle.signal_runs.proofs.Filling.{part-behind, Writing, writing-start, level-fits, level-written, writing-end}
 
@@ -175,8 +175,8 @@ module _ (mode : Mode) (l : OnLine) (n : ℕ) (h : l .at + n ≤ length (partMs 
   preamble-levels e =
       sym (tabulate-as (partLevel mode l) (λ (k : ℕ). 1) n 0 (λ (k : ℕ) (g : k < 0 + n). level-preamble mode (further l k) e (omega arith)) ∙ level-same n 0 1)
 
-  pub code-levels : l .part ≡ 2 → tabulate (codeLevel mode (l .code) (l .at)) n 0 ≡ tabulate (partLevel mode l) n 0
-  code-levels e = sym (tabulate-as (partLevel mode l) (codeLevel mode (l .code) (l .at)) n 0 (λ (k : ℕ) (g : k < 0 + n). level-code mode (further l k) e))
+  pub code-levels : l .part ≡ 2 → tabulate (codeLevel mode (l .code .0) (l .at)) n 0 ≡ tabulate (partLevel mode l) n 0
+  code-levels e = sym (tabulate-as (partLevel mode l) (codeLevel mode (l .code .0) (l .at)) n 0 (λ (k : ℕ) (g : k < 0 + n). level-code mode (further l k) e))
 
 -- no code is longer than four keys
 pub record Short (mode : Mode) (k : ℕ) : Type 0 where
@@ -196,24 +196,35 @@ code-part l h b n = let z = eqb-false (l .part) 0 (not-true (eqb (l .part) 0) b)
 
 -- ---- the loop that writes a frame: what is left, and the element of the next ms
 
-pub record Framing (mode : Mode) (code at : ℕ) (sent₀ : List ℕ) (from to : ℕ) (sent : List ℕ) (i j : ℕ) : Type 0 where
-  pub putting : Putting (codeLevel mode code at) sent₀ from to sent i
+pub record Framing (mode : Mode) (frame at : ℕ) (sent₀ : List ℕ) (from to : ℕ) (sent : List ℕ) (i j : ℕ) : Type 0 where
+  pub putting : Putting (frameLevel mode frame at) sent₀ from to sent i
   pub element : i < to → j ≡ elementAt mode (at + (i - from))
 
-module _ (mode : Mode) (framed : Framed mode) (code at : ℕ) (h : code < codes (alphabetOf mode)) (sent₀ : List ℕ) (from to : ℕ) (fits : at + (to - from) ≤ length (signal mode code)) where
-  pub framing-start : from ≤ to → (j : ℕ) → j ≡ elementAt mode at → Framing mode code at sent₀ from to sent₀ from j
+-- in a frame's levels, those of a code
+pub frame-levels : (mode : Mode) → Framed mode → (code at n : ℕ) → code < codes (alphabetOf mode)
+    → at + n ≤ length (signal mode code)
+    → tabulate (frameLevel mode (frameOf mode code) at) n 0 ≡ tabulate (codeLevel mode code at) n 0
+frame-levels mode framed code at n h fits =
+    tabulate-as (frameLevel mode (frameOf mode code) at) (codeLevel mode code at) n 0
+    (λ (k : ℕ) (g : k < 0 + n). sym (framed .level code (at + k) h (omega arith)))
+
+module _ (mode : Mode) (frame at : ℕ) (sent₀ : List ℕ) (from to : ℕ) where
+  pub framing-start : from ≤ to → (j : ℕ) → j ≡ elementAt mode at → Framing mode frame at sent₀ from to sent₀ from j
   framing-start l j e =
       let z : at ≡ at + (from - from) = omega arith in
-      record { putting = putting-start (codeLevel mode code at) sent₀ from to l; element = λ (g : from < to). e ∙ ap (elementAt mode) z }
+      record {
+        putting = putting-start (frameLevel mode frame at) sent₀ from to l;
+        element = λ (g : from < to). e ∙ ap (elementAt mode) z;
+      }
 
-  module _ (sent : List ℕ) (i j : ℕ) (p : Framing mode code at sent₀ from to sent i j) (g : i < to) where
+  module _ (sent : List ℕ) (i j : ℕ) (p : Framing mode frame at sent₀ from to sent i j) (g : i < to) where
     abbrev m : ℕ
     m = at + (i - from)
 
-    pub element-few : j < 16
-    element-few = let s = short mode code h .longest in let low = p .putting .low in rw (p .element g) (framed .few m (omega arith))
+    pub element-few : Framed mode → at + (to - from) ≤ longest mode → j < 16
+    element-few framed fits = let low = p .putting .low in rw (p .element g) (framed .few m (omega arith))
 
-    module _ (last : ℕ) (r : Run (frameOf mode code) j last) where
+    module _ (last : ℕ) (r : Run frame j last) where
       ends-later : m < elementEnd mode last
       ends-later = let q = p .element g in let low = r .low in element-before mode m last (omega arith)
 
@@ -232,7 +243,7 @@ module _ (mode : Mode) (framed : Framed mode) (code at : ℕ) (h : code < codes 
                 omega arith
             go false f = let x = ltb-false end to f in omega arith
 
-        even : (k : ℕ) → k < end - i → codeLevel mode code at (i - from + k) ≡ levelOf (frameOf mode code / 2 ^ j % 2)
+        even : (k : ℕ) → k < end - i → frameLevel mode frame at (i - from + k) ≡ levelOf (frame / 2 ^ j % 2)
         even k l =
             let z : at + (i - from + k) ≡ m + k = omega arith in
             let few = e .few in
@@ -242,15 +253,19 @@ module _ (mode : Mode) (framed : Framed mode) (code at : ℕ) (h : code < codes 
             let q = p .element g in
             let after = element-later mode m (m + k) (omega arith) in
             let before = element-within mode (m + k) last (omega arith) in
-            ap (λ (a : ℕ). getD (signal mode code) a 0) z ∙ framed .level code (m + k) h (omega arith) ∙ r .same (elementAt mode (m + k)) (omega arith) before
+            ap (λ (a : ℕ). levelOf (frame / 2 ^ elementAt mode a % 2)) z
+            ∙ r .same (elementAt mode (m + k)) (omega arith) before
 
-        pub framing-turn : (level : ℕ) → level ≡ levelOf (frameOf mode code / 2 ^ j % 2)
-            → (sent' : List ℕ) → sent' ≡ sets sent i (replicate (end - i) level) → Framing mode code at sent₀ from to sent' end (last + 1)
+        pub framing-turn : (level : ℕ) → level ≡ levelOf (frame / 2 ^ j % 2)
+            → (sent' : List ℕ) → sent' ≡ sets sent i (replicate (end - i) level)
+            → Framing mode frame at sent₀ from to sent' end (last + 1)
         framing-turn level el sent' es =
             let further = framing-further in
             let some = element-some in
             record {
-              putting = putting-turn (codeLevel mode code at) sent₀ from to sent i (p .putting) end level (omega arith) (e .high) (λ (k : ℕ) (l : k < end - i). even k l ∙ sym el) sent' es;
+              putting =
+                  putting-turn (frameLevel mode frame at) sent₀ from to sent i (p .putting) end level (omega arith)
+                  (e .high) (λ (k : ℕ) (l : k < end - i). even k l ∙ sym el) sent' es;
               element = λ (l : end < to).
                   let x = e .full l in
                   let z : elementEnd mode last ≡ at + (end - from) = omega arith in

@@ -12,7 +12,7 @@ use Rattle.reader.specs.Reader.{reader}
 use Rattle.half_duplex.specs.declared.Core.{Core}
 use Rattle.burst.specs.declared.OnLine.{OnLine}
 use Rattle.burst.specs.declared.Loaded.{Loaded}
-use Rattle.burst.specs.Rules.{freeMs, afterMs, isSilent}
+use Rattle.burst.specs.Rules.{freeMs, afterMs, mayEnd, isSilent}
 use Rattle.burst.specs.Line.{further, closed}
 use Rattle.half_duplex.specs.Core.{core, modeIn, silenceAfter, waitingAfter}
 
@@ -26,9 +26,9 @@ silenceNext silence heard = silenceAfter (isSilent false heard) silence
 abbrev pub silenceOver : ℕ → List ℕ → ℕ
 silenceOver silence heard = stateAfter silenceNext silence heard
 
--- A reader at rest: hunting, with no key heard and no quiet needed.
-unfoldable pub atRest : Reader → Bool
-atRest r =
+-- An idle reader: hunting, with no key heard and no quiet needed.
+unfoldable pub isIdle : Reader → Bool
+isIdle r =
     eqb (r .frame .place) 0 && eqb (r .frame .digits) 0 && eqb (r .keys .key) 0 && eqb (r .keys .ms) 0 && eqb (r .keys .needed) 0
 
 -- A reader after n inhibited ms.
@@ -52,7 +52,7 @@ sentFor c n =
     core (c .waiting)
     (silenceFor (c .silence) n)
     (burstLeft (c .inhibited) n)
-    (closed (modeIn c) (c .waiting) (further (c .line) n))
+    (closed (modeIn c) (mayEnd (c .waiting)) (further (c .line) n))
     (c .sender)
     (deafReader (c .reader) n)
     (c .mode)
