@@ -45,7 +45,8 @@ part-most mode l i =
     let q = preamble-480 mode in
     go (isCode l) (inBurst l) (omega arith) (omega arith)
   where
-    go : (a b : Bool) → length (signal mode (l .code .0)) ≤ 480 → length (preamble mode) ≤ 480 → length (cond a (signal mode (l .code .0)) (cond b (preamble mode) [])) ≤ 480
+    go : (a b : Bool) → length (signal mode (l .code .0)) ≤ 480 → length (preamble mode) ≤ 480
+        → length (cond a (signal mode (l .code .0)) (cond b (preamble mode) [])) ≤ 480
     go true b p q = p
     go false true p q = q
     go false false p q = omega arith

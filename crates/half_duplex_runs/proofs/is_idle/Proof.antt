@@ -34,8 +34,12 @@ unfolding isIdle
 returns-4 c =
     let third = c .before .before in
     let second = before-3 third in
-    rw (eq-eqb _ 0 (before-2 second .if1 .left), eq-eqb _ 0 (second .if2 .left), eq-eqb _ 0 (third .if3 .left),
-    ne-eqb _ 0 (c .if4 .taken)) refl
+    rw (
+      eq-eqb _ 0 (before-2 second .if1 .left),
+      eq-eqb _ 0 (second .if2 .left),
+      eq-eqb _ 0 (third .if3 .left),
+      ne-eqb _ 0 (c .if4 .taken),
+    ) refl
 
 returns-5 : tie.Need-returns-5
 unfolding isIdle
@@ -43,8 +47,12 @@ returns-5 c =
     let fourth = c .before in
     let third = before-4 fourth in
     let second = before-3 third in
-    rw (eq-eqb _ 0 (before-2 second .if1 .left), eq-eqb _ 0 (second .if2 .left), eq-eqb _ 0 (third .if3 .left),
-    eq-eqb _ 0 (fourth .if4 .left)) refl
+    rw (
+      eq-eqb _ 0 (before-2 second .if1 .left),
+      eq-eqb _ 0 (second .if2 .left),
+      eq-eqb _ 0 (third .if3 .left),
+      eq-eqb _ 0 (fourth .if4 .left),
+    ) refl
 
 pub is-idle-spec : {M : Type 1} → statement M
 is-idle-spec = tie.close (tie.spec returns returns-2 returns-3 returns-4 returns-5)

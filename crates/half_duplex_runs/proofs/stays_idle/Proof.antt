@@ -13,12 +13,14 @@ is-idle-requires c κs = search needs
 returns : tie.Need-returns
 returns c =
     let i = c .before .is-idle in
-    sym (ap (λ (b : Bool). b && eqb (c .before .before .args .bound) 0) (sym (i .ensures) ∙ not-true (i .result) (c .if1 .taken)))
+    sym (ap (λ (b : Bool). b && eqb (c .before .before .args .bound) 0)
+    (sym (i .ensures) ∙ not-true (i .result) (c .if1 .taken)))
 
 returns-2 : tie.Need-returns-2
 returns-2 c =
     let i = c .before .is-idle in
-    sym (ap (λ (b : Bool). b && eqb (c .before .before .args .bound) 0) (sym (i .ensures) ∙ not-false (i .result) (c .if1 .left)))
+    sym (ap (λ (b : Bool). b && eqb (c .before .before .args .bound) 0)
+    (sym (i .ensures) ∙ not-false (i .result) (c .if1 .left)))
 
 pub stays-idle-spec : {M : Type 1} → statement M
 stays-idle-spec = tie.close (tie.spec is-idle-requires returns returns-2)

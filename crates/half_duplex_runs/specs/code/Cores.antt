@@ -29,7 +29,8 @@ silenceOver silence heard = stateAfter silenceNext silence heard
 -- An idle reader: hunting, with no key heard and no quiet needed.
 unfoldable pub isIdle : Reader → Bool
 isIdle r =
-    eqb (r .frame .place) 0 && eqb (r .frame .digits) 0 && eqb (r .keys .key) 0 && eqb (r .keys .ms) 0 && eqb (r .keys .needed) 0
+    eqb (r .frame .place) 0 && eqb (r .frame .digits) 0
+    && eqb (r .keys .key) 0 && eqb (r .keys .ms) 0 && eqb (r .keys .needed) 0
 
 -- A reader after n inhibited ms.
 unfoldable pub deafReader : Reader → ℕ → Reader
@@ -60,11 +61,23 @@ sentFor c n =
 -- After whole codes: so many characters are taken, a sender, what is on the line, and the ms that went.
 unfoldable pub codedCore : Core → ℕ → Sender → OnLine → ℕ → Core
 codedCore c taken sender line n =
-    core (c .waiting - taken) (silenceFor (c .silence) n) (burstLeft (c .inhibited) n) line sender (deafReader (c .reader) n) (c .mode)
+    core (c .waiting - taken)
+    (silenceFor (c .silence) n)
+    (burstLeft (c .inhibited) n)
+    line
+    sender
+    (deafReader (c .reader) n)
+    (c .mode)
 
 unfoldable pub deafFor : Core → ℕ → Core
 deafFor c n =
-    core (c .waiting) (silenceFor (c .silence) n) (c .inhibited - n) (c .line) (c .sender) (deafReader (c .reader) n) (c .mode)
+    core (c .waiting)
+    (silenceFor (c .silence) n)
+    (c .inhibited - n)
+    (c .line)
+    (c .sender)
+    (deafReader (c .reader) n)
+    (c .mode)
 
 unfoldable pub listened : Core → ℕ → Reader → Core
 listened c silence r = core (c .waiting) silence (c .inhibited) (c .line) (c .sender) r (c .mode)

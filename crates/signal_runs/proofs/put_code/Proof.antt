@@ -76,18 +76,23 @@ returns c =
     let a = s .args in
     let n = a .to - a .from in
     c .before .before .put-frame .ensures
-    ∙ ap (λ (k : ℕ). sets (a .sent .now) (a .from) (tabulate (frameLevel (a .mode) k (a .at)) n 0)) (f .before .frame-of .ensures)
-    ∙ ap (sets (a .sent .now) (a .from)) (frame-levels (a .mode) (is-framed f) (a .code .0) (a .at) n (s .pre .0) (s .pre .1 .0))
+    ∙ ap (λ (k : ℕ). sets (a .sent .now) (a .from) (tabulate (frameLevel (a .mode) k (a .at)) n 0))
+    (f .before .frame-of .ensures)
+    ∙ ap (sets (a .sent .now) (a .from))
+    (frame-levels (a .mode) (is-framed f) (a .code .0) (a .at) n (s .pre .0) (s .pre .1 .0))
 
 put-keys-requires : tie.Need-put-keys-requires
 put-keys-requires c κs =
     let s = keys-start c in
     let a = s .args in
     let e = c .before .enum-told .given .1 in
-    let l = s .pre .1 .1 .0 in
-    (subst (λ (d : Mode). a .code .0 < codes (alphabetOf d)) e (s .pre .0),
-    (subst (λ (d : Mode). a .at + (a .to - a .from) ≤ length (signal d (a .code .0))) e (s .pre .1 .0),
-    (omega arith, s .pre .1 .1 .1)))
+    let l = s .pre .1 .1 .0 in (
+      subst (λ (d : Mode). a .code .0 < codes (alphabetOf d)) e (s .pre .0),
+      (
+        subst (λ (d : Mode). a .at + (a .to - a .from) ≤ length (signal d (a .code .0))) e (s .pre .1 .0),
+        (omega arith, s .pre .1 .1 .1),
+      ),
+    )
 
 same-length-2 : tie.Need-same-length-2
 same-length-2 c = search needs

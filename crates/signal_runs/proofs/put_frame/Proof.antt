@@ -35,14 +35,16 @@ up-to c = rw (c .before .element-end .ensures) at (c .up-to .ensures)
 further : (c : tie.After-up-to Inv-loop μ-loop) → turn (c .before) .before .loop .i < c .up-to .result
 further c =
     let t = turn (c .before) in
-    framing-further _ _ _ _ _ _ _ _ _ (t .before .loop .inv) (t .loop-test .taken) _ (c .before .before .run-end .ensures) _
-    (up-to c)
+    framing-further _ _ _ _ _ _ _ _ _ (t .before .loop .inv) (t .loop-test .taken) _
+    (c .before .before .run-end .ensures) _ (up-to c)
 
 element-at-requires : tie.Need-element-at-requires Inv-loop μ-loop
 element-at-requires c κs = let s = c .before in let f = s .pre .1 .0 in let l = s .pre .1 .1 .0 in omega arith
 
 loop-holds : tie.Need-loop-holds Inv-loop μ-loop
-loop-holds c = let l = c .before .before .pre .1 .1 .0 in framing-start _ _ _ _ _ _ (omega arith) _ (c .element-at .ensures)
+loop-holds c =
+    let l = c .before .before .pre .1 .1 .0 in
+    framing-start _ _ _ _ _ _ (omega arith) _ (c .element-at .ensures)
 
 cast-frame-level : tie.Need-cast-frame-level Inv-loop μ-loop
 cast-frame-level c = let h = few c in omega arith
@@ -60,7 +62,8 @@ sub-up-to : tie.Need-sub-up-to Inv-loop μ-loop
 sub-up-to c =
     let t = turn c in
     let e = c .element-end .ensures in
-    let h = element-some _ _ _ _ _ _ _ _ _ (t .before .loop .inv) (t .loop-test .taken) _ (c .before .run-end .ensures) in
+    let r = c .before .run-end .ensures in
+    let h = element-some _ _ _ _ _ _ _ _ _ (t .before .loop .inv) (t .loop-test .taken) _ r in
     omega arith
 
 up-to-requires : tie.Need-up-to-requires Inv-loop μ-loop
@@ -85,8 +88,9 @@ loop-again : tie.Need-loop-again Inv-loop μ-loop
 loop-again c =
     let u = end c in
     let t = turn (u .before) in
-    framing-turn _ _ _ _ _ _ _ _ _ (t .before .loop .inv) (t .loop-test .taken) _ (u .before .before .run-end .ensures) _
-    (up-to u) _ (u .before .before .before .frame-level .ensures) _ (c .before .before .fill .ensures)
+    let r = u .before .before in
+    framing-turn _ _ _ _ _ _ _ _ _ (t .before .loop .inv) (t .loop-test .taken) _ (r .run-end .ensures) _ (up-to u) _
+    (r .before .frame-level .ensures) _ (c .before .before .fill .ensures)
 
 same-length : tie.Need-same-length Inv-loop μ-loop
 same-length c = c .before .loop .inv .putting .size
