@@ -90,7 +90,9 @@ impl Mode {
     // Seven bits.
     pub const EDT_CODES: u16 = 128;
 
-    // The levels of Baudot and EDT: 0 quiet, 1 mark, 2 space.
+    // The levels of Baudot and EDT; 0 is quiet.
+    pub const MARK: u8 = 1;
+
     pub const SPACE: u8 = 2;
 
     // The mode of a number; mode 1 for a number that is no mode's.

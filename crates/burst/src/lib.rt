@@ -200,7 +200,7 @@ pub fn level_on(mode: Mode, l: OnLine) -> u8
         return 0;
     }
     if l.part == PREAMBLE {
-        return 1;
+        return Mode::MARK;
     }
     signal::level(mode, l.code, l.at)
 }

@@ -58,7 +58,8 @@ silence-shift s n h = go (ltb s 300) refl
   where
     go : (b : Bool) → ltb s 300 ≡ b → silenceFor (cond b (s + 1) s) n ≡ silenceFor s (n + 1)
     go true e = let z : s + 1 + n ≡ s + (n + 1) = omega arith in ap (λ (m : ℕ). cond (ltb m 300) m 300) z
-    go false e = let l = ltb-false s 300 e in silence-full s n (omega arith) ∙ sym (silence-full s (n + 1) (omega arith))
+    go false e =
+        let l = ltb-false s 300 e in silence-full s n (omega arith) ∙ sym (silence-full s (n + 1) (omega arith))
 
 -- all of them quiet
 pub over-quiet : (s : ℕ) (xs : List ℕ) → s ≤ 300 → allAtMost 0 xs ≡ true → silenceFor s (length xs) ≡ silenceOver s xs
@@ -68,13 +69,16 @@ over-quiet s (x ∷ xs) h e =
     let m = at-most-head 0 x xs e in
     let z : x ≡ 0 = omega arith in
     let n : length (x ∷ xs) ≡ length xs + 1 = omega arith in
-    ap (silenceFor s) n ∙ sym (silence-shift s (length xs) h) ∙ over-quiet (silenceAfter true s) xs (after-in true s h) (at-most-tail 0 x xs e)
+    ap (silenceFor s) n ∙ sym (silence-shift s (length xs) h)
+    ∙ over-quiet (silenceAfter true s) xs (after-in true s h) (at-most-tail 0 x xs e)
     ∙ sym (ap (λ (y : ℕ). silenceOver (silenceNext s y) xs) z)
 
 -- the last ms of a list
-over-last : (s : ℕ) (xs : List ℕ) (j : ℕ) → j < length xs → silenceOver s (take (suc j) xs) ≡ silenceNext (silenceOver s (take j xs)) (getD xs j 0)
+over-last : (s : ℕ) (xs : List ℕ) (j : ℕ) → j < length xs
+    → silenceOver s (take (suc j) xs) ≡ silenceNext (silenceOver s (take j xs)) (getD xs j 0)
 unfolding stateAfter
-over-last s xs j h = ap (silenceOver s) (take-suc xs j 0 h) ∙ after-append silenceNext (λ (t x : ℕ). t) s (take j xs) (getD xs j 0 ∷ [])
+over-last s xs j h =
+    ap (silenceOver s) (take-suc xs j 0 h) ∙ after-append silenceNext (λ (t x : ℕ). t) s (take j xs) (getD xs j 0 ∷ [])
 
 -- The n last ms of a list are quiet, and so many are left before them.
 pub record Tail (heard : List ℕ) (silence left n : ℕ) : Type 0 where
@@ -87,14 +91,18 @@ module _ (heard : List ℕ) (silence : ℕ) (h : silence ≤ 300) where
   tail-start = record {
     all = omega arith;
     few = omega arith;
-    silent = silence-none (silenceOver silence (take (length heard) heard)) (over-in silence (take (length heard) heard) h) ∙ ap (silenceOver silence) (take-all (length heard) heard (omega arith));
+    silent =
+        silence-none (silenceOver silence (take (length heard) heard)) (over-in silence (take (length heard) heard) h)
+        ∙ ap (silenceOver silence) (take-all (length heard) heard (omega arith));
   }
 
   module _ (left n : ℕ) (t : Tail heard silence left n) where
     pub tail-free : n ≡ 300 → 300 ≡ silenceOver silence heard
     tail-free e = sym (silence-full (silenceOver silence (take left heard)) n (omega arith)) ∙ t .silent
 
-    tail-last : 0 < left → silenceOver silence (take left heard) ≡ silenceNext (silenceOver silence (take (left - 1) heard)) (getD heard (left - 1) 0)
+    tail-last : 0 < left
+        → silenceOver silence (take left heard) ≡ silenceNext (silenceOver silence (take (left - 1) heard))
+        (getD heard (left - 1) 0)
     tail-last o =
         let a = t .all in
         let e : left ≡ suc (left - 1) = omega arith in
@@ -104,7 +112,8 @@ module _ (heard : List ℕ) (silence : ℕ) (h : silence ≤ 300) where
     unfolding silenceAfter
     tail-signal o f g =
         let few = t .few in
-        let z : silenceOver silence (take left heard) ≡ 0 = tail-last o ∙ (rw (ne-eqb (getD heard (left - 1) 0) 0 g) refl) in
+        let z : silenceOver silence (take left heard) ≡ 0 =
+        tail-last o ∙ (rw (ne-eqb (getD heard (left - 1) 0) 0 g) refl) in
         let s = silence-sum 0 n (omega arith) in
         (omega arith) ∙ sym s ∙ sym (ap (λ (m : ℕ). silenceFor m n) z) ∙ t .silent
 
@@ -117,12 +126,16 @@ module _ (heard : List ℕ) (silence : ℕ) (h : silence ≤ 300) where
         record {
           all = omega arith;
           few = omega arith;
-          silent = sym (silence-shift u n (over-in silence (take (left - 1) heard) h)) ∙ sym (ap (λ (m : ℕ). silenceFor m n) z) ∙ t .silent;
+          silent =
+              sym (silence-shift u n (over-in silence (take (left - 1) heard) h))
+              ∙ sym (ap (λ (m : ℕ). silenceFor m n) z) ∙ t .silent;
         }
 
     pub tail-end : left ≤ 0 → silenceFor silence n ≡ silenceOver silence heard
     unfolding stateAfter
-    tail-end o = let e : left ≡ 0 = omega arith in sym (ap (λ (m : ℕ). silenceFor (silenceOver silence (take m heard)) n) e) ∙ t .silent
+    tail-end o =
+        let e : left ≡ 0 = omega arith in
+        sym (ap (λ (m : ℕ). silenceFor (silenceOver silence (take m heard)) n) e) ∙ t .silent
 
 -- no burst may begin while characters wait: the line is not free
 pub not-free : (waiting silence : ℕ) → mayBegin waiting silence ≡ false → (waiting ≡ 0 → ⊥) → silence < 300
@@ -132,21 +145,25 @@ not-free waiting silence e n = go (ltb silence 300) refl
     go : (b : Bool) → ltb silence 300 ≡ b → silence < 300
     go true f = ltb-true silence 300 f
     go false f =
-        let z : _≡_ {A = Bool} true false = sym (rw (lt-ltb 0 waiting (omega arith), le-leb 300 silence (ltb-false silence 300 f)) refl) ∙ e in
+        let z : _≡_ {A = Bool} true false =
+        sym (rw (lt-ltb 0 waiting (omega arith), le-leb 300 silence (ltb-false silence 300 f)) refl) ∙ e in
         let y : _≡_ {A = ℕ} 0 1 = cc in
         absurd (omega arith)
 
 -- in no burst, and none may begin
-pub sends-not : (c : Core) → (inBurst (c .line) || mayBegin (c .waiting) (c .silence)) ≡ false → (c .line .part ≡ 0) × (mayBegin (c .waiting) (c .silence) ≡ false)
+pub sends-not : (c : Core) → (inBurst (c .line) || mayBegin (c .waiting) (c .silence)) ≡ false
+    → (c .line .part ≡ 0) × (mayBegin (c .waiting) (c .silence) ≡ false)
 sends-not c = go (eqb (c .line .part) 0) refl
   where
-    go : (b : Bool) → eqb (c .line .part) 0 ≡ b → (not b || mayBegin (c .waiting) (c .silence)) ≡ false → (c .line .part ≡ 0) × (mayBegin (c .waiting) (c .silence) ≡ false)
+    go : (b : Bool) → eqb (c .line .part) 0 ≡ b → (not b || mayBegin (c .waiting) (c .silence)) ≡ false
+        → (c .line .part ≡ 0) × (mayBegin (c .waiting) (c .silence) ≡ false)
     go true e f = (eqb-true (c .line .part) 0 e, f)
     go false e f = absurd (false≢true (sym f))
 
 -- ---- readers
 
-pub deaf-some : (r : Reader) (n : ℕ) → 1 ≤ n → reader hunting (needs (r .keys .needed - n)) (r .shift) (r .prefix) ≡ deafReader r n
+pub deaf-some : (r : Reader) (n : ℕ) → 1 ≤ n
+    → reader hunting (needs (r .keys .needed - n)) (r .shift) (r .prefix) ≡ deafReader r n
 unfolding deafReader
 deaf-some r zero h = absurd (omega arith)
 deaf-some r (suc n) h = refl

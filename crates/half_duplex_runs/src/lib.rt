@@ -1,9 +1,10 @@
 // Cores after some ms that go alike.
 use baudot::Sender;
-use frames::Frame;
-use half_duplex::Core;
 use burst::Loaded;
 use burst::OnLine;
+use burst::rules;
+use frames::Frame;
+use half_duplex::Core;
 use keys::Keys;
 use reader::Reader;
 ghost use mathlib.Core.Path.{_≡_};
@@ -11,25 +12,28 @@ ghost use mathlib.Core.Bool.{true, _&&_};
 ghost use Prim.Native.Nat.{_+_, _-_, _≤_};
 ghost use lib.Dec.{eqb};
 ghost use Rattle.lists.specs.Lists.{allAtMost};
-ghost use Rattle.burst.specs.Line.{onLine, isOver};
+ghost use Rattle.alphabet.specs.declared.Mode.the-variants as mode;
+ghost use Rattle.alphabet.specs.code.Numbers.{longest};
+ghost use Rattle.burst.specs.Rules.{freeMs};
+ghost use Rattle.burst.specs.Line.{further, isOver};
 ghost use Rattle.half_duplex.specs.Core.{modeIn};
-ghost use Rattle.half_duplex_runs.specs.code.Cores.{silenceFor, silenceOver, atRest, deafReader, loadedCore, sentFor, codedCore, deafFor, listened};
+ghost use Rattle.half_duplex_runs.specs.code.Cores.{silenceFor, silenceOver, isIdle, deafReader, loadedCore, sentFor, codedCore, deafFor, listened};
 
 // The silence after n ms without signal.
 pub fn silence_for(silence: u16, n: usize) -> u16
-    requires { ⌜ silence ≤ 300 ⌝ }
+    requires { ⌜ silence ≤ freeMs ⌝ }
     ensures { λ r. ⌜ r ≡ silenceFor silence n ⌝ }
 {
-    if burst::rules::FREE as usize - silence as usize <= n {
-        return burst::rules::FREE;
+    if rules::FREE as usize - silence as usize <= n {
+        return rules::FREE;
     }
     silence + n as u16
 }
 
-// The silence after some ms that the receiver hears: the quiet ms at their end, and the silence before if all are quiet. None is above
-// the bound.
+// The silence after some ms that the receiver hears: the quiet ms at their end, and the silence before if all are quiet.
+// None is above the bound.
 pub fn silence_over(silence: u16, heard: &[u8], bound: u8) -> u16
-    requires { ⌜ silence ≤ 300 ⌝ }
+    requires { ⌜ silence ≤ freeMs ⌝ }
     requires { ⌜ allAtMost bound (now heard) ≡ true ⌝ }
     ensures { λ r. ⌜ r ≡ silenceOver silence (now (heard .entry)) ⌝ }
 {
@@ -39,8 +43,8 @@ pub fn silence_over(silence: u16, heard: &[u8], bound: u8) -> u16
     let mut left = heard.len();
     let mut n: usize = 0;
     while 0 < left {
-        if n == burst::rules::FREE as usize {
-            return burst::rules::FREE;
+        if n == rules::FREE as usize {
+            return rules::FREE;
         }
         left -= 1;
         if heard[left] != 0 {
@@ -51,9 +55,9 @@ pub fn silence_over(silence: u16, heard: &[u8], bound: u8) -> u16
     silence_for(silence, n)
 }
 
-// Is a reader at rest?
-fn at_rest(r: Reader) -> bool
-    ensures { λ q. ⌜ q ≡ atRest r ⌝ }
+// Is a reader idle?
+fn is_idle(r: Reader) -> bool
+    ensures { λ q. ⌜ q ≡ isIdle r ⌝ }
 {
     let f = r.frame;
     if f.place != 0 {
@@ -72,11 +76,11 @@ fn at_rest(r: Reader) -> bool
     k.needed == 0
 }
 
-// Does a reader at rest hear quiet ms alone, where none is above the bound?
-pub fn rests(r: Reader, bound: u8) -> bool
-    ensures { λ q. ⌜ q ≡ (atRest r && eqb bound 0) ⌝ }
+// Does an idle reader hear quiet ms alone, where none is above the bound? Then it stays as it is.
+pub fn stays_idle(r: Reader, bound: u8) -> bool
+    ensures { λ q. ⌜ q ≡ (isIdle r && eqb bound 0) ⌝ }
 {
-    if !at_rest(r) {
+    if !is_idle(r) {
         return false;
     }
     bound == 0
@@ -108,20 +112,18 @@ fn deaf_reader(r: Reader, n: usize) -> Reader
             ms: 0,
             needed: needed_for(k.needed, n),
         },
-        shift: r.shift,
-        prefix: r.prefix,
+        ..r
     }
 }
 
-// What is on the line, n ms further.
+// What is on the line, n ms further. No part is longer than the longest DTMF code.
 fn further(l: OnLine, n: usize) -> OnLine
-    requires { ⌜ l .at + n ≤ 480 ⌝ }
-    ensures { λ r. ⌜ r ≡ record { at = l .at + n; part = l .part; code = l .code } ⌝ }
+    requires { ⌜ l .at + n ≤ longest mode.Dtmf ⌝ }
+    ensures { λ r. ⌜ r ≡ further l n ⌝ }
 {
     OnLine {
         at: l.at + n as u16,
-        part: l.part,
-        code: l.code,
+        ..l
     }
 }
 
@@ -131,38 +133,31 @@ pub fn loaded(c: Core, l: Loaded) -> Core
 {
     let line = l.line;
     let sender = l.sender;
-    let reader = c.reader;
     Core {
         waiting: half_duplex::waiting_after(l.takes, c.waiting),
-        silence: c.silence,
-        inhibited: c.inhibited,
         line,
         sender,
-        reader,
-        mode: c.mode,
+        ..c
     }
 }
 
 // A core after n ms of a part, which is over or not.
 pub fn sent_for(c: Core, n: usize, over: bool) -> Core
     requires { ⌜ 1 ≤ n ⌝ }
-    requires { ⌜ over ≡ isOver (modeIn c) (onLine (c .line .part) (c .line .code) (c .line .at + n)) ⌝ }
-    requires { ⌜ c .silence ≤ 300 ⌝ }
-    requires { ⌜ c .line .at + n ≤ 480 ⌝ }
+    requires { ⌜ over ≡ isOver (modeIn c) (further (c .line) n) ⌝ }
+    requires { ⌜ c .silence ≤ freeMs ⌝ }
+    requires { ⌜ c .line .at + n ≤ longest mode.Dtmf ⌝ }
     ensures { λ r. ⌜ r ≡ sentFor c n ⌝ }
 {
     let before = c.line;
     let line = further(before, n);
-    let sender = c.sender;
     let reader = c.reader;
     Core {
-        waiting: c.waiting,
         silence: silence_for(c.silence, n),
-        inhibited: burst::rules::INHIBITED,
-        line: burst::ended(over, c.waiting, line),
-        sender,
+        inhibited: rules::INHIBITED,
+        line: burst::ended(over, rules::may_end(c.waiting), line),
         reader: deaf_reader(reader, n),
-        mode: c.mode,
+        ..c
     }
 }
 
@@ -170,11 +165,11 @@ pub fn sent_for(c: Core, n: usize, over: bool) -> Core
 pub fn coded(c: Core, taken: usize, sender: Sender, line: OnLine, n: usize) -> Core
     requires { ⌜ 1 ≤ n ⌝ }
     requires { ⌜ taken ≤ c .waiting ⌝ }
-    requires { ⌜ c .silence ≤ 300 ⌝ }
+    requires { ⌜ c .silence ≤ freeMs ⌝ }
     ensures { λ r. ⌜ r ≡ codedCore c taken sender line n ⌝ }
 {
     let reader = c.reader;
-    let inhibited = burst::rules::INHIBITED;
+    let inhibited = rules::INHIBITED;
     Core {
         waiting: c.waiting - taken as u16,
         silence: silence_for(c.silence, n),
@@ -182,7 +177,7 @@ pub fn coded(c: Core, taken: usize, sender: Sender, line: OnLine, n: usize) -> C
         line,
         sender,
         reader: deaf_reader(reader, n),
-        mode: c.mode,
+        ..c
     }
 }
 
@@ -190,20 +185,15 @@ pub fn coded(c: Core, taken: usize, sender: Sender, line: OnLine, n: usize) -> C
 pub fn deaf_for(c: Core, n: usize) -> Core
     requires { ⌜ 1 ≤ n ⌝ }
     requires { ⌜ n ≤ c .inhibited ⌝ }
-    requires { ⌜ c .silence ≤ 300 ⌝ }
+    requires { ⌜ c .silence ≤ freeMs ⌝ }
     ensures { λ r. ⌜ r ≡ deafFor c n ⌝ }
 {
-    let line = c.line;
-    let sender = c.sender;
     let reader = c.reader;
     Core {
-        waiting: c.waiting,
         silence: silence_for(c.silence, n),
         inhibited: c.inhibited - n as u16,
-        line,
-        sender,
         reader: deaf_reader(reader, n),
-        mode: c.mode,
+        ..c
     }
 }
 
@@ -211,15 +201,9 @@ pub fn deaf_for(c: Core, n: usize) -> Core
 pub fn listened(c: Core, silence: u16, reader: Reader) -> Core
     ensures { λ r. ⌜ r ≡ listened c silence reader ⌝ }
 {
-    let line = c.line;
-    let sender = c.sender;
     Core {
-        waiting: c.waiting,
         silence,
-        inhibited: c.inhibited,
-        line,
-        sender,
         reader,
-        mode: c.mode,
+        ..c
     }
 }

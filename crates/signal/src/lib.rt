@@ -18,9 +18,9 @@ pub fn frame_level(frame: u16, element: u16) -> u8
 {
     let bit = (frame >> element) % 2;
     if bit == 1 {
-        return 1;
+        return Mode::MARK;
     }
-    2
+    Mode::SPACE
 }
 
 // The digits of a Baudot frame: start 0, the five of the code, stop 1.

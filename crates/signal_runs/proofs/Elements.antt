@@ -23,7 +23,7 @@ use Rattle.burst.specs.declared.OnLine.{OnLine}
 use Rattle.burst.specs.Line.{further, inBurst, partMs}
 use Rattle.burst.proofs.Laws.{level-preamble, level-code}
 use Rattle.lists.specs.code.Places.{UpTo}
-use Rattle.signal_runs.specs.code.Levels.{codeLevel, partLevel, evenMs, elementAt, elementEnd, frameOf, Run, Framed}
+use Rattle.signal_runs.specs.code.Levels.{codeLevel, partLevel, evenMs, elementAt, elementEnd, frameOf, frameLevel, Run, Framed}
 use Rattle.signal_runs.proofs.Parts.{few-codes, longest-480}
 use Rattle.signal_runs.proofs.Filling.{part-behind, Writing, writing-start, level-fits, level-written, writing-end}
 
@@ -41,11 +41,13 @@ pub even-same : (k at j : ℕ) → j < evenMs at → codeLevel Dtmf k at j ≡ g
 unfolding evenMs signal
 even-same k at j = go (ltb (at % 120) 70) refl
   where
-    go : (b : Bool) → ltb (at % 120) 70 ≡ b → j < cond b (70 - at % 120) (120 - at % 120) → codeLevel Dtmf k at j ≡ getD (signal Dtmf k) at 0
+    go : (b : Bool) → ltb (at % 120) 70 ≡ b → j < cond b (70 - at % 120) (120 - at % 120)
+        → codeLevel Dtmf k at j ≡ getD (signal Dtmf k) at 0
     go true e m =
         let o = ltb-true (at % 120) 70 e in
         let q : (at + j) / 120 ≡ at / 120 = omega arith in
-        keys-on (keysOf k) (at + j) (omega arith) ∙ ap (λ (i : ℕ). getD (keysOf k) i 0) q ∙ sym (keys-on (keysOf k) at o)
+        keys-on (keysOf k) (at + j) (omega arith) ∙ ap (λ (i : ℕ). getD (keysOf k) i 0) q
+        ∙ sym (keys-on (keysOf k) at o)
     go false e m =
         let o = ltb-false (at % 120) 70 e in
         keys-off (keysOf k) (at + j) (omega arith) ∙ sym (keys-off (keysOf k) at o)
@@ -55,14 +57,18 @@ even-same k at j = go (ltb (at % 120) 70) refl
 pub framed-45 : Framed Baudot45
 unfolding signal frameOf elementAt
 framed-45 = record {
-  level = λ (k m : ℕ) (h : k < 32) (l : m < length (signal Baudot45 k)). let n = baudot-165 k in baudot-at 22 165 test-22 k h m (omega arith);
+  level = λ (k m : ℕ) (h : k < 32) (l : m < length (signal Baudot45 k)).
+      let n = baudot-165 k in
+      baudot-at 22 165 test-22 k h m (omega arith);
   few = λ (m : ℕ) (h : m < 165). omega arith;
 }
 
 pub framed-50 : Framed Baudot50
 unfolding signal frameOf elementAt
 framed-50 = record {
-  level = λ (k m : ℕ) (h : k < 32) (l : m < length (signal Baudot50 k)). let n = baudot-150 k in baudot-at 20 150 test-20 k h m (omega arith);
+  level = λ (k m : ℕ) (h : k < 32) (l : m < length (signal Baudot50 k)).
+      let n = baudot-150 k in
+      baudot-at 20 150 test-20 k h m (omega arith);
   few = λ (m : ℕ) (h : m < 150). omega arith;
 }
 
@@ -105,7 +111,8 @@ element-later Edt m k h = omega arith
 
 -- ---- the loop that writes them
 
-tabulate-run : (f : ℕ → ℕ) (n m a level : ℕ) → ((k : ℕ) → k < n → f (a + k) ≡ level) → tabulate f (n + m) a ≡ replicate n level ++ tabulate f m (a + n)
+tabulate-run : (f : ℕ → ℕ) (n m a level : ℕ) → ((k : ℕ) → k < n → f (a + k) ≡ level)
+    → tabulate f (n + m) a ≡ replicate n level ++ tabulate f m (a + n)
 unfolding tabulate
 tabulate-run f zero m a level h =
     let z : 0 + m ≡ m = omega arith in
@@ -114,8 +121,11 @@ tabulate-run f (suc n) m a level h =
     let z : suc n + m ≡ suc (n + m) = omega arith in
     let y : suc a + n ≡ a + suc n = omega arith in
     let o : f a ≡ level = ap f (sym (add-zero a)) ∙ h 0 (omega arith) in
-    let rest = tabulate-run f n m (suc a) level (λ (k : ℕ) (g : k < n). let w : suc a + k ≡ a + suc k = omega arith in ap f w ∙ h (suc k) (omega arith)) in
-    ap (λ (i : ℕ). tabulate f i a) z ∙ (λ j. o j ∷ rest j) ∙ ap (λ (i : ℕ). level ∷ (replicate n level ++ tabulate f m i)) y
+    let rest =
+    tabulate-run f n m (suc a) level
+    (λ (k : ℕ) (g : k < n). let w : suc a + k ≡ a + suc k = omega arith in ap f w ∙ h (suc k) (omega arith)) in
+    ap (λ (i : ℕ). tabulate f i a) z ∙ (λ j. o j ∷ rest j)
+    ∙ ap (λ (i : ℕ). level ∷ (replicate n level ++ tabulate f m i)) y
 
 -- From a place on, the levels f are written; at the place i this is left.
 pub record Putting (f : ℕ → ℕ) (sent₀ : List ℕ) (from to : ℕ) (sent : List ℕ) (i : ℕ) : Type 0 where
@@ -128,7 +138,12 @@ module _ (f : ℕ → ℕ) (sent₀ : List ℕ) (from to : ℕ) where
   pub putting-start : from ≤ to → Putting f sent₀ from to sent₀ from
   putting-start h =
       let z : from - from ≡ 0 = omega arith in
-      record { size = refl; low = omega arith; high = h; slice = ap (λ (a : ℕ). sets sent₀ from (tabulate f (to - from) a)) z }
+      record {
+        size = refl;
+        low = omega arith;
+        high = h;
+        slice = ap (λ (a : ℕ). sets sent₀ from (tabulate f (to - from) a)) z;
+      }
 
   module _ (sent : List ℕ) (i : ℕ) (p : Putting f sent₀ from to sent i) where
     pub putting-turn : (end level : ℕ) → i ≤ end → end ≤ to → ((k : ℕ) → k < end - i → f (i - from + k) ≡ level)
@@ -142,7 +157,8 @@ module _ (f : ℕ → ℕ) (sent₀ : List ℕ) (from to : ℕ) where
         let w = length-replicate (end - i) level in
         let z : i + length run ≡ end = omega arith in
         let t : tabulate f (to - i) (i - from) ≡ run ++ rest =
-        ap (λ (q : ℕ). tabulate f q (i - from)) n ∙ tabulate-run f (end - i) (to - end) (i - from) level h ∙ ap (λ (q : ℕ). run ++ tabulate f (to - end) q) a in
+        ap (λ (q : ℕ). tabulate f q (i - from)) n ∙ tabulate-run f (end - i) (to - end) (i - from) level h
+        ∙ ap (λ (q : ℕ). run ++ tabulate f (to - end) q) a in
         record {
           size = ap length e ∙ length-sets sent i run ∙ p .size;
           low = omega arith;
@@ -152,7 +168,9 @@ module _ (f : ℕ → ℕ) (sent₀ : List ℕ) (from to : ℕ) where
 
     pub putting-end : to ≤ i → sent ≡ sets sent₀ from (tabulate f (to - from) 0)
     unfolding tabulate
-    putting-end h = let z : to - i ≡ 0 = omega arith in sym (ap (λ (q : ℕ). sets sent i (tabulate f q (i - from))) z) ∙ p .slice
+    putting-end h =
+        let z : to - i ≡ 0 = omega arith in
+        sym (ap (λ (q : ℕ). sets sent i (tabulate f q (i - from))) z) ∙ p .slice
 
 -- ---- parts
 
@@ -173,10 +191,13 @@ module _ (mode : Mode) (l : OnLine) (n : ℕ) (h : l .at + n ≤ length (partMs 
   pub preamble-levels : l .part ≡ 1 → replicate n 1 ≡ tabulate (partLevel mode l) n 0
   unfolding partMs
   preamble-levels e =
-      sym (tabulate-as (partLevel mode l) (λ (k : ℕ). 1) n 0 (λ (k : ℕ) (g : k < 0 + n). level-preamble mode (further l k) e (omega arith)) ∙ level-same n 0 1)
+      sym (tabulate-as (partLevel mode l) (λ (k : ℕ). 1) n 0
+      (λ (k : ℕ) (g : k < 0 + n). level-preamble mode (further l k) e (omega arith)) ∙ level-same n 0 1)
 
-  pub code-levels : l .part ≡ 2 → tabulate (codeLevel mode (l .code) (l .at)) n 0 ≡ tabulate (partLevel mode l) n 0
-  code-levels e = sym (tabulate-as (partLevel mode l) (codeLevel mode (l .code) (l .at)) n 0 (λ (k : ℕ) (g : k < 0 + n). level-code mode (further l k) e))
+  pub code-levels : l .part ≡ 2 → tabulate (codeLevel mode (l .code .0) (l .at)) n 0 ≡ tabulate (partLevel mode l) n 0
+  code-levels e =
+      sym (tabulate-as (partLevel mode l) (codeLevel mode (l .code .0) (l .at)) n 0
+      (λ (k : ℕ) (g : k < 0 + n). level-code mode (further l k) e))
 
 -- no code is longer than four keys
 pub record Short (mode : Mode) (k : ℕ) : Type 0 where
@@ -196,24 +217,35 @@ code-part l h b n = let z = eqb-false (l .part) 0 (not-true (eqb (l .part) 0) b)
 
 -- ---- the loop that writes a frame: what is left, and the element of the next ms
 
-pub record Framing (mode : Mode) (code at : ℕ) (sent₀ : List ℕ) (from to : ℕ) (sent : List ℕ) (i j : ℕ) : Type 0 where
-  pub putting : Putting (codeLevel mode code at) sent₀ from to sent i
+pub record Framing (mode : Mode) (frame at : ℕ) (sent₀ : List ℕ) (from to : ℕ) (sent : List ℕ) (i j : ℕ) : Type 0 where
+  pub putting : Putting (frameLevel mode frame at) sent₀ from to sent i
   pub element : i < to → j ≡ elementAt mode (at + (i - from))
 
-module _ (mode : Mode) (framed : Framed mode) (code at : ℕ) (h : code < codes (alphabetOf mode)) (sent₀ : List ℕ) (from to : ℕ) (fits : at + (to - from) ≤ length (signal mode code)) where
-  pub framing-start : from ≤ to → (j : ℕ) → j ≡ elementAt mode at → Framing mode code at sent₀ from to sent₀ from j
+-- in a frame's levels, those of a code
+pub frame-levels : (mode : Mode) → Framed mode → (code at n : ℕ) → code < codes (alphabetOf mode)
+    → at + n ≤ length (signal mode code)
+    → tabulate (frameLevel mode (frameOf mode code) at) n 0 ≡ tabulate (codeLevel mode code at) n 0
+frame-levels mode framed code at n h fits =
+    tabulate-as (frameLevel mode (frameOf mode code) at) (codeLevel mode code at) n 0
+    (λ (k : ℕ) (g : k < 0 + n). sym (framed .level code (at + k) h (omega arith)))
+
+module _ (mode : Mode) (frame at : ℕ) (sent₀ : List ℕ) (from to : ℕ) where
+  pub framing-start : from ≤ to → (j : ℕ) → j ≡ elementAt mode at → Framing mode frame at sent₀ from to sent₀ from j
   framing-start l j e =
       let z : at ≡ at + (from - from) = omega arith in
-      record { putting = putting-start (codeLevel mode code at) sent₀ from to l; element = λ (g : from < to). e ∙ ap (elementAt mode) z }
+      record {
+        putting = putting-start (frameLevel mode frame at) sent₀ from to l;
+        element = λ (g : from < to). e ∙ ap (elementAt mode) z;
+      }
 
-  module _ (sent : List ℕ) (i j : ℕ) (p : Framing mode code at sent₀ from to sent i j) (g : i < to) where
+  module _ (sent : List ℕ) (i j : ℕ) (p : Framing mode frame at sent₀ from to sent i j) (g : i < to) where
     abbrev m : ℕ
     m = at + (i - from)
 
-    pub element-few : j < 16
-    element-few = let s = short mode code h .longest in let low = p .putting .low in rw (p .element g) (framed .few m (omega arith))
+    pub element-few : Framed mode → at + (to - from) ≤ longest mode → j < 16
+    element-few framed fits = let low = p .putting .low in rw (p .element g) (framed .few m (omega arith))
 
-    module _ (last : ℕ) (r : Run (frameOf mode code) j last) where
+    module _ (last : ℕ) (r : Run frame j last) where
       ends-later : m < elementEnd mode last
       ends-later = let q = p .element g in let low = r .low in element-before mode m last (omega arith)
 
@@ -232,7 +264,7 @@ module _ (mode : Mode) (framed : Framed mode) (code at : ℕ) (h : code < codes 
                 omega arith
             go false f = let x = ltb-false end to f in omega arith
 
-        even : (k : ℕ) → k < end - i → codeLevel mode code at (i - from + k) ≡ levelOf (frameOf mode code / 2 ^ j % 2)
+        even : (k : ℕ) → k < end - i → frameLevel mode frame at (i - from + k) ≡ levelOf (frame / 2 ^ j % 2)
         even k l =
             let z : at + (i - from + k) ≡ m + k = omega arith in
             let few = e .few in
@@ -242,15 +274,19 @@ module _ (mode : Mode) (framed : Framed mode) (code at : ℕ) (h : code < codes 
             let q = p .element g in
             let after = element-later mode m (m + k) (omega arith) in
             let before = element-within mode (m + k) last (omega arith) in
-            ap (λ (a : ℕ). getD (signal mode code) a 0) z ∙ framed .level code (m + k) h (omega arith) ∙ r .same (elementAt mode (m + k)) (omega arith) before
+            ap (λ (a : ℕ). levelOf (frame / 2 ^ elementAt mode a % 2)) z
+            ∙ r .same (elementAt mode (m + k)) (omega arith) before
 
-        pub framing-turn : (level : ℕ) → level ≡ levelOf (frameOf mode code / 2 ^ j % 2)
-            → (sent' : List ℕ) → sent' ≡ sets sent i (replicate (end - i) level) → Framing mode code at sent₀ from to sent' end (last + 1)
+        pub framing-turn : (level : ℕ) → level ≡ levelOf (frame / 2 ^ j % 2)
+            → (sent' : List ℕ) → sent' ≡ sets sent i (replicate (end - i) level)
+            → Framing mode frame at sent₀ from to sent' end (last + 1)
         framing-turn level el sent' es =
             let further = framing-further in
             let some = element-some in
             record {
-              putting = putting-turn (codeLevel mode code at) sent₀ from to sent i (p .putting) end level (omega arith) (e .high) (λ (k : ℕ) (l : k < end - i). even k l ∙ sym el) sent' es;
+              putting =
+                  putting-turn (frameLevel mode frame at) sent₀ from to sent i (p .putting) end level (omega arith)
+                  (e .high) (λ (k : ℕ) (l : k < end - i). even k l ∙ sym el) sent' es;
               element = λ (l : end < to).
                   let x = e .full l in
                   let z : elementEnd mode last ≡ at + (end - from) = omega arith in
@@ -264,24 +300,32 @@ module _ (frame j k : ℕ) where
   run-start h e = record {
     low = omega arith;
     high = omega arith;
-    same = λ (n : ℕ) (a : j ≤ n) (b : n ≤ k). let z : n ≡ j = omega arith in ap (λ (q : ℕ). levelOf (frame / 2 ^ q % 2)) z;
+    same = λ (n : ℕ) (a : j ≤ n) (b : n ≤ k).
+        let z : n ≡ j = omega arith in
+        ap (λ (q : ℕ). levelOf (frame / 2 ^ q % 2)) z;
   }
 
-  pub run-turn : Run frame j k → k < 15 → levelOf (frame / 2 ^ (k + 1) % 2) ≡ levelOf (frame / 2 ^ j % 2) → Run frame j (k + 1)
+  pub run-turn : Run frame j k → k < 15 → levelOf (frame / 2 ^ (k + 1) % 2) ≡ levelOf (frame / 2 ^ j % 2)
+      → Run frame j (k + 1)
   run-turn r h e = record {
     low = let low = r .low in omega arith;
     high = omega arith;
     same = λ (n : ℕ) (a : j ≤ n) (b : n ≤ k + 1). go n a b (ltb n (k + 1)) refl;
   }
     where
-      go : (n : ℕ) → j ≤ n → n ≤ k + 1 → (b : Bool) → ltb n (k + 1) ≡ b → levelOf (frame / 2 ^ n % 2) ≡ levelOf (frame / 2 ^ j % 2)
+      go : (n : ℕ) → j ≤ n → n ≤ k + 1 → (b : Bool) → ltb n (k + 1) ≡ b
+          → levelOf (frame / 2 ^ n % 2) ≡ levelOf (frame / 2 ^ j % 2)
       go n a b true f = let l = ltb-true n (k + 1) f in r .same n a (omega arith)
-      go n a b false f = let l = ltb-false n (k + 1) f in let z : n ≡ k + 1 = omega arith in ap (λ (q : ℕ). levelOf (frame / 2 ^ q % 2)) z ∙ e
+      go n a b false f =
+          let l = ltb-false n (k + 1) f in
+          let z : n ≡ k + 1 = omega arith in
+          ap (λ (q : ℕ). levelOf (frame / 2 ^ q % 2)) z ∙ e
 
 -- ---- whole codes
 
 -- the elements of digits: the lowest digit's, and those above it
-module _ (sent₀ : List ℕ) (from : ℕ) (all : List ℕ) (sent : List ℕ) (i ms n k : ℕ) (w : Writing sent₀ from all sent i (held ms (digits n k))) where
+module _ (sent₀ : List ℕ) (from : ℕ) (all : List ℕ) (sent : List ℕ) (i ms n k : ℕ)
+    (w : Writing sent₀ from all sent i (held ms (digits n k))) where
   module _ (some : 0 < n) where
     digit-parts : held ms (digits n k) ≡ replicate ms (levelOf (k % 2)) ++ held ms (digits (n - 1) (k / 2))
     unfolding held digits
@@ -290,15 +334,19 @@ module _ (sent₀ : List ℕ) (from : ℕ) (all : List ℕ) (sent : List ℕ) (i
     pub digit-fits : i + ms ≤ length sent
     digit-fits = level-fits sent₀ from all sent i _ w ms _ _ digit-parts
 
-    pub digit-written : (level : ℕ) → level ≡ levelOf (k / 2 ^ 0 % 2) → (after : List ℕ) → after ≡ sets sent i (replicate ms level)
+    pub digit-written : (level : ℕ) → level ≡ levelOf (k / 2 ^ 0 % 2) → (after : List ℕ)
+        → after ≡ sets sent i (replicate ms level)
         → Writing sent₀ from all after (i + ms) (held ms (digits (n - 1) (k / 2)))
     digit-written level e after a =
         let z : k / 1 % 2 ≡ k % 2 = omega arith in
-        level-written sent₀ from all sent i _ w ms _ _ digit-parts after (a ∙ ap (λ (l : ℕ). sets sent i (replicate ms l)) (e ∙ ap levelOf z))
+        level-written sent₀ from all sent i _ w ms _ _ digit-parts after
+        (a ∙ ap (λ (l : ℕ). sets sent i (replicate ms l)) (e ∙ ap levelOf z))
 
   pub digits-end : n ≤ 0 → sent ≡ sets sent₀ from all
   unfolding held digits
-  digits-end none = let e : n ≡ 0 = omega arith in writing-end sent₀ from all sent i _ w (ap (λ (m : ℕ). held ms (digits m k)) e)
+  digits-end none =
+      let e : n ≡ 0 = omega arith in
+      writing-end sent₀ from all sent i _ w (ap (λ (m : ℕ). held ms (digits m k)) e)
 
 pub digits-ms : (ms n k : ℕ) → length (held ms (digits n k)) ≡ ms * n
 digits-ms ms n k = held-length ms (digits n k) ∙ ap (λ (m : ℕ). ms * m) (digits-length n k)
@@ -309,7 +357,8 @@ module _ (e k from : ℕ) where
   unfolding baudotSignal held
   baudot-parts = append-assoc (replicate e space) (held e (digits 5 k)) (replicate (3 * e / 2) mark)
 
-  pub baudot-written : (l start five stop : List ℕ) → start ≡ sets l from (replicate e space) → five ≡ sets start (from + e) (held e (digits 5 k))
+  pub baudot-written : (l start five stop : List ℕ) → start ≡ sets l from (replicate e space)
+      → five ≡ sets start (from + e) (held e (digits 5 k))
       → stop ≡ sets five (from + 6 * e) (replicate (3 * e / 2) mark) → stop ≡ sets l from (baudotSignal e k)
   baudot-written l start five stop p q r =
       let w = length-replicate {A = ℕ} e space in
@@ -319,12 +368,15 @@ module _ (e k from : ℕ) where
 
 -- EDT: start, seven elements, parity, two stops
 module _ (c from : ℕ) where
-  edt-parts : signal Edt c ≡ replicate 10 space ++ (held 9 (digits 7 c) ++ (replicate 9 (levelOf (parityOf c)) ++ replicate 18 mark))
+  edt-parts : signal Edt c
+      ≡ replicate 10 space ++ (held 9 (digits 7 c) ++ (replicate 9 (levelOf (parityOf c)) ++ replicate 18 mark))
   unfolding signal edtSignal edtElements held digits tabulate
   edt-parts = refl
 
-  pub edt-written : (digit level : ℕ) → digit ≡ parityOf c → level ≡ levelOf (digit / 2 ^ 0 % 2) → (l start seven parity stop : List ℕ)
-      → start ≡ sets l from (replicate 10 space) → seven ≡ sets start (from + 10) (held 9 (digits 7 c)) → parity ≡ sets seven (from + 73) (replicate 9 level)
+  pub edt-written : (digit level : ℕ) → digit ≡ parityOf c → level ≡ levelOf (digit / 2 ^ 0 % 2)
+      → (l start seven parity stop : List ℕ)
+      → start ≡ sets l from (replicate 10 space) → seven ≡ sets start (from + 10) (held 9 (digits 7 c))
+      → parity ≡ sets seven (from + 73) (replicate 9 level)
       → stop ≡ sets parity (from + 82) (replicate 18 mark) → stop ≡ sets l from (signal Edt c)
   edt-written digit level d e l start seven parity stop p q r s =
       let z : digit / 1 % 2 ≡ parityOf c = omega arith in
@@ -336,7 +388,8 @@ module _ (c from : ℕ) where
       let w = length-replicate 9 (levelOf (parityOf c)) in
       s ∙ part-behind seven parity (from + 73) (from + 82) even stops t (omega arith)
       ∙ part-behind start seven (from + 10) (from + 73) elements (even ++ stops) q (omega arith)
-      ∙ part-behind l start from (from + 10) (replicate 10 space) (elements ++ (even ++ stops)) p refl ∙ sym (ap (sets l from) edt-parts)
+      ∙ part-behind l start from (from + 10) (replicate 10 space) (elements ++ (even ++ stops)) p refl
+      ∙ sym (ap (sets l from) edt-parts)
 
 -- DTMF: the keys from one on
 pub record Keying (ks : List ℕ) (sent₀ : List ℕ) (from : ℕ) (sent : List ℕ) (i k : ℕ) : Type 0 where
@@ -349,17 +402,24 @@ module _ (ks : List ℕ) (sent₀ : List ℕ) (from : ℕ) where
 
   module _ (sent : List ℕ) (i k : ℕ) (p : Keying ks sent₀ from sent i k) where
     module _ (h : k < length ks) where
-      key-parts : keysSignal (drop k ks) ≡ replicate 70 (getD ks k 0) ++ (replicate 50 quiet ++ keysSignal (drop (k + 1) ks))
+      key-parts : keysSignal (drop k ks)
+          ≡ replicate 70 (getD ks k 0) ++ (replicate 50 quiet ++ keysSignal (drop (k + 1) ks))
       unfolding heldKeys
       key-parts = rw (drop-cons ks k 0) (rw (add-one k) refl)
 
-      pub keying-turn : (key : ℕ) → key ≡ getD ks k 0 → (on off : List ℕ) → on ≡ sets sent i (replicate 70 key) → off ≡ sets on (i + 70) (replicate 50 0)
+      pub keying-turn : (key : ℕ) → key ≡ getD ks k 0 → (on off : List ℕ) → on ≡ sets sent i (replicate 70 key)
+          → off ≡ sets on (i + 70) (replicate 50 0)
           → Keying ks sent₀ from off (i + 120) (k + 1)
       keying-turn key e on off a b =
           let at = p .at in
           let n : i + 70 + 50 ≡ i + 120 = omega arith in
-          let w = level-written sent₀ from (keysSignal ks) sent i _ (p .writing) 70 _ _ key-parts on (a ∙ ap (λ (l : ℕ). sets sent i (replicate 70 l)) e) in
-          record { at = omega arith; writing = rw n at (level-written sent₀ from (keysSignal ks) on (i + 70) _ w 50 quiet _ refl off b) }
+          let w =
+          level-written sent₀ from (keysSignal ks) sent i _ (p .writing) 70 _ _ key-parts on
+          (a ∙ ap (λ (l : ℕ). sets sent i (replicate 70 l)) e) in
+          record {
+            at = omega arith;
+            writing = rw n at (level-written sent₀ from (keysSignal ks) on (i + 70) _ w 50 quiet _ refl off b);
+          }
 
     pub keying-end : length ks ≤ k → sent ≡ sets sent₀ from (keysSignal ks)
     unfolding heldKeys

@@ -39,13 +39,14 @@ unfolding partMs
 part-most mode l i =
     let f = few-codes (alphabetOf mode) in
     let k = i .code-in in
-    let a = within-longest mode (l .code) (omega arith) in
+    let a = within-longest mode (l .code .0) (omega arith) in
     let b = longest-480 mode in
     let p = length-replicate {A = ℕ} (preambleOf mode) 1 in
     let q = preamble-480 mode in
     go (isCode l) (inBurst l) (omega arith) (omega arith)
   where
-    go : (a b : Bool) → length (signal mode (l .code)) ≤ 480 → length (preamble mode) ≤ 480 → length (cond a (signal mode (l .code)) (cond b (preamble mode) [])) ≤ 480
+    go : (a b : Bool) → length (signal mode (l .code .0)) ≤ 480 → length (preamble mode) ≤ 480
+        → length (cond a (signal mode (l .code .0)) (cond b (preamble mode) [])) ≤ 480
     go true b p q = p
     go false true p q = q
     go false false p q = omega arith

@@ -9,15 +9,42 @@ ghost use lib.ListN.{length, replicate};
 ghost use lib.Seq.{sets};
 ghost use Rattle.lists.specs.Tables.{tabulate};
 ghost use Rattle.alphabet.specs.Modes.{alphabetOf, codes};
+ghost use Rattle.alphabet.specs.code.Numbers.{longest};
 ghost use Rattle.signal.specs.Signal.{levelOf, digits, held, baudotSignal, signal};
 ghost use Rattle.burst.specs.Line.{inBurst, partMs};
 ghost use Rattle.burst.specs.code.Bounds.{LineIn};
 ghost use Rattle.alphabet.specs.declared.Mode.the-variants as mode;
-ghost use Rattle.signal_runs.specs.code.Levels.{evenMs, elementAt, elementEnd, frameOf, Run, Framed, codeLevel, partLevel};
+ghost use Rattle.signal_runs.specs.code.Levels.{evenMs, elementAt, elementEnd, frameOf, frameLevel, Run, Framed, codeLevel, partLevel};
 
-const MARK: u8 = 1;
+// The ms of elements and keys, as places are counted.
+const BAUDOT_45_ELEMENT: usize = Mode::BAUDOT_45_ELEMENT as usize;
 
-const SPACE: u8 = 2;
+const BAUDOT_50_ELEMENT: usize = Mode::BAUDOT_50_ELEMENT as usize;
+
+const KEY_ON: usize = Mode::KEY_ON as usize;
+
+const KEY_OFF: usize = Mode::KEY_OFF as usize;
+
+const KEY: usize = Mode::KEY as usize;
+
+const EDT_CODE: usize = Mode::EDT_CODE as usize;
+
+const EDT_ELEMENTS: usize = Mode::EDT_ELEMENTS as usize;
+
+// Added before a division by the elements of an EDT code, it rounds up.
+const EDT_ROUND_UP: usize = EDT_ELEMENTS - 1;
+
+// Every element of an EDT code but the first has the whole ms of an element; the first has what is left of the code.
+const EDT_NEXT: usize = EDT_CODE / EDT_ELEMENTS;
+
+const EDT_FIRST: usize = EDT_CODE - (EDT_ELEMENTS - 1) * EDT_NEXT;
+
+// Behind the start and seven elements the parity begins, behind that the two stops.
+const EDT_PARITY: usize = EDT_FIRST + 7 * EDT_NEXT;
+
+const EDT_STOPS: usize = EDT_PARITY + EDT_NEXT;
+
+const EDT_STOPS_MS: usize = 2 * EDT_NEXT;
 
 // So many ms of a level, written from a place on. The compiler makes a few stores of it where the number is a constant.
 fn fill_ms(sent: &mut [u8], from: usize, n: usize, level: u8)
@@ -99,26 +126,26 @@ pub fn fill(sent: &mut [u8], from: usize, to: usize, level: u8)
 fn even_ms(at: usize) -> usize
     ensures { λ r. ⌜ r ≡ evenMs at ⌝ }
 {
-    let m = at % 120;
-    if m < 70 {
-        return 70 - m;
+    let m = at % KEY;
+    if m < KEY_ON {
+        return KEY_ON - m;
     }
-    120 - m
+    KEY - m
 }
 
 // The ms of a DTMF code from one on, written from a place to another.
-fn put_keys(code: u8, at: usize, sent: &mut [u8], from: usize, to: usize)
-    requires { ⌜ code < codes (alphabetOf mode.Dtmf) ⌝ }
-    requires { ⌜ at + (to - from) ≤ length (signal mode.Dtmf code) ⌝ }
+fn put_keys(code: LineCode, at: usize, sent: &mut [u8], from: usize, to: usize)
+    requires { ⌜ code .0 < codes (alphabetOf mode.Dtmf) ⌝ }
+    requires { ⌜ at + (to - from) ≤ length (signal mode.Dtmf (code .0)) ⌝ }
     requires { ⌜ from ≤ to ⌝ }
     requires { ⌜ to ≤ length (now sent) ⌝ }
-    ensures { λ r. ⌜ now (sent .exit) ≡ sets (now (sent .entry)) from (tabulate (codeLevel mode.Dtmf code at) (to - from) 0) ⌝ }
+    ensures { λ r. ⌜ now (sent .exit) ≡ sets (now (sent .entry)) from (tabulate (codeLevel mode.Dtmf (code .0) at) (to - from) 0) ⌝ }
 {
     let mut i = from;
     while i < to {
         let m = at + (i - from);
         let end = lists::places::up_to(i, even_ms(m), to);
-        let level = signal::level(Mode::Dtmf, LineCode(code), m as u16);
+        let level = signal::level(Mode::Dtmf, code, m as u16);
         fill(sent, i, end, level);
         i = end;
     }
@@ -126,14 +153,14 @@ fn put_keys(code: u8, at: usize, sent: &mut [u8], from: usize, to: usize)
 
 // The element of a frame to which a ms belongs.
 fn element_at(mode: Mode, m: usize) -> usize
-    requires { ⌜ m < 480 ⌝ }
+    requires { ⌜ m < longest mode ⌝ }
     ensures { λ r. ⌜ r ≡ elementAt mode m ⌝ }
 {
     match mode {
-        Mode::Baudot45 => m / 22,
-        Mode::Baudot50 => m / 20,
+        Mode::Baudot45 => m / BAUDOT_45_ELEMENT,
+        Mode::Baudot50 => m / BAUDOT_50_ELEMENT,
         Mode::Dtmf => m,
-        Mode::Edt => 11 * m / 100,
+        Mode::Edt => EDT_ELEMENTS * m / EDT_CODE,
     }
 }
 
@@ -143,23 +170,23 @@ fn element_end(mode: Mode, j: usize) -> usize
     ensures { λ r. ⌜ r ≡ elementEnd mode j ⌝ }
 {
     match mode {
-        Mode::Baudot45 => 22 * (j + 1),
-        Mode::Baudot50 => 20 * (j + 1),
+        Mode::Baudot45 => BAUDOT_45_ELEMENT * (j + 1),
+        Mode::Baudot50 => BAUDOT_50_ELEMENT * (j + 1),
         Mode::Dtmf => j + 1,
-        Mode::Edt => (100 * (j + 1) + 10) / 11,
+        Mode::Edt => (EDT_CODE * (j + 1) + EDT_ROUND_UP) / EDT_ELEMENTS,
     }
 }
 
 // A frame as a number.
-fn frame_of(mode: Mode, code: u8) -> u16
-    requires { ⌜ code < codes (alphabetOf mode) ⌝ }
-    ensures { λ r. ⌜ r ≡ frameOf mode code ⌝ }
+fn frame_of(mode: Mode, code: LineCode) -> u16
+    requires { ⌜ code .0 < codes (alphabetOf mode) ⌝ }
+    ensures { λ r. ⌜ r ≡ frameOf mode (code .0) ⌝ }
 {
     match mode {
-        Mode::Baudot45 => signal::baudot_frame(LineCode(code)),
-        Mode::Baudot50 => signal::baudot_frame(LineCode(code)),
+        Mode::Baudot45 => signal::baudot_frame(code),
+        Mode::Baudot50 => signal::baudot_frame(code),
         Mode::Dtmf => 0,
-        Mode::Edt => signal::edt_frame(LineCode(code)),
+        Mode::Edt => signal::edt_frame(code),
     }
 }
 
@@ -180,15 +207,13 @@ fn run_end(frame: u16, j: usize, level: u8) -> usize
 }
 
 // The ms of a frame from one on, written from a place to another.
-fn put_frame(mode: Mode, code: u8, at: usize, sent: &mut [u8], from: usize, to: usize)
+fn put_frame(mode: Mode, frame: u16, at: usize, sent: &mut [u8], from: usize, to: usize)
     requires { ⌜ Framed mode ⌝ }
-    requires { ⌜ code < codes (alphabetOf mode) ⌝ }
-    requires { ⌜ at + (to - from) ≤ length (signal mode code) ⌝ }
+    requires { ⌜ at + (to - from) ≤ longest mode ⌝ }
     requires { ⌜ from < to ⌝ }
     requires { ⌜ to ≤ length (now sent) ⌝ }
-    ensures { λ r. ⌜ now (sent .exit) ≡ sets (now (sent .entry)) from (tabulate (codeLevel mode code at) (to - from) 0) ⌝ }
+    ensures { λ r. ⌜ now (sent .exit) ≡ sets (now (sent .entry)) from (tabulate (frameLevel mode frame at) (to - from) 0) ⌝ }
 {
-    let frame = frame_of(mode, code);
     let mut j = element_at(mode, at);
     let mut i = from;
     while i < to {
@@ -202,15 +227,15 @@ fn put_frame(mode: Mode, code: u8, at: usize, sent: &mut [u8], from: usize, to: 
 }
 
 // The ms of a code from one on, written from a place to another.
-fn put_code(mode: Mode, code: u8, at: usize, sent: &mut [u8], from: usize, to: usize)
-    requires { ⌜ code < codes (alphabetOf mode) ⌝ }
-    requires { ⌜ at + (to - from) ≤ length (signal mode code) ⌝ }
+fn put_code(mode: Mode, code: LineCode, at: usize, sent: &mut [u8], from: usize, to: usize)
+    requires { ⌜ code .0 < codes (alphabetOf mode) ⌝ }
+    requires { ⌜ at + (to - from) ≤ length (signal mode (code .0)) ⌝ }
     requires { ⌜ from < to ⌝ }
     requires { ⌜ to ≤ length (now sent) ⌝ }
-    ensures { λ r. ⌜ now (sent .exit) ≡ sets (now (sent .entry)) from (tabulate (codeLevel mode code at) (to - from) 0) ⌝ }
+    ensures { λ r. ⌜ now (sent .exit) ≡ sets (now (sent .entry)) from (tabulate (codeLevel mode (code .0) at) (to - from) 0) ⌝ }
 {
     let Mode::Dtmf = mode else {
-        put_frame(mode, code, at, sent, from, to);
+        put_frame(mode, frame_of(mode, code), at, sent, from, to);
         return;
     };
     put_keys(code, at, sent, from, to);
@@ -225,19 +250,19 @@ pub fn put(mode: Mode, l: OnLine, sent: &mut [u8], from: usize, to: usize)
     requires { ⌜ to ≤ length (now sent) ⌝ }
     ensures { λ r. ⌜ now (sent .exit) ≡ sets (now (sent .entry)) from (tabulate (partLevel mode l) (to - from) 0) ⌝ }
 {
-    if l.part == 1 {
-        fill(sent, from, to, MARK);
+    if l.part == burst::PREAMBLE {
+        fill(sent, from, to, Mode::MARK);
         return;
     }
     put_code(mode, l.code, l.at as usize, sent, from, to);
 }
 
-// The elements of a code's lowest digits, the lowest first, each of so many ms.
-fn put_elements(code: u8, count: usize, ms: usize, sent: &mut [u8], from: usize)
-    requires { ⌜ from + length (held ms (digits count code)) ≤ length (now sent) ⌝ }
-    ensures { λ r. ⌜ now (sent .exit) ≡ sets (now (sent .entry)) from (held ms (digits count code)) ⌝ }
+// The elements of a number's lowest binary digits, the lowest first, each of so many ms.
+fn put_elements(number: u8, count: usize, ms: usize, sent: &mut [u8], from: usize)
+    requires { ⌜ from + length (held ms (digits count number)) ≤ length (now sent) ⌝ }
+    ensures { λ r. ⌜ now (sent .exit) ≡ sets (now (sent .entry)) from (held ms (digits count number)) ⌝ }
 {
-    let mut rest = code as u16;
+    let mut rest = number as u16;
     let mut left = count;
     let mut i = from;
     while 0 < left {
@@ -249,57 +274,57 @@ fn put_elements(code: u8, count: usize, ms: usize, sent: &mut [u8], from: usize)
 }
 
 // A Baudot code: start, five elements, stop.
-fn put_baudot(element: usize, code: u8, sent: &mut [u8], from: usize)
-    requires { ⌜ from + length (baudotSignal element code) ≤ length (now sent) ⌝ }
-    ensures { λ r. ⌜ now (sent .exit) ≡ sets (now (sent .entry)) from (baudotSignal element code) ⌝ }
+fn put_baudot(element: usize, code: LineCode, sent: &mut [u8], from: usize)
+    requires { ⌜ from + length (baudotSignal element (code .0)) ≤ length (now sent) ⌝ }
+    ensures { λ r. ⌜ now (sent .exit) ≡ sets (now (sent .entry)) from (baudotSignal element (code .0)) ⌝ }
 {
-    fill_ms(sent, from, element, SPACE);
-    put_elements(code, 5, element, sent, from + element);
-    fill_ms(sent, from + 6 * element, 3 * element / 2, MARK);
+    fill_ms(sent, from, element, Mode::SPACE);
+    put_elements(code.0, 5, element, sent, from + element);
+    fill_ms(sent, from + 6 * element, 3 * element / 2, Mode::MARK);
 }
 
 // A DTMF code, key by key.
-fn put_dtmf(code: u8, sent: &mut [u8], from: usize)
-    requires { ⌜ from + length (signal mode.Dtmf code) ≤ length (now sent) ⌝ }
-    ensures { λ r. ⌜ now (sent .exit) ≡ sets (now (sent .entry)) from (signal mode.Dtmf code) ⌝ }
+fn put_dtmf(code: LineCode, sent: &mut [u8], from: usize)
+    requires { ⌜ from + length (signal mode.Dtmf (code .0)) ≤ length (now sent) ⌝ }
+    ensures { λ r. ⌜ now (sent .exit) ≡ sets (now (sent .entry)) from (signal mode.Dtmf (code .0)) ⌝ }
 {
-    let end = from + signal::duration(Mode::Dtmf, LineCode(code)) as usize;
+    let end = from + signal::duration(Mode::Dtmf, code) as usize;
     let mut i = from;
     let mut k: u8 = 0;
     while i < end {
-        fill_ms(sent, i, 70, alphabet::dtmf::key(LineCode(code), k));
-        fill_ms(sent, i + 70, 50, 0);
-        i += 120;
+        fill_ms(sent, i, KEY_ON, alphabet::dtmf::key(code, k));
+        fill_ms(sent, i + KEY_ON, KEY_OFF, 0);
+        i += KEY;
         k += 1;
     }
 }
 
-// An EDT code: start, seven elements, parity, two stops. The first element has 10 ms, each other 9.
-fn put_edt(code: u8, sent: &mut [u8], from: usize)
-    requires { ⌜ code < codes (alphabetOf mode.Edt) ⌝ }
-    requires { ⌜ from + length (signal mode.Edt code) ≤ length (now sent) ⌝ }
-    ensures { λ r. ⌜ now (sent .exit) ≡ sets (now (sent .entry)) from (signal mode.Edt code) ⌝ }
+// An EDT code: start, seven elements, parity, two stops.
+fn put_edt(code: LineCode, sent: &mut [u8], from: usize)
+    requires { ⌜ code .0 < codes (alphabetOf mode.Edt) ⌝ }
+    requires { ⌜ from + length (signal mode.Edt (code .0)) ≤ length (now sent) ⌝ }
+    ensures { λ r. ⌜ now (sent .exit) ≡ sets (now (sent .entry)) from (signal mode.Edt (code .0)) ⌝ }
 {
-    fill_ms(sent, from, 10, SPACE);
-    put_elements(code, 7, 9, sent, from + 10);
+    fill_ms(sent, from, EDT_FIRST, Mode::SPACE);
+    put_elements(code.0, 7, EDT_NEXT, sent, from + EDT_FIRST);
     fill_ms(
         sent,
-        from + 73,
-        9,
-        signal::frame_level(signal::parity(code) as u16, 0),
+        from + EDT_PARITY,
+        EDT_NEXT,
+        signal::frame_level(signal::parity(code.0) as u16, 0),
     );
-    fill_ms(sent, from + 82, 18, MARK);
+    fill_ms(sent, from + EDT_STOPS, EDT_STOPS_MS, Mode::MARK);
 }
 
 // All ms of a code, written from a place on.
-pub fn put_whole(mode: Mode, code: u8, sent: &mut [u8], from: usize)
-    requires { ⌜ code < codes (alphabetOf mode) ⌝ }
-    requires { ⌜ from + length (signal mode code) ≤ length (now sent) ⌝ }
-    ensures { λ r. ⌜ now (sent .exit) ≡ sets (now (sent .entry)) from (signal mode code) ⌝ }
+pub fn put_whole(mode: Mode, code: LineCode, sent: &mut [u8], from: usize)
+    requires { ⌜ code .0 < codes (alphabetOf mode) ⌝ }
+    requires { ⌜ from + length (signal mode (code .0)) ≤ length (now sent) ⌝ }
+    ensures { λ r. ⌜ now (sent .exit) ≡ sets (now (sent .entry)) from (signal mode (code .0)) ⌝ }
 {
     match mode {
-        Mode::Baudot45 => put_baudot(Mode::BAUDOT_45_ELEMENT as usize, code, sent, from),
-        Mode::Baudot50 => put_baudot(Mode::BAUDOT_50_ELEMENT as usize, code, sent, from),
+        Mode::Baudot45 => put_baudot(BAUDOT_45_ELEMENT, code, sent, from),
+        Mode::Baudot50 => put_baudot(BAUDOT_50_ELEMENT, code, sent, from),
         Mode::Dtmf => put_dtmf(code, sent, from),
         Mode::Edt => put_edt(code, sent, from),
     }

@@ -18,10 +18,10 @@ use Rattle.reader.specs.declared.Reader.{Reader}
 use Rattle.reader.specs.declared.Reading.{Reading}
 use Rattle.reader.specs.Reader.{reader, ends, keyEvent, prefixAfter, hear}
 use Rattle.reader.specs.Words.{wordOf, wordsOf, readerAfter, words}
-use Rattle.half_duplex_runs.specs.code.Cores.{atRest}
+use Rattle.half_duplex_runs.specs.code.Cores.{isIdle}
 
-rest-is : (r : Reader) → atRest r ≡ true → r ≡ reader hunting ready (r .shift) (r .prefix)
-unfolding atRest
+rest-is : (r : Reader) → isIdle r ≡ true → r ≡ reader hunting ready (r .shift) (r .prefix)
+unfolding isIdle
 rest-is r e =
     let a = eqb (r .frame .place) 0 in
     let b = eqb (r .frame .digits) 0 in
@@ -63,5 +63,5 @@ rests-list mode shift prefix (x ∷ xs) e =
       none = ap (λ (q : Reading). wordOf (q .event) ++ words mode (q .reader) xs) h ∙ t .none;
     }
 
-pub rests : (mode : Mode) (r : Reader) (xs : List ℕ) → atRest r ≡ true → allAtMost 0 xs ≡ true → Rests mode r xs
+pub rests : (mode : Mode) (r : Reader) (xs : List ℕ) → isIdle r ≡ true → allAtMost 0 xs ≡ true → Rests mode r xs
 rests mode r xs e q = subst (λ (s : Reader). Rests mode s xs) (sym (rest-is r e)) (rests-list mode (r .shift) (r .prefix) xs q)

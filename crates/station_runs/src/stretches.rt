@@ -160,7 +160,7 @@ pub fn listen(
     let to = free_end(c.waiting, c.silence, i, heard.len());
     signal_runs::fill(sent, i, to, 0);
     let before = c.reader;
-    if half_duplex_runs::rests(before, bound) {
+    if half_duplex_runs::stays_idle(before, bound) {
         let silence = half_duplex_runs::silence_for(c.silence, to - i);
         return Stretched {
             core: half_duplex_runs::listened(c, silence, before),

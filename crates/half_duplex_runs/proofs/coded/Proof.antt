@@ -23,8 +23,11 @@ returns : tie.Need-returns
 unfolding codedCore
 returns c =
     let t = c .before .before .before .before in
-    let s = t .args .c in
-    λ j. core (s .waiting - t .args .taken) (c .before .silence-for .ensures j) (burst-some (s .inhibited) (t .args .n) (t .pre .0) j) (t .args .line) (t .args .sender) (c .deaf-reader .ensures j) (s .mode)
+    let a = t .args in
+    let s = a .c in
+    let inhibited = burst-some (s .inhibited) (a .n) (t .pre .0) in
+    λ j. core (s .waiting - a .taken) (c .before .silence-for .ensures j) (inhibited j) (a .line) (a .sender)
+    (c .deaf-reader .ensures j) (s .mode)
 
 pub coded-spec : {M : Type 1} → statement M
 coded-spec = tie.close (tie.spec cast-t8 sub-t9 silence-for-requires deaf-reader-requires returns)

@@ -6,14 +6,17 @@ use borrow.Author.Needs.{needs}
 use Rattle.half_duplex_runs.proofs.deaf_for.Statement.{statement}
 use Rattle.half_duplex_runs.proofs.deaf_for.Tie as tie
 
+abbrev read : tie.After-t10 → tie.After-deaf-reader
+read c = c .before .before
+
 silence-for-requires : tie.Need-silence-for-requires
 silence-for-requires c κs = search needs
 
-cast-t7 : tie.Need-cast-t7
-cast-t7 c = search needs
+cast-t5 : tie.Need-cast-t5
+cast-t5 c = search needs
 
-sub-t8 : tie.Need-sub-t8
-sub-t8 c = search needs
+sub-t6 : tie.Need-sub-t6
+sub-t6 c = search needs
 
 deaf-reader-requires : tie.Need-deaf-reader-requires
 deaf-reader-requires c κs = search needs
@@ -21,9 +24,13 @@ deaf-reader-requires c κs = search needs
 returns : tie.Need-returns
 unfolding deafFor
 returns c =
-    let s = c .before .before .before .before .before .before .args .c in
-    λ j. core (s .waiting) (c .before .before .silence-for .ensures j) (s .inhibited - c .before .before .before .before .before .before .args .n) (s .line) (s .sender) (c .deaf-reader .ensures j) (s .mode)
+    let r = read c in
+    let f = r .before .before in
+    let a = f .before .before .args in
+    let s = a .c in
+    λ j. core (s .waiting) (f .silence-for .ensures j) (s .inhibited - a .n) (s .line) (s .sender)
+    (r .deaf-reader .ensures j) (s .mode)
 
 pub deaf-for-spec : {M : Type 1} → statement M
 deaf-for-spec =
-    tie.close (tie.spec silence-for-requires cast-t7 sub-t8 deaf-reader-requires returns)
+    tie.close (tie.spec silence-for-requires cast-t5 sub-t6 deaf-reader-requires returns)

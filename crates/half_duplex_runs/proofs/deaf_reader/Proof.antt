@@ -15,7 +15,8 @@ needed-for-requires c κs = search needs
 returns : tie.Need-returns
 returns c =
     let s = c .before .before in
-    ap (λ (m : ℕ). reader hunting (needsQuiet m) (s .args .r .shift) (s .args .r .prefix)) (c .needed-for .ensures) ∙ deaf-some (s .args .r) (s .args .n) (s .pre)
+    ap (λ (m : ℕ). reader hunting (needsQuiet m) (s .args .r .shift) (s .args .r .prefix)) (c .needed-for .ensures)
+    ∙ deaf-some (s .args .r) (s .args .n) (s .pre)
 
 pub deaf-reader-spec : {M : Type 1} → statement M
 deaf-reader-spec = tie.close (tie.spec needed-for-requires returns)

@@ -11,9 +11,11 @@ waiting-after-requires c κs = search needs
 returns : tie.Need-returns
 unfolding loadedCore
 returns c =
-    let s = c .before .before .before .before .args .c in
-    let l = c .before .before .before .before .args .l in
-    λ j. core (c .waiting-after .ensures j) (s .silence) (s .inhibited) (l .line) (l .sender) (s .reader) (s .mode)
+    let w = c .before in
+    let a = w .before .before .before .args in
+    let s = a .c in
+    let l = a .l in
+    λ j. core (w .waiting-after .ensures j) (s .silence) (s .inhibited) (l .line) (l .sender) (s .reader) (s .mode)
 
 pub loaded-spec : {M : Type 1} → statement M
 loaded-spec = tie.close (tie.spec waiting-after-requires returns)

@@ -20,7 +20,9 @@ silence-for-requires c κs = c .before .before .pre .0
 returns : tie.Need-returns Inv-loop μ-loop
 returns c =
     let s = c .before .before .before in
-    c .silence-for .ensures ∙ over-quiet _ _ (s .pre .0) (ap (λ (m : ℕ). allAtMost m (s .args .heard .now)) (sym (c .before .if1 .taken)) ∙ s .pre .1)
+    c .silence-for .ensures
+    ∙ over-quiet _ _ (s .pre .0)
+    (ap (λ (m : ℕ). allAtMost m (s .args .heard .now)) (sym (c .before .if1 .taken)) ∙ s .pre .1)
 
 loop-holds : tie.Need-loop-holds Inv-loop μ-loop
 loop-holds c = tail-start _ _ (c .before .before .pre .0)
@@ -28,8 +30,17 @@ loop-holds c = tail-start _ _ (c .before .before .pre .0)
 cast-if2 : tie.Need-cast-if2 Inv-loop μ-loop
 cast-if2 c = search needs
 
+-- what was known before the loop; a turn
+abbrev start : tie.At-loop Inv-loop μ-loop → tie.Start Inv-loop μ-loop
+start c = c .before .before .before
+
+abbrev turn : tie.Else2 Inv-loop μ-loop → tie.In-loop Inv-loop μ-loop
+turn c = c .before
+
 returns-2 : tie.Need-returns-2 Inv-loop μ-loop
-returns-2 c = tail-free _ _ (c .before .before .before .before .before .pre .0) _ _ (c .before .before .loop .inv) (c .if2 .taken)
+returns-2 c =
+    let l = c .before .before in
+    tail-free _ _ (start l .pre .0) _ _ (l .loop .inv) (c .if2 .taken)
 
 sub-left : tie.Need-sub-left Inv-loop μ-loop
 sub-left c = search needs
@@ -41,7 +52,10 @@ cast-result : tie.Need-cast-result Inv-loop μ-loop
 cast-result c = let t = c .before .before .before .before .loop .inv .few in omega arith
 
 returns-3 : tie.Need-returns-3 Inv-loop μ-loop
-returns-3 c = tail-signal _ _ (c .before .before .before .before .before .before .before .pre .0) _ _ (c .before .before .before .before .loop .inv) (c .before .before .before .loop-test .taken) (c .before .before .if2 .left) (c .if3 .taken)
+returns-3 c =
+    let e = c .before .before in
+    let l = turn e .before in
+    tail-signal _ _ (start l .pre .0) _ _ (l .loop .inv) (turn e .loop-test .taken) (e .if2 .left) (c .if3 .taken)
 
 add-n : tie.Need-add-n Inv-loop μ-loop
 add-n c = let t = c .before .before .before .before .loop .inv .few in omega arith
@@ -50,13 +64,18 @@ loop-less : tie.Need-loop-less Inv-loop μ-loop
 loop-less c = search needs
 
 loop-again : tie.Need-loop-again Inv-loop μ-loop
-loop-again c = tail-quiet _ _ (c .before .before .before .before .before .before .before .pre .0) _ _ (c .before .before .before .before .loop .inv) (c .before .before .before .loop-test .taken) (c .before .before .if2 .left) (c .if3 .left)
+loop-again c =
+    let e = c .before .before in
+    let l = turn e .before in
+    tail-quiet _ _ (start l .pre .0) _ _ (l .loop .inv) (turn e .loop-test .taken) (e .if2 .left) (c .if3 .left)
 
 silence-for-requires-2 : tie.Need-silence-for-requires-2 Inv-loop μ-loop
-silence-for-requires-2 c κs = c .before .before .before .before .pre .0
+silence-for-requires-2 c κs = start (c .before) .pre .0
 
 returns-4 : tie.Need-returns-4 Inv-loop μ-loop
-returns-4 c = c .silence-for2 .ensures ∙ tail-end _ _ (c .before .before .before .before .before .pre .0) _ _ (c .before .before .loop .inv) (c .before .loop-test .left)
+returns-4 c =
+    let l = c .before .before in
+    c .silence-for2 .ensures ∙ tail-end _ _ (start l .pre .0) _ _ (l .loop .inv) (c .before .loop-test .left)
 
 pub silence-over-spec : {M : Type 1} → statement M
 silence-over-spec =

@@ -12,7 +12,7 @@ use Rattle.reader.specs.Reader.{reader}
 use Rattle.half_duplex.specs.declared.Core.{Core}
 use Rattle.burst.specs.declared.OnLine.{OnLine}
 use Rattle.burst.specs.declared.Loaded.{Loaded}
-use Rattle.burst.specs.Rules.{freeMs, afterMs, isSilent}
+use Rattle.burst.specs.Rules.{freeMs, afterMs, mayEnd, isSilent}
 use Rattle.burst.specs.Line.{further, closed}
 use Rattle.half_duplex.specs.Core.{core, modeIn, silenceAfter, waitingAfter}
 
@@ -26,10 +26,11 @@ silenceNext silence heard = silenceAfter (isSilent false heard) silence
 abbrev pub silenceOver : ℕ → List ℕ → ℕ
 silenceOver silence heard = stateAfter silenceNext silence heard
 
--- A reader at rest: hunting, with no key heard and no quiet needed.
-unfoldable pub atRest : Reader → Bool
-atRest r =
-    eqb (r .frame .place) 0 && eqb (r .frame .digits) 0 && eqb (r .keys .key) 0 && eqb (r .keys .ms) 0 && eqb (r .keys .needed) 0
+-- An idle reader: hunting, with no key heard and no quiet needed.
+unfoldable pub isIdle : Reader → Bool
+isIdle r =
+    eqb (r .frame .place) 0 && eqb (r .frame .digits) 0
+    && eqb (r .keys .key) 0 && eqb (r .keys .ms) 0 && eqb (r .keys .needed) 0
 
 -- A reader after n inhibited ms.
 unfoldable pub deafReader : Reader → ℕ → Reader
@@ -52,7 +53,7 @@ sentFor c n =
     core (c .waiting)
     (silenceFor (c .silence) n)
     (burstLeft (c .inhibited) n)
-    (closed (modeIn c) (c .waiting) (further (c .line) n))
+    (closed (modeIn c) (mayEnd (c .waiting)) (further (c .line) n))
     (c .sender)
     (deafReader (c .reader) n)
     (c .mode)
@@ -60,11 +61,23 @@ sentFor c n =
 -- After whole codes: so many characters are taken, a sender, what is on the line, and the ms that went.
 unfoldable pub codedCore : Core → ℕ → Sender → OnLine → ℕ → Core
 codedCore c taken sender line n =
-    core (c .waiting - taken) (silenceFor (c .silence) n) (burstLeft (c .inhibited) n) line sender (deafReader (c .reader) n) (c .mode)
+    core (c .waiting - taken)
+    (silenceFor (c .silence) n)
+    (burstLeft (c .inhibited) n)
+    line
+    sender
+    (deafReader (c .reader) n)
+    (c .mode)
 
 unfoldable pub deafFor : Core → ℕ → Core
 deafFor c n =
-    core (c .waiting) (silenceFor (c .silence) n) (c .inhibited - n) (c .line) (c .sender) (deafReader (c .reader) n) (c .mode)
+    core (c .waiting)
+    (silenceFor (c .silence) n)
+    (c .inhibited - n)
+    (c .line)
+    (c .sender)
+    (deafReader (c .reader) n)
+    (c .mode)
 
 unfoldable pub listened : Core → ℕ → Reader → Core
 listened c silence r = core (c .waiting) silence (c .inhibited) (c .line) (c .sender) r (c .mode)

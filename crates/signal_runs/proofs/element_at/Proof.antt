@@ -2,7 +2,9 @@
 use mathlib.Core.Path.{sym, ap}
 use Rattle.alphabet.specs.declared.Mode.{Mode}
 use Rattle.signal_runs.specs.code.Levels.{elementAt}
+use native.Mathlib.Omega.{arith}
 use borrow.Author.Needs.{needs}
+use Rattle.signal_runs.proofs.Parts.{longest-480}
 use Rattle.signal_runs.proofs.element_at.Statement.{statement}
 use Rattle.signal_runs.proofs.element_at.Tie as tie
 
@@ -19,7 +21,7 @@ enum-told-4 : tie.Need-enum-told-4
 enum-told-4 c = search needs
 
 mul-result : tie.Need-mul-result
-mul-result c = search needs
+mul-result c = let h = longest-480 (c .before .before .args .mode) in let l = c .before .before .pre in omega arith
 
 returns : tie.Need-returns
 unfolding elementAt

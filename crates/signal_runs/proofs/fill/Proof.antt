@@ -49,7 +49,10 @@ loop-less : tie.Need-loop-less Inv-loop μ-loop
 loop-less c = search needs
 
 loop-again : tie.Need-loop-again Inv-loop μ-loop
-loop-again c = filling-turn _ _ _ _ _ _ (c .before .before .before .before .before .loop .inv) 64 _ (search needs) (c .before .before .before .before .loop-test .taken) (c .before .before .fill-ms .ensures)
+loop-again c =
+    let t = c .before .before .before .before in
+    filling-turn _ _ _ _ _ _ (t .before .loop .inv) 64 _ (search needs) (t .loop-test .taken)
+    (c .before .before .fill-ms .ensures)
 
 sub-fill-ms : tie.Need-sub-fill-ms Inv-loop μ-loop
 sub-fill-ms c = search needs
@@ -57,9 +60,19 @@ sub-fill-ms c = search needs
 fill-ms-requires-2 : tie.Need-fill-ms-requires-2 Inv-loop μ-loop
 fill-ms-requires-2 c κs = let s = c .before .before .loop .inv .filled .size in omega arith
 
-done : (c : tie.After-slice-known4 Inv-loop μ-loop)
-    → let s = c .before .before .before .before .before .before .before .before .before .args in Filled (s .sent .now) (s .from) (s .level) (c .before .before .fill-ms2 .last .0) (s .to - s .from)
-done c = filling-end _ _ _ _ _ _ (c .before .before .before .before .before .loop .inv) 64 _ (omega arith) (c .before .before .before .before .loop-test .left) (c .before .before .fill-ms2 .ensures)
+-- after the loop; before it
+abbrev left : tie.After-slice-known4 Inv-loop μ-loop → tie.After-loop Inv-loop μ-loop
+left c = c .before .before .before .before
+
+abbrev entry : tie.After-loop Inv-loop μ-loop → tie.Start Inv-loop μ-loop
+entry c = c .before .before .before .before .before
+
+done : (c : tie.After-slice-known4 Inv-loop μ-loop) → let s = entry (left c) .args in
+    Filled (s .sent .now) (s .from) (s .level) (c .before .before .fill-ms2 .last .0) (s .to - s .from)
+done c =
+    let l = left c in
+    filling-end _ _ _ _ _ _ (l .before .loop .inv) 64 _ (omega arith) (l .loop-test .left)
+    (c .before .before .fill-ms2 .ensures)
 
 same-length-2 : tie.Need-same-length-2 Inv-loop μ-loop
 same-length-2 c = done c .size

@@ -23,7 +23,8 @@ returns c =
     let s = c .before .before .before .before .before .before .before .before .before .args in
     let from = s .from in
     let front = filled-by _ from _ _ (s .n) (c .before .before .before .before .before .before .fill-ms .ensures) in
-    filled-more _ from _ _ (s .n) front (s .to - s .n) (s .n) (s .to - from) (omega arith) (omega arith) (omega arith) (omega arith) _ (c .before .before .fill-ms2 .ensures) .slice
+    filled-more _ from _ _ (s .n) front (s .to - s .n) (s .n) (s .to - from) (omega arith) (omega arith) (omega arith)
+    (omega arith) _ (c .before .before .fill-ms2 .ensures) .slice
 
 pub fill-ends-spec : {M : Type 1} → statement M
 fill-ends-spec = tie.close (tie.spec fill-ms-requires sub-fill-ms fill-ms-requires-2 same-length returns)

@@ -33,8 +33,11 @@ loop-less c = search needs
 loop-again : tie.Need-loop-again Inv-loop μ-loop
 loop-again c =
     let from = c .before .before .args .from in
-    let k = c .before .loop .k in
-    (omega arith, filled-more _ from _ _ k (c .before .loop .inv .1) (from + k) 1 (k + 1) (omega arith) (omega arith) (omega arith) (omega arith) _ refl)
+    let k = c .before .loop .k in (
+      omega arith,
+      filled-more _ from _ _ k (c .before .loop .inv .1) (from + k) 1 (k + 1) (omega arith) (omega arith)
+          (omega arith) (omega arith) _ refl,
+    )
 
 same-length : tie.Need-same-length Inv-loop μ-loop
 same-length c = c .before .loop .inv .1 .size

@@ -1,5 +1,5 @@
 -- `put` meets its contract: the preamble, or a code.
-use mathlib.Core.Path.{_∙_, ap}
+use mathlib.Core.Path.{_≡_, _∙_, ap}
 use Prim.Native.Nat.{_-_}
 use native.Mathlib.Omega.{arith}
 use lib.Seq.{sets}
@@ -9,6 +9,16 @@ use borrow.Author.Needs.{needs}
 use Rattle.signal_runs.proofs.put.Statement.{statement}
 use Rattle.signal_runs.proofs.put.Tie as tie
 
+-- what was known before the preamble; before a code
+abbrev preamble : tie.Then1 → tie.Start
+preamble c = c .before .before .before
+
+abbrev code : tie.Else1 → tie.Start
+code c = c .before .before .before
+
+is-code : (c : tie.Else1) → code c .args .l .part ≡ 2
+is-code c = let s = code c in code-part (s .args .l) (s .pre .0 .part-in) (s .pre .1 .0) (c .if1 .left)
+
 fill-requires : tie.Need-fill-requires
 fill-requires c κs = search needs
 
@@ -17,18 +27,20 @@ same-length c = search needs
 
 returns : tie.Need-returns
 returns c =
-    let s = c .before .before .before .before .before .before .before in
-    let n = s .args .to - s .args .from in
-    c .before .before .fill .ensures ∙ ap (sets (s .args .sent .now) (s .args .from)) (preamble-levels (s .args .mode) (s .args .l) n (s .pre .1 .1 .0) (c .before .before .before .before .if1 .taken))
+    let t = c .before .before .before .before in
+    let s = preamble t in
+    let a = s .args in
+    c .before .before .fill .ensures
+    ∙ ap (sets (a .sent .now) (a .from))
+    (preamble-levels (a .mode) (a .l) (a .to - a .from) (s .pre .1 .1 .0) (t .if1 .taken))
 
 cast-put-code : tie.Need-cast-put-code
 cast-put-code c = search needs
 
 put-code-requires : tie.Need-put-code-requires
 put-code-requires c κs =
-    let s = c .before .before .before .before .before in
-    let e = code-part (s .args .l) (s .pre .0 .part-in) (s .pre .1 .0) (c .before .before .if1 .left) in
-    let m = code-ms (s .args .mode) (s .args .l) e in
+    let s = code (c .before .before) in
+    let m = code-ms (s .args .mode) (s .args .l) (is-code (c .before .before)) in
     let f = s .pre .1 .1 .0 in
     (s .pre .0 .code-in, (omega arith, s .pre .1 .1 .1))
 
@@ -37,10 +49,11 @@ same-length-2 c = search needs
 
 returns-2 : tie.Need-returns-2
 returns-2 c =
-    let s = c .before .before .before .before .before .before .before .before in
-    let n = s .args .to - s .args .from in
-    let e = code-part (s .args .l) (s .pre .0 .part-in) (s .pre .1 .0) (c .before .before .before .before .before .if1 .left) in
-    c .before .before .put-code .ensures ∙ ap (sets (s .args .sent .now) (s .args .from)) (code-levels (s .args .mode) (s .args .l) n (s .pre .1 .1 .0) e)
+    let t = c .before .before .before .before .before in
+    let s = code t in
+    let a = s .args in
+    c .before .before .put-code .ensures
+    ∙ ap (sets (a .sent .now) (a .from)) (code-levels (a .mode) (a .l) (a .to - a .from) (s .pre .1 .1 .0) (is-code t))
 
 pub put-spec : {M : Type 1} → statement M
 put-spec =

@@ -1,83 +1,96 @@
 -- `put_frame` meets its contract. The invariant: what is left, and the element of the next ms.
-use Prim.Native.Nat.{_-_}
+use Prim.Native.Nat.{_-_, _<_}
 use native.Mathlib.Omega.{arith}
-use Rattle.signal_runs.proofs.Elements.{putting-end, short, Framing, framing-start, element-few, element-some, framing-further, framing-turn}
+use Rattle.lists.specs.code.Places.{UpTo}
+use Rattle.signal_runs.specs.code.Levels.{elementEnd}
+use Rattle.signal_runs.proofs.Elements.{putting-end, Framing, framing-start, element-few, element-some, framing-further, framing-turn}
 use Rattle.signal_runs.proofs.put_frame.Statement.{statement}
 use Rattle.signal_runs.proofs.put_frame.Tie as tie
 
 abbrev Inv-loop : tie.InvT-loop
-Inv-loop mode code at sent₀ from to frame j₀ i₀ sent j i = Framing mode code at sent₀ from to sent i j
+Inv-loop mode frame at sent₀ from to j₀ i₀ sent j i = Framing mode frame at sent₀ from to sent i j
 
 abbrev μ-loop : tie.MeasureT-loop
-μ-loop mode code at sent₀ from to frame j₀ i₀ sent j i = to - i
+μ-loop mode frame at sent₀ from to j₀ i₀ sent j i = to - i
 
-frame-of-requires : tie.Need-frame-of-requires Inv-loop μ-loop
-frame-of-requires c κs = c .before .pre .1 .0
+-- A turn, and what was known before the loop.
+abbrev start : tie.In-loop Inv-loop μ-loop → tie.Start Inv-loop μ-loop
+start c = c .before .before .before .before
+
+abbrev turn : tie.After-element-end Inv-loop μ-loop → tie.In-loop Inv-loop μ-loop
+turn c = c .before .before .before
+
+abbrev end : tie.After-slice-known2 Inv-loop μ-loop → tie.After-up-to Inv-loop μ-loop
+end c = c .before .before .before .before
+
+few : (c : tie.In-loop Inv-loop μ-loop) → c .before .loop .j < 16
+few c =
+    let s = start c in
+    element-few _ _ _ _ _ _ _ _ _ (c .before .loop .inv) (c .loop-test .taken) (s .pre .0) (s .pre .1 .0)
+
+up-to : (c : tie.After-up-to Inv-loop μ-loop) → let s = start (turn (c .before)) .args in
+    UpTo (s .from) (elementEnd (s .mode) (c .before .before .run-end .result) - s .at) (s .to) (c .up-to .result)
+up-to c = rw (c .before .element-end .ensures) at (c .up-to .ensures)
+
+further : (c : tie.After-up-to Inv-loop μ-loop) → turn (c .before) .before .loop .i < c .up-to .result
+further c =
+    let t = turn (c .before) in
+    framing-further _ _ _ _ _ _ _ _ _ (t .before .loop .inv) (t .loop-test .taken) _
+    (c .before .before .run-end .ensures) _ (up-to c)
 
 element-at-requires : tie.Need-element-at-requires Inv-loop μ-loop
-element-at-requires c κs =
-    let s = c .before .before in
-    let m = short (s .args .mode) (s .args .code) (s .pre .1 .0) .most in
-    let f = s .pre .1 .1 .0 in
-    let l = s .pre .1 .1 .1 .0 in
-    omega arith
+element-at-requires c κs = let s = c .before in let f = s .pre .1 .0 in let l = s .pre .1 .1 .0 in omega arith
 
 loop-holds : tie.Need-loop-holds Inv-loop μ-loop
-loop-holds c = let s = c .before .before .before in let l = s .pre .1 .1 .1 .0 in framing-start _ (s .pre .0) _ _ (s .pre .1 .0) _ _ _ (s .pre .1 .1 .0) (omega arith) _ (c .element-at .ensures)
+loop-holds c =
+    let l = c .before .before .pre .1 .1 .0 in
+    framing-start _ _ _ _ _ _ (omega arith) _ (c .element-at .ensures)
 
 cast-frame-level : tie.Need-cast-frame-level Inv-loop μ-loop
-cast-frame-level c = let s = c .before .before .before .before .before in let h = element-few _ (s .pre .0) _ _ (s .pre .1 .0) _ _ _ (s .pre .1 .1 .0) _ _ _ (c .before .loop .inv) (c .loop-test .taken) in omega arith
+cast-frame-level c = let h = few c in omega arith
 
 frame-level-requires : tie.Need-frame-level-requires Inv-loop μ-loop
-frame-level-requires c κs = let s = c .before .before .before .before .before in element-few _ (s .pre .0) _ _ (s .pre .1 .0) _ _ _ (s .pre .1 .1 .0) _ _ _ (c .before .loop .inv) (c .loop-test .taken)
+frame-level-requires c κs = few c
 
 run-end-requires : tie.Need-run-end-requires Inv-loop μ-loop
-run-end-requires c κs = let s = c .before .before .before .before .before .before in (element-few _ (s .pre .0) _ _ (s .pre .1 .0) _ _ _ (s .pre .1 .1 .0) _ _ _ (c .before .before .loop .inv) (c .before .loop-test .taken), c .frame-level .ensures)
+run-end-requires c κs = (few (c .before), c .frame-level .ensures)
 
 element-end-requires : tie.Need-element-end-requires Inv-loop μ-loop
 element-end-requires c κs = c .run-end .ensures .high
 
 sub-up-to : tie.Need-sub-up-to Inv-loop μ-loop
 sub-up-to c =
-    let s = c .before .before .before .before .before .before .before .before in
+    let t = turn c in
     let e = c .element-end .ensures in
-    let r = rw (c .before .before .before .before .before .before .frame-of .ensures) at (c .before .run-end .ensures) in
-    let h = element-some _ (s .pre .0) _ _ (s .pre .1 .0) _ _ _ (s .pre .1 .1 .0) _ _ _ (c .before .before .before .before .loop .inv) (c .before .before .before .loop-test .taken) _ r in
+    let r = c .before .run-end .ensures in
+    let h = element-some _ _ _ _ _ _ _ _ _ (t .before .loop .inv) (t .loop-test .taken) _ r in
     omega arith
 
 up-to-requires : tie.Need-up-to-requires Inv-loop μ-loop
-up-to-requires c κs = let h = c .before .before .before .before .before .before .before .before .pre .1 .1 .1 .0 in omega arith
+up-to-requires c κs = let h = start (turn c) .pre .1 .1 .0 in omega arith
 
 fill-requires : tie.Need-fill-requires Inv-loop μ-loop
 fill-requires c κs =
-    let s = c .before .before .before .before .before .before .before .before .before .before in
-    let e = rw (c .before .before .element-end .ensures) at (c .before .up-to .ensures) in
-    let l = c .before .before .before .before .before .before .loop .inv in
-    let z = l .putting .size in
-    let q = s .pre .1 .1 .1 .1 in
-    let r = rw (c .before .before .before .before .before .before .before .before .frame-of .ensures) at (c .before .before .before .run-end .ensures) in
-    let f = framing-further _ (s .pre .0) _ _ (s .pre .1 .0) _ _ _ (s .pre .1 .1 .0) _ _ _ (c .before .before .before .before .before .before .loop .inv) (c .before .before .before .before .before .loop-test .taken) _ r _ e in
-    let high = e .high in
+    let t = turn (c .before .before) in
+    let z = t .before .loop .inv .putting .size in
+    let q = start t .pre .1 .1 .1 in
+    let f = further (c .before) in
+    let high = up-to (c .before) .high in
     (omega arith, omega arith)
 
 add-j : tie.Need-add-j Inv-loop μ-loop
-add-j c = let h = c .before .before .before .before .before .before .run-end .ensures .high in omega arith
+add-j c = let h = end c .before .before .run-end .ensures .high in omega arith
 
 loop-less : tie.Need-loop-less Inv-loop μ-loop
-loop-less c =
-    let s = c .before .before .before .before .before .before .before .before .before .before .before .before .before in
-    let e = rw (c .before .before .before .before .before .element-end .ensures) at (c .before .before .before .before .up-to .ensures) in
-    let r = rw (c .before .before .before .before .before .before .before .before .before .before .before .frame-of .ensures) at (c .before .before .before .before .before .before .run-end .ensures) in
-    let f = framing-further _ (s .pre .0) _ _ (s .pre .1 .0) _ _ _ (s .pre .1 .1 .0) _ _ _ (c .before .before .before .before .before .before .before .before .before .loop .inv) (c .before .before .before .before .before .before .before .before .loop-test .taken) _ r _ e in
-    let high = e .high in
-    omega arith
+loop-less c = let f = further (end c) in let high = up-to (end c) .high in omega arith
 
 loop-again : tie.Need-loop-again Inv-loop μ-loop
 loop-again c =
-    let s = c .before .before .before .before .before .before .before .before .before .before .before .before .before in
-    let e = rw (c .before .before .before .before .before .element-end .ensures) at (c .before .before .before .before .up-to .ensures) in
-    let r = rw (c .before .before .before .before .before .before .before .before .before .before .before .frame-of .ensures) at (c .before .before .before .before .before .before .run-end .ensures) in
-    framing-turn _ (s .pre .0) _ _ (s .pre .1 .0) _ _ _ (s .pre .1 .1 .0) _ _ _ (c .before .before .before .before .before .before .before .before .before .loop .inv) (c .before .before .before .before .before .before .before .before .loop-test .taken) _ r _ e _ (rw (c .before .before .before .before .before .before .before .before .before .before .before .frame-of .ensures) at (c .before .before .before .before .before .before .before .frame-level .ensures)) _ (c .before .before .fill .ensures)
+    let u = end c in
+    let t = turn (u .before) in
+    let r = u .before .before in
+    framing-turn _ _ _ _ _ _ _ _ _ (t .before .loop .inv) (t .loop-test .taken) _ (r .run-end .ensures) _ (up-to u) _
+    (r .before .frame-level .ensures) _ (c .before .before .fill .ensures)
 
 same-length : tie.Need-same-length Inv-loop μ-loop
 same-length c = c .before .loop .inv .putting .size
@@ -91,7 +104,6 @@ put-frame-spec =
     (tie.spec
     Inv-loop
     μ-loop
-    frame-of-requires
     element-at-requires
     loop-holds
     cast-frame-level

@@ -7,18 +7,12 @@ use Rattle.signal_runs.proofs.put_whole.Tie as tie
 enum-told : tie.Need-enum-told
 enum-told c = search needs
 
-cast-put-baudot : tie.Need-cast-put-baudot
-cast-put-baudot c = search needs
-
 put-baudot-requires : tie.Need-put-baudot-requires
 unfolding signal
 put-baudot-requires c κs = rw (c .before .enum-told .given .1) at (c .before .before .before .before .pre .1)
 
 enum-told-2 : tie.Need-enum-told-2
 enum-told-2 c = search needs
-
-cast-put-baudot-2 : tie.Need-cast-put-baudot-2
-cast-put-baudot-2 c = search needs
 
 put-baudot-requires-2 : tie.Need-put-baudot-requires-2
 unfolding signal
@@ -67,10 +61,8 @@ put-whole-spec =
     tie.close
     (tie.spec
     enum-told
-    cast-put-baudot
     put-baudot-requires
     enum-told-2
-    cast-put-baudot-2
     put-baudot-requires-2
     enum-told-3
     put-dtmf-requires

@@ -36,7 +36,9 @@ loop-less : tie.Need-loop-less Inv-loop μ-loop
 loop-less c = let h = c .before .before .loop-test .taken in omega arith
 
 loop-again : tie.Need-loop-again Inv-loop μ-loop
-loop-again c = run-turn _ _ _ (c .before .before .before .loop .inv) (c .before .before .loop-test .taken) (sym (c .before .frame-level .ensures) ∙ c .if1 .left ∙ c .before .before .before .before .pre .1)
+loop-again c =
+    run-turn _ _ _ (c .before .before .before .loop .inv) (c .before .before .loop-test .taken)
+    (sym (c .before .frame-level .ensures) ∙ c .if1 .left ∙ c .before .before .before .before .pre .1)
 
 returns-2 : tie.Need-returns-2 Inv-loop μ-loop
 returns-2 c = c .before .loop .inv

@@ -43,6 +43,10 @@ frameOf Baudot50 code = 192 + 2 * code
 frameOf Dtmf code = 0
 frameOf Edt code = edtFrame code
 
+-- The levels of a frame.
+abbrev pub frameLevel : Mode → ℕ → ℕ → ℕ → ℕ
+frameLevel mode frame at k = levelOf (frame / 2 ^ elementAt mode (at + k) % 2)
+
 -- The elements of a frame from one up to another have one level.
 pub record Run (frame j last : ℕ) : Type 0 where
   pub low : j ≤ last
@@ -51,5 +55,6 @@ pub record Run (frame j last : ℕ) : Type 0 where
 
 -- A mode whose codes are sent in frames.
 pub record Framed (mode : Mode) : Type 0 where
-  pub level : (code m : ℕ) → code < codes (alphabetOf mode) → m < length (signal mode code) → getD (signal mode code) m quiet ≡ levelOf (frameOf mode code / 2 ^ elementAt mode m % 2)
+  pub level : (code m : ℕ) → code < codes (alphabetOf mode) → m < length (signal mode code)
+      → getD (signal mode code) m quiet ≡ levelOf (frameOf mode code / 2 ^ elementAt mode m % 2)
   pub few : (m : ℕ) → m < longest mode → elementAt mode m < 16

@@ -10,7 +10,7 @@ use lib.Seq.{sets}
 use Rattle.lists.specs.Lists.{allAtMost}
 use Rattle.lists.proofs.Lists.{and-left, and-right, at-most-drop}
 use Rattle.half_duplex.specs.Core.{modeIn}
-use Rattle.half_duplex_runs.specs.code.Cores.{silenceFor, atRest}
+use Rattle.half_duplex_runs.specs.code.Cores.{silenceFor, isIdle}
 use Rattle.station_runs.specs.code.Stretches.{between}
 use Rattle.half_duplex_runs.proofs.Laws.{over-quiet}
 use Rattle.station_runs.proofs.Resting.{rests}
@@ -31,8 +31,8 @@ free-end-requires c κs = search needs
 fill-requires : tie.Need-fill-requires
 fill-requires c κs = search needs
 
-rests-requires : tie.Need-rests-requires
-rests-requires c κs = search needs
+stays-idle-requires : tie.Need-stays-idle-requires
+stays-idle-requires c κs = search needs
 
 sub-silence-for : tie.Need-sub-silence-for
 sub-silence-for c = search needs
@@ -54,9 +54,9 @@ returns c =
     let to = c .before .before .before .before .before .before .before .before .before .free-end .result in
     let xs = between (s .args .i) to (s .args .heard .now) in
     let r = s .args .c .reader in
-    let still = atRest r in
+    let still = isIdle r in
     let none = eqb (s .args .bound) 0 in
-    let e : (still && none) ≡ true = sym (c .before .before .before .rests .ensures) ∙ c .before .before .if1 .taken in
+    let e : (still && none) ≡ true = sym (c .before .before .before .stays-idle .ensures) ∙ c .before .before .if1 .taken in
     let quiet = sym (ap (λ (m : ℕ). allAtMost m xs) (eqb-true (s .args .bound) 0 (and-right still none e))) ∙ levels s to in
     let l = between-length (s .args .heard .now) (s .args .i) to (f .high) in
     let q = rests (modeIn (s .args .c)) r xs (and-left still none e) quiet in
@@ -123,7 +123,7 @@ listen-spec =
     (tie.spec
     free-end-requires
     fill-requires
-    rests-requires
+    stays-idle-requires
     sub-silence-for
     silence-for-requires
     listened-requires
