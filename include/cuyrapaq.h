@@ -42,8 +42,7 @@ extern "C" {
 
 /*
  * Answers. 0 is success, any other number is the reason of a refusal. The numbers are the same for all
- * entries of the engine; the conversions give 0, 1, 3, 9 and 10, the station 0 to 8, the calling set 0, 5,
- * 7, 11 and 12.
+ * entries of the engine. The comment of each entry lists those that it gives, in the order in which it asks.
  */
 #define CQ_OK                       0
 #define CQ_REFUSED_STATE            1 /* a number of the station, or the shift or count, is out of range */
