@@ -113,14 +113,14 @@ no-length (x ∷ l) e = absurd (omega arith)
 -- a core after some codes, and one more
 module _ (c : Core) (taken : ℕ) (s : Sender) (line : OnLine) (m n : ℕ) (q : Loaded) (h : 1 ≤ n) where
   core-join : sentFor (loadedCore (codedCore c taken s line m) q) n
-      ≡ codedCore c (cond (q .takes) (taken + 1) taken) (q .sender) (closed (modeIn c) (c .waiting - cond (q .takes) (taken + 1) taken) (further (q .line) n)) (m + n)
+      ≡ codedCore c (cond (q .takes) (taken + 1) taken) (q .sender) (closed (modeIn c) (mayEnd (c .waiting - cond (q .takes) (taken + 1) taken)) (further (q .line) n)) (m + n)
   unfolding sentFor loadedCore codedCore
   core-join =
       let w = waiting-join (c .waiting) taken (q .takes) in
       λ j. core (w j)
       (silence-join (c .silence) m n j)
       (burst-join (c .inhibited) m n h j)
-      (closed (modeIn c) (w j) (further (q .line) n))
+      (closed (modeIn c) (mayEnd (w j)) (further (q .line) n))
       (q .sender)
       (deaf-join (c .reader) m n h j)
       (c .mode)
@@ -131,7 +131,7 @@ module _ (c : Core) (taken : ℕ) (s : Sender) (line : OnLine) (m n : ℕ) (q : 
 pub record Begins (mode : Mode) (q : Loaded) : Type 0 where
   pub at-0 : q .line .at ≡ 0
   pub part-2 : q .line .part ≡ 2
-  pub code-in : q .line .code < codes (alphabetOf mode)
+  pub code-in : q .line .code .0 < codes (alphabetOf mode)
   pub sender-in : SenderIn (q .sender)
 
 begins : (mode : Mode) (l : OnLine) (s : Sender) → SenderIn s → (x : Sends) → isCode x ≡ true → SendsIn (alphabetOf mode) x → Begins mode (codeBegins (alphabetOf mode) l s x)
@@ -173,10 +173,10 @@ tabulate-drop xs a (suc n) i h =
     ap (λ (l : List ℕ). getD xs (a + i) 0 ∷ l) (tabulate-drop xs a n (suc i) (omega arith) ∙ ap (λ (m : ℕ). drop m xs) e) ∙ sym (drop-cons xs (a + i) 0 (omega arith))
 
 module _ (mode : Mode) (l : OnLine) (z : l .at ≡ 0) (p : l .part ≡ 2) where
-  whole-levels : signal mode (l .code) ≡ tabulate (λ (k : ℕ). getD (signal mode (l .code)) (l .at + k) 0) (length (signal mode (l .code))) 0
+  whole-levels : signal mode (l .code .0) ≡ tabulate (λ (k : ℕ). getD (signal mode (l .code .0)) (l .at + k) 0) (length (signal mode (l .code .0))) 0
   whole-levels =
       let d : l .at + 0 ≡ 0 = omega arith in
-      sym (tabulate-drop (signal mode (l .code)) (l .at) (length (signal mode (l .code))) 0 (omega arith) ∙ ap (λ (m : ℕ). drop m (signal mode (l .code))) d)
+      sym (tabulate-drop (signal mode (l .code .0)) (l .at) (length (signal mode (l .code .0))) 0 (omega arith) ∙ ap (λ (m : ℕ). drop m (signal mode (l .code .0))) d)
 
 -- ---- the loop
 
@@ -283,10 +283,10 @@ module _ (heard chars sent₀ : List ℕ) (c : Core) (i : ℕ) (within : i ≤ l
           ∙ sym (code-next (modeIn c) (c .waiting - taken) (getD (movedBy taken chars) 0 0) line s (λ (z : c .waiting - taken ≡ 0). omega arith) o)
           ∙ sym (ap (λ (x : OnLine). nextCode (modeIn c) (c .waiting - taken) (getD (movedBy taken chars) 0 0) x s) (begun-same m line t))
 
-      module _ (ms : ℕ) (em : ms ≡ length (signal (modeIn c) (q .line .code))) (room : at + ms ≤ length heard)
-          (sent' : List ℕ) (es : sent' ≡ sets sent₁ at (signal (modeIn c) (q .line .code))) where
+      module _ (ms : ℕ) (em : ms ≡ length (signal (modeIn c) (q .line .code .0))) (room : at + ms ≤ length heard)
+          (sent' : List ℕ) (es : sent' ≡ sets sent₁ at (signal (modeIn c) (q .line .code .0))) where
         some : 1 ≤ ms
-        some = let f = few-codes (alphabetOf (modeIn c)) in let k = q-begins .code-in in let o = some-ms (modeIn c) (q .line .code) (omega arith) in omega arith
+        some = let f = few-codes (alphabetOf (modeIn c)) in let k = q-begins .code-in in let o = some-ms (modeIn c) (q .line .code .0) (omega arith) in omega arith
 
         part-length : length (partMs (modeIn c) (q .line)) ≡ ms
         part-length = code-ms (modeIn c) (q .line) (q-begins .part-2) ∙ sym em
@@ -300,11 +300,11 @@ module _ (heard chars sent₀ : List ℕ) (c : Core) (i : ℕ) (within : i ≤ l
         abbrev next : Core
         next = sentFor (loadedCore now q) ms
 
-        written-levels : sent' ≡ sets sent₁ at (tabulate (λ (k : ℕ). getD (signal (modeIn c) (q .line .code)) (q .line .at + k) 0) (at + ms - at) 0)
+        written-levels : sent' ≡ sets sent₁ at (tabulate (λ (k : ℕ). getD (signal (modeIn c) (q .line .code .0)) (q .line .at + k) 0) (at + ms - at) 0)
         written-levels =
-            let n : length (signal (modeIn c) (q .line .code)) ≡ at + ms - at = omega arith in
+            let n : length (signal (modeIn c) (q .line .code .0)) ≡ at + ms - at = omega arith in
             es ∙ ap (sets sent₁ at) (whole-levels (modeIn c) (q .line) (q-begins .at-0) (q-begins .part-2)
-            ∙ ap (λ (m : ℕ). tabulate (λ (k : ℕ). getD (signal (modeIn c) (q .line .code)) (q .line .at + k) 0) m 0) n)
+            ∙ ap (λ (m : ℕ). tabulate (λ (k : ℕ). getD (signal (modeIn c) (q .line .code .0)) (q .line .at + k) 0) m 0) n)
 
         stretch : Stretches heard now (movedBy taken chars) sent₁ [] at 0 (record { core = next; at = at + ms; words = 0 }) sent' []
         unfolding loadedCore codedCore
@@ -327,28 +327,29 @@ module _ (heard chars sent₀ : List ℕ) (c : Core) (i : ℕ) (within : i ≤ l
             ap (λ (m : ℕ). take m (drop i heard)) e₁ ∙ take-add (at - i) (at + ms - at) (drop i heard)
             ∙ ap (λ (l : List ℕ). between i at heard ++ take (at + ms - at) l) (drop-drop (at - i) i heard ∙ ap (λ (m : ℕ). drop m heard) e₂)
 
-        whole-over : isOver (modeIn c) (onLine (q .line .part) (q .line .code) ms) ≡ true
+        whole-over : isOver (modeIn c) (onLine (q .line .part) (q .line .code .0) ms) ≡ true
         whole-over =
             let z = q-begins .at-0 in
             let l = part-length in
             let n : q .line .at + ms ≡ ms = omega arith in
-            sym (ap (λ (m : ℕ). isOver (modeIn c) (onLine (q .line .part) (q .line .code) m)) n)
+            sym (ap (λ (m : ℕ). isOver (modeIn c) (onLine (q .line .part) (q .line .code .0) m)) n)
             ∙ sym (gone-over (modeIn c) (q .line) more ms ms (omega arith) (omega arith)) ∙ eq-eqb ms ms refl
 
-        whole-closed : (w : ℕ) → ended true w (onLine (q .line .part) (q .line .code) ms) ≡ closed (modeIn c) w (further (q .line) ms)
+        whole-closed : (ends : Bool) → ended true ends (onLine (q .line .part) (q .line .code .0) ms) ≡ closed (modeIn c) ends (further (q .line) ms)
         unfolding closed
-        whole-closed w =
+        whole-closed ends =
             let z = q-begins .at-0 in
             let n : ms ≡ q .line .at + ms = omega arith in
-            sym (ap (λ (b : Bool). ended b w (onLine (q .line .part) (q .line .code) ms)) whole-over)
-            ∙ ap (λ (m : ℕ). closed (modeIn c) w (onLine (q .line .part) (q .line .code) m)) n
+            sym (ap (λ (b : Bool). ended b ends (onLine (q .line .part) (q .line .code .0) ms)) whole-over)
+            ∙ ap (λ (m : ℕ). closed (modeIn c) ends (onLine (q .line .part) (q .line .code .0) m)) n
 
-        not-ended : (taken' : ℕ) → taken' < c .waiting → ended true (c .waiting - taken') (onLine (q .line .part) (q .line .code) ms) ≡ onLine (q .line .part) (q .line .code) ms
+        not-ended : (taken' : ℕ) → taken' < c .waiting
+            → ended true (mayEnd (c .waiting - taken')) (onLine (q .line .part) (q .line .code .0) ms) ≡ onLine (q .line .part) (q .line .code .0) ms
         unfolding mayEnd
         not-ended taken' x = rw (ne-eqb (c .waiting - taken') 0 (λ (z : c .waiting - taken' ≡ 0). omega arith), and-false) refl
 
         pub coded-turn : (taken' : ℕ) → taken' ≡ cond (q .takes) (taken + 1) taken
-            → (line' : OnLine) → line' ≡ ended true (c .waiting - taken') (onLine (q .line .part) (q .line .code) ms)
+            → (line' : OnLine) → line' ≡ ended true (mayEnd (c .waiting - taken')) (onLine (q .line .part) (q .line .code .0) ms)
             → Coded heard chars sent₀ c i sent' taken' (q .sender) line' (at + ms)
         coded-turn taken' et line' el =
             let low = d .low in
@@ -358,11 +359,11 @@ module _ (heard chars sent₀ : List ℕ) (c : Core) (i : ℕ) (within : i ≤ l
             let ys = between at (at + ms) heard in
             let k = cut start xs ys in
             let w = c .waiting - taken' in
-            let line : line' ≡ closed (modeIn c) w (further (q .line) ms) = el ∙ whole-closed w in
+            let line : line' ≡ closed (modeIn c) (mayEnd w) (further (q .line) ms) = el ∙ whole-closed (mayEnd w) in
             let z : at + ms - i ≡ (at - i) + ms = omega arith in
             let f : codedCore c taken' (q .sender) line' (at + ms - i) ≡ next =
             (λ j. codedCore c taken' (q .sender) (line j) (z j))
-            ∙ ap (λ (m : ℕ). codedCore c m (q .sender) (closed (modeIn c) (c .waiting - m) (further (q .line) ms)) ((at - i) + ms)) et
+            ∙ ap (λ (m : ℕ). codedCore c m (q .sender) (closed (modeIn c) (mayEnd (c .waiting - m)) (further (q .line) ms)) ((at - i) + ms)) et
             ∙ sym (core-join c taken s _ (at - i) ms q o) in
             let b = coded-station in
             let size = between-length heard i at (d .high) in
@@ -374,7 +375,7 @@ module _ (heard chars sent₀ : List ℕ) (c : Core) (i : ℕ) (within : i ≤ l
               high = room;
               few = subst (λ (m : ℕ). m ≤ c .waiting) (sym et) (either (λ (m : ℕ). m ≤ c .waiting) (q .takes) (taken + 1) taken (omega arith) (omega arith));
               first = λ (x : at + ms ≡ i). absurd (omega arith);
-              size = ap length es ∙ length-sets sent₁ at (signal (modeIn c) (q .line .code)) ∙ d .size;
+              size = ap length es ∙ length-sets sent₁ at (signal (modeIn c) (q .line .code .0)) ∙ d .size;
               sender-in = q-begins .sender-in;
               over = λ (x : taken' < c .waiting). ap (isOver (modeIn c)) (el ∙ not-ended taken' x) ∙ whole-over;
               after = f ∙ t .after ∙ ap (λ (y : Station). stationAfter y ys .core) b ∙ sym (ap (λ (y : Station). y .core) (ap (stationAfter start) together ∙ k .station));

@@ -15,7 +15,7 @@ use Rattle.half_duplex.specs.declared.Core.{Core}
 use Rattle.burst.specs.declared.Loaded.{Loaded}
 use Rattle.half_duplex.specs.declared.Stepped.{Stepped}
 use Rattle.burst.specs.Line.{inBurst, partMs, isOver}
-use Rattle.half_duplex.specs.Core.{modeIn, settled, stepped}
+use Rattle.half_duplex.specs.Core.{modeIn, settled, stepped, coreFrom}
 use Rattle.half_duplex.specs.code.Bounds.{CoreIn}
 use Rattle.burst.proofs.Range.{LoadedIn}
 use Rattle.half_duplex.proofs.Range.{settled-in}
@@ -71,7 +71,7 @@ module _ (heard : List ℕ) (c : Core) (chars sent words₀ : List ℕ) (i n : �
         → (n' : ℕ) → n' ≡ n + length (wordOf (q .event))
         → (words' : List ℕ) → words' ≡ sets words₀ n (wordOf (q .event))
         → Stretches heard c chars sent words₀ i n (record { core = q .core; at = i + 1; words = n' }) sent' words'
-    unfolding stateAfter outputs wordsOf stationMs sentMs eventOf
+    unfolding stateAfter outputs wordsOf stationMs sentMs eventOf coreFrom
     step-stretch sent' es n' en words' ew =
         let o = between-one heard i h in
         let s = station c chars in

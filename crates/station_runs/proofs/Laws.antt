@@ -22,7 +22,7 @@ use Rattle.reader.specs.Words.{wordOf, wordsOf, readerAfter, words}
 use Rattle.half_duplex.specs.declared.Core.{Core}
 use Rattle.burst.specs.declared.OnLine.{OnLine}
 use Rattle.burst.specs.declared.Loaded.{Loaded}
-use Rattle.burst.specs.Rules.{mayBegin, isInhibited, isSilent}
+use Rattle.burst.specs.Rules.{mayBegin, isInhibited, isSilent, mayEnd}
 use Rattle.burst.specs.Line.{further, onLine, inBurst, partMs, isOver, begun, loaded, nextCode, levelOn, oneGone, closed}
 use Rattle.half_duplex.specs.Core.{core, silenceAfter, eventMs, modeIn, settled, coreFrom}
 use Rattle.burst.proofs.Laws.{level-over, not-over, gone-none, gone-one, stays-left}
@@ -177,8 +177,8 @@ module _ (l : OnLine) (e : l .part ≡ 0) where
     idle-level : levelOn mode l ≡ 0
     idle-level = level-over mode l (let z = no-ms in omega arith)
 
-    idle-stays : (waiting : ℕ) → closed mode waiting (oneGone mode l) ≡ l
-    idle-stays waiting = ap (closed mode waiting) (gone-none mode l (let z = no-ms in omega arith)) ∙ stays-left mode l waiting idle-over
+    idle-stays : (ends : Bool) → closed mode ends (oneGone mode l) ≡ l
+    idle-stays ends = ap (closed mode ends) (gone-none mode l (let z = no-ms in omega arith)) ∙ stays-left mode l ends idle-over
 
 may-not : (waiting silence : ℕ) → (1 ≤ waiting → silence < 300) → mayBegin waiting silence ≡ false
 unfolding mayBegin
@@ -207,7 +207,7 @@ module _ (c : Core) (chars : List ℕ) (e : c .line .part ≡ 0) where
       let o = one-settled (station d chars) x (idle-settled d _ e (λ (q : 1 ≤ c .waiting). silence-below (c .silence) k (w q))) in
       let silence : silenceAfter (isSilent (isInhibited (inBurst (c .line)) (c .inhibited - k)) x) (silenceFor (c .silence) k) ≡ silenceFor (c .silence) (suc k) = rw t (silence-more (c .silence) k) in
       let left : cond (inBurst (c .line)) 300 (c .inhibited - k - 1) ≡ c .inhibited - suc k = rw b (omega arith) in
-      let line = idle-stays (c .line) e (modeIn c) (c .waiting) in
+      let line = idle-stays (c .line) e (modeIn c) (mayEnd (c .waiting)) in
       let reader : cond (isInhibited (inBurst (c .line)) (c .inhibited - k)) (inhibited (deafReader (c .reader) k)) (hear (modeIn c) (deafReader (c .reader) k) x .reader) ≡ deafReader (c .reader) (suc k) = rw t (reader-more (c .reader) k) in
       record {
         after = o .after ∙ (λ j. station (core (c .waiting) (silence j) (left j) (line j) (c .sender) (reader j) (c .mode)) chars);
@@ -241,7 +241,7 @@ module _ (mode : Mode) (l : OnLine) (h : l .at < length (partMs mode l)) where
       go false e = refl
 
   -- it is over when all are gone
-  pub gone-over : (n left : ℕ) → l .at + left ≡ length (partMs mode l) → n ≤ left → eqb n left ≡ isOver mode (onLine (l .part) (l .code) (l .at + n))
+  pub gone-over : (n left : ℕ) → l .at + left ≡ length (partMs mode l) → n ≤ left → eqb n left ≡ isOver mode (further l n)
   unfolding isOver partMs
   gone-over n left e few = go (eqb n left) refl ∙ sym (ap (λ (b : Bool). b && leb (length (partMs mode l)) (l .at + n)) left-burst)
     where
@@ -258,12 +258,12 @@ module _ (mode : Mode) (l : OnLine) (k : ℕ) (h : l .at + k < length (partMs mo
   unfolding isOver partMs
   further-left = rw (lt-leb (length (partMs mode l)) (l .at + k) h, and-false) refl
 
-  further-stays : (waiting : ℕ) → closed mode waiting (further l k) ≡ further l k
-  further-stays waiting = stays-left mode (further l k) waiting further-left
+  further-stays : (ends : Bool) → closed mode ends (further l k) ≡ further l k
+  further-stays ends = stays-left mode (further l k) ends further-left
 
   further-gone : oneGone mode (further l k) ≡ further l (suc k)
   unfolding partMs
-  further-gone = gone-one mode (further l k) h ∙ ap (onLine (l .part) (l .code)) (omega arith)
+  further-gone = gone-one mode (further l k) h ∙ ap (onLine (l .part) (l .code .0)) (omega arith)
 
 module _ (c : Core) (chars : List ℕ) (b : inBurst (c .line) ≡ true) where
   -- what is on the line has ms left, so that it is not closed
@@ -273,13 +273,13 @@ module _ (c : Core) (chars : List ℕ) (b : inBurst (c .line) ≡ true) where
   part-step k x h =
       let mode = modeIn c in
       let d = core (c .waiting) (silenceFor (c .silence) k) (burstLeft (c .inhibited) k) (further (c .line) k) (c .sender) (deafReader (c .reader) k) (c .mode) in
-      let stays = further-stays mode (c .line) k h (c .waiting) in
+      let stays = further-stays mode (c .line) k h (mayEnd (c .waiting)) in
       let same : sentFor c k ≡ d = λ j. core (c .waiting) (silenceFor (c .silence) k) (burstLeft (c .inhibited) k) (stays j) (c .sender) (deafReader (c .reader) k) (c .mode) in
       let t : (mayBegin (c .waiting) (silenceFor (c .silence) k) && not (inBurst (c .line))) ≡ false = rw (b, and-false) refl in
       let o = one-settled (station d chars) x (settled-by d _ t (further-left mode (c .line) k h)) in
       let silence : silenceAfter (isSilent (isInhibited (inBurst (c .line)) (burstLeft (c .inhibited) k)) x) (silenceFor (c .silence) k) ≡ silenceFor (c .silence) (suc k) = rw b (silence-more (c .silence) k) in
       let left : cond (inBurst (c .line)) 300 (burstLeft (c .inhibited) k - 1) ≡ 300 = rw b refl in
-      let line = ap (closed mode (c .waiting)) (further-gone mode (c .line) k h) in
+      let line = ap (closed mode (mayEnd (c .waiting))) (further-gone mode (c .line) k h) in
       let reader : cond (isInhibited (inBurst (c .line)) (burstLeft (c .inhibited) k)) (inhibited (deafReader (c .reader) k)) (hear mode (deafReader (c .reader) k) x .reader) ≡ deafReader (c .reader) (suc k) = rw b (reader-more (c .reader) k) in
       let step : Step (station d chars) x (station (sentFor c (suc k)) chars) (levelOn mode (further (c .line) k)) = record {
         after = o .after ∙ (λ j. station (core (c .waiting) (silence j) (left j) (line j) (c .sender) (reader j) (c .mode)) chars);
@@ -293,7 +293,7 @@ module _ (c : Core) (chars : List ℕ) (b : inBurst (c .line) ≡ true) where
   part-none h f =
       let s = silence-none (c .silence) h in
       let z : c .line .at + 0 ≡ c .line .at = omega arith in
-      let p = ap (λ (m : ℕ). closed (modeIn c) (c .waiting) (onLine (c .line .part) (c .line .code) m)) z ∙ stays-left (modeIn c) (c .line) (c .waiting) f in
+      let p = ap (λ (m : ℕ). closed (modeIn c) (mayEnd (c .waiting)) (onLine (c .line .part) (c .line .code .0) m)) z ∙ stays-left (modeIn c) (c .line) (mayEnd (c .waiting)) f in
       λ j. core (c .waiting) (s j) (c .inhibited) (p j) (c .sender) (c .reader) (c .mode)
 
   pub part-walk : (xs : List ℕ) → c .line .at + length xs ≤ length (partMs (modeIn c) (c .line)) → c .silence ≤ 300 → isOver (modeIn c) (c .line) ≡ false
@@ -335,7 +335,7 @@ module _ (c : Core) (chars : List ℕ) (e : c .line .part ≡ 0) (i : c .inhibit
       let o = one-settled (station d chars) x (idle-settled d _ e w) in
       let s : silenceAfter (isSilent (isInhibited (inBurst (c .line)) (c .inhibited)) x) silence ≡ silenceNext silence x = rw t refl in
       let left : cond (inBurst (c .line)) 300 (c .inhibited - 1) ≡ c .inhibited = rw b (omega arith) in
-      let line = idle-stays (c .line) e (modeIn c) (c .waiting) in
+      let line = idle-stays (c .line) e (modeIn c) (mayEnd (c .waiting)) in
       let q : cond (isInhibited (inBurst (c .line)) (c .inhibited)) (inhibited r) (hear (modeIn c) r x .reader) ≡ hear (modeIn c) r x .reader = rw t refl in
       record {
         after = o .after ∙ (λ j. station (core (c .waiting) (s j) (left j) (line j) (c .sender) (q j) (c .mode)) chars);

@@ -30,6 +30,9 @@ cast-goes-on c = search needs
 longest-requires : tie.Need-longest-requires
 longest-requires c κs = search needs
 
+cast-goes-on-2 : tie.Need-cast-goes-on-2
+cast-goes-on-2 c = search needs
+
 goes-on-requires : tie.Need-goes-on-requires
 goes-on-requires c κs = search needs
 
@@ -50,5 +53,6 @@ follows-spec =
     returns
     cast-goes-on
     longest-requires
+    cast-goes-on-2
     goes-on-requires
     returns-2)

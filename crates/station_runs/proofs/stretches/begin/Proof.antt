@@ -28,7 +28,7 @@ step-requires c κs =
     let s = c .before .before .before .before .before .before .before .before .before .before .before in
     let p = s .pre in
     let h = p .1 .1 in
-    let j = subst (LoadedIn (modeIn (s .args .c))) (sym (c .before .before .before .before .before .before .before .settle .ensures)) (settled-in (s .args .c) (s .args .front) (p .0) (p .1 .0)) in
+    let j = subst (LoadedIn (modeIn (s .args .c))) (sym (c .before .before .before .before .before .before .before .settle .ensures)) (settled-in (s .args .c) (s .args .front .0) (p .0) (p .1 .0)) in
     (p .0, (j .line-in, (h .0, (omega arith, h .1 .1))))
 
 same-length : tie.Need-same-length
@@ -40,7 +40,7 @@ same-length-2 c = search needs
 returns : tie.Need-returns
 returns c =
     let s = c .before .before .before .before .before .before .before .before .before .before .before .before .before .before .before .before in
-    λ (chars : List ℕ) (e : getD chars 0 0 ≡ s .args .front). c .before .before .before .before .step .ensures chars (c .before .before .before .before .before .before .before .before .before .before .before .before .settle .ensures ∙ sym (ap (settled (s .args .c)) e))
+    λ (chars : List ℕ) (e : getD chars 0 0 ≡ s .args .front .0). c .before .before .before .before .step .ensures chars (c .before .before .before .before .before .before .before .before .before .before .before .before .settle .ensures ∙ sym (ap (settled (s .args .c)) e))
 
 -- ms of what is on the line are left
 more : (c : tie.Else1) → c .before .before .before .before .before .settle .result .line .at < length (partMs (modeIn (c .before .before .before .before .before .before .before .before .before .args .c)) (c .before .before .before .before .before .settle .result .line))
@@ -74,7 +74,7 @@ same-length-3 c = search needs
 returns-2 : tie.Need-returns-2
 returns-2 c =
     let s = c .before .before .before .before .before .before .before .before .before .before .before .before .before .before .before in
-    λ (chars : List ℕ) (e : getD chars 0 0 ≡ s .args .front).
+    λ (chars : List ℕ) (e : getD chars 0 0 ≡ s .args .front .0).
     begin-stretch _ _ chars _ _ _ _ _ (c .before .before .before .before .before .before .before .before .before .before .before .settle .ensures ∙ sym (ap (settled (s .args .c)) e)) (more (c .before .before .before .before .before .before)) _ (c .before .before .before .before .before .loaded .ensures) _ _ _ (c .before .before .send .ensures _ _)
 
 pub begin-spec : {M : Type 1} → statement M
