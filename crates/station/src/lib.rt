@@ -24,13 +24,6 @@ pub struct Answered {
     pub answer: u8,
 }
 
-// A core after a run, 0 or the number of the refusal, and how many words were written.
-pub struct Ran {
-    pub core: Core,
-    pub answer: u8,
-    pub words: usize,
-}
-
 // A fresh core of a mode's number.
 fn fresh(mode: u8) -> Core
     ensures { λ r. ⌜ r ≡ freshCore mode ⌝ }

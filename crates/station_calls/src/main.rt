@@ -7,7 +7,7 @@ use half_duplex::Core;
 use libc::STDIN_FILENO;
 use libc::STDOUT_FILENO;
 use station::Answered;
-use station::Ran;
+use station_entry::Ran;
 ghost use mathlib.Core.Path.{_≡_};
 ghost use lib.ListN.{length};
 

@@ -7,7 +7,7 @@ use lib.ListN.{length}
 use lib.Seq.{sets}
 use Rattle.lists.proofs.Lists.{sets-front}
 use Rattle.station.specs.declared.Station.{Station}
-use Rattle.station.specs.declared.Ran.{Ran}
+use Rattle.station_entry.specs.declared.Ran.{Ran}
 use Rattle.station.specs.Station.{station, stationAfter, sentBy, wordsBy}
 use Rattle.station.specs.Entries.{StationRan, runAnswer, ran, ranOf, sentAfter, wordsAfter}
 use Rattle.station.proofs.Answers.{refused-run, refused-sent, refused-words}

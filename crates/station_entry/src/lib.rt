@@ -1,7 +1,6 @@
 // Running a station: the questions of a run.
 use alphabet::Mode;
 use half_duplex::Core;
-use station::Ran;
 ghost use mathlib.Core.Path.{_≡_};
 ghost use lib.ListN.{length};
 ghost use Rattle.station.specs.Station.{station};
@@ -12,16 +11,11 @@ ghost use Rattle.station.specs.Entries.{ranOf, sentAfter, wordsAfter};
 // The most ms of one call.
 pub const LONGEST: usize = 4_096;
 
-// The highest level that is heard in a mode.
-fn highest_level(mode: Mode) -> u8
-    ensures { λ r. ⌜ r ≡ highestLevel mode ⌝ }
-{
-    match mode {
-        Mode::Baudot45 => 2,
-        Mode::Baudot50 => 2,
-        Mode::Dtmf => 16,
-        Mode::Edt => 2,
-    }
+// A core after a run, 0 or the number of the refusal, and how many words were written.
+pub struct Ran {
+    pub core: Core,
+    pub answer: u8,
+    pub words: usize,
 }
 
 // A run that is refused.
@@ -69,7 +63,7 @@ pub fn run(c: Core, chars: &mut [u8; 256], heard: &[u8], sent: &mut [u8], words:
         return refused(c, 5);
     }
     let highest = lists::checks::largest(heard);
-    if highest_level(Mode::of(c.mode)) < highest {
+    if Mode::of(c.mode).highest_level() < highest {
         return refused(c, 6);
     }
     if sent.len() < heard.len() {

@@ -17,7 +17,7 @@ use Rattle.station_entry.proofs.run.Statement.{statement}
 use Rattle.station_entry.proofs.run.Tie as tie
 use Rattle.alphabet.proofs.Mode.of.Reads as of-reads
 use Rattle.lists.proofs.checks.largest.Reads as largest-reads
-use Rattle.station_entry.proofs.highest_level.Reads as highest-level-reads
+use Rattle.alphabet.proofs.Mode.highest_level.Reads as highest-level-reads
 use Rattle.station_entry.proofs.refused.Reads as refused-reads
 use Rattle.station_entry.proofs.in_range.Reads as in-range-reads
 use Rattle.station_runs.proofs.run_all.Reads as run-all-reads

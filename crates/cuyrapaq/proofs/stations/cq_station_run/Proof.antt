@@ -44,11 +44,11 @@ use Rattle.half_duplex.specs.declared.Core.{Core}
 use Rattle.half_duplex.proofs.Core as K
 use Rattle.half_duplex.proofs.Core.Laws as K′
 use Rattle.station.specs.declared.Station.{Station}
-use Rattle.station.specs.declared.Ran.{Ran}
+use Rattle.station_entry.specs.declared.Ran.{Ran}
 use Rattle.station.specs.Station.{station}
 use Rattle.station.specs.Entries.{ranOf, sentAfter, wordsAfter}
-use Rattle.station.proofs.Ran as R
-use Rattle.station.proofs.Ran.Laws as R′
+use Rattle.station_entry.proofs.Ran as R
+use Rattle.station_entry.proofs.Ran.Laws as R′
 use Rattle.station.proofs.Station as T
 use Rattle.station_entry.proofs.run as g
 use Rattle.station_entry.proofs.run.Symbol as g-def
