@@ -1,7 +1,8 @@
 -- `sending::level_on` meets its contract: behind the part, in the preamble, in a code.
 use mathlib.Core.Path.{_∙_, sym}
 use native.Mathlib.Omega.{arith}
-use Rattle.half_duplex.proofs.Laws.{level-over, level-preamble, code-part, level-code, code-ms, within}
+use Rattle.signal.proofs.Lengths.{within-longest}
+use Rattle.half_duplex.proofs.Laws.{level-over, level-preamble, code-part, level-code, code-ms}
 use borrow.Author.Needs.{needs}
 use Rattle.half_duplex.proofs.sending.level_on.Statement.{statement}
 use Rattle.half_duplex.proofs.sending.level_on.Tie as tie
@@ -24,7 +25,7 @@ level-requires c κs = let s = c .before .before .before .before .before in
     let p = c .before .before .before .before .part-ms .ensures in
     let e = code-part (s .args .mode) (s .args .l) (s .pre .part-in) (c .if2 .left) (omega (arith, c .before .before .if1 .left)) in
     let n = code-ms (s .args .mode) (s .args .l) e in
-    let w = within (s .args .mode) (s .args .l .code) (search needs) in
+    let w = within-longest (s .args .mode) (s .args .l .code) (search needs) in
     (s .pre .code-in, omega (arith, c .before .before .if1 .left))
 
 returns-3 : tie.Need-returns-3

@@ -15,7 +15,7 @@ use Rattle.alphabet.specs.code.Numbers.{longest}
 use Rattle.half_duplex.specs.Line.{codeBegins}
 use Rattle.half_duplex.specs.Core.{modeIn}
 use Rattle.half_duplex.specs.Range.{CoreIn, SendsIn}
-use Rattle.half_duplex.proofs.Laws.{within}
+use Rattle.signal.proofs.Lengths.{within-longest}
 use Rattle.half_duplex.proofs.Range.{sends-in}
 use Rattle.queue.specs.Queue.{movedBy}
 use Rattle.queue.proofs.Moves.{moved-by-length, moved-place}
@@ -132,7 +132,7 @@ code-byte c = let h = begins c .code-in in let f = few-codes (alphabetOf (modeIn
 -- it has room
 code-fits : (c : tie.After-code-begins Inv-loop μ-loop) → c .before .before .before .before .before .before .loop .at + length (signal (modeIn (c .before .before .before .before .before .before .before .before .before .before .before .before .before .before .before .before .before .args .c)) (c .code-begins .result .line .code)) ≤ length (c .before .before .before .before .before .before .before .before .before .before .before .before .before .before .before .before .before .args .heard .now)
 code-fits c =
-    let w = within (modeIn (c .before .before .before .before .before .before .before .before .before .before .before .before .before .before .before .before .before .args .c)) (c .code-begins .result .line .code) (code-byte c) in
+    let w = within-longest (modeIn (c .before .before .before .before .before .before .before .before .before .before .before .before .before .before .before .before .before .args .c)) (c .code-begins .result .line .code) (code-byte c) in
     let r = test (c .before .before .before .before) .fits in
     let u = c .before .before .before .before .before .before .loop .inv .high in
     omega arith

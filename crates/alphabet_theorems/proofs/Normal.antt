@@ -1,4 +1,4 @@
--- The normal form: the theorems that document 01 names, and what `table::normal` needs.
+-- The normal form: the theorems that document 01 names.
 use mathlib.Core.Path.{_≡_, _∙_, refl, sym, ap, subst}
 use mathlib.Core.Bool.{Bool, true, false, cond}
 use mathlib.Core.Logic.{_↔_, _⊎_, inl, inr}
@@ -9,30 +9,16 @@ use lib.ListN.{length}
 use native.Mathlib.Omega.{arith}
 use borrow.Author.Tests.{eqb-true}
 use Rattle.lists.proofs.Lists.{at-most-head, at-most-tail}
 use Rattle.alphabet.specs.declared.Alphabet.{Alphabet}
 use Rattle.alphabet.specs.declared.Alphabet.the-variants.{Baudot, Dtmf, Edt}
 use Rattle.alphabet.specs.declared.LineCode.{LineCode}
 use Rattle.alphabet.specs.declared.Sends.{Sends}
 use Rattle.alphabet.specs.declared.Sends.the-variants.{Nothing, Code}
 use Rattle.alphabet.specs.declared.Reads.{Reads}
 use Rattle.alphabet.specs.declared.Reads.the-variants.{Character, Shift, NoRow}
 use Rattle.alphabet.specs.Baudot.{readBaudot}
 use Rattle.alphabet.specs.Normal.{sends, reads, charsOf, readBack, normal, normalForm, allChars}
-use Rattle.alphabet.proofs.Rule.{ReadBack, rule-of}
-
-pub nothing-read : (a : Alphabet) (c : ℕ) (s : Sends) → s ≡ sends a c → s ≡ Nothing → NoRow ≡ readBack a (sends a c)
-nothing-read a c s e n = simp (sym e ∙ n)
-
-pub code-read : (a : Alphabet) (c shift : ℕ) (k : LineCode) (s : Sends) (r : Reads)
-    → s ≡ sends a c → s ≡ Code shift k → r ≡ reads a shift (k .0) → r ≡ readBack a (sends a c)
-code-read a c shift k s r e d q = q ∙ (simp (sym e ∙ d))
-
--- what an alphabet that is known reads
-pub reads-as : (a b : Alphabet) (shift n : ℕ) (r : Reads) → a ≡ b → r ≡ reads b shift n → r ≡ reads a shift n
-reads-as a b shift n r p q = q ∙ ap (λ (x : Alphabet). reads x shift n) (sym p)
-
-pub baudot-code-in : (a : Alphabet) (c shift : ℕ) (k : LineCode) (s : Sends) → c < 128 → s ≡ sends a c → s ≡ Code shift k → a ≡ Baudot → k .0 < 32
-baudot-code-in a c shift k s h e d p = rule-of Baudot c h shift k (subst (λ (b : Alphabet). sends b c ≡ Code shift k) p (sym e ∙ d)) .code-in
+use Rattle.alphabet_theorems.proofs.Rule.{ReadBack, rule-of}
 
 -- a reader takes a code of both shifts as in letters
 any-shift : (a : Alphabet) (n : ℕ) → reads a 3 n ≡ reads a 1 n

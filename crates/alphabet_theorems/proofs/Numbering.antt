@@ -7,14 +7,14 @@ use lib.ListN.{getD}
 use borrow.Author.Tests.{le-leb, lt-ltb}
 use Rattle.lists.specs.Tables.{passes}
 use Rattle.lists.proofs.Tables.{passes-at}
 use Rattle.alphabet.specs.declared.Sends.{Sends}
 use Rattle.alphabet.specs.declared.Sends.the-variants.{Nothing, Code}
 use Rattle.alphabet.specs.Print.{leftRows, rightRows, rows, bitsFrom, bits, keys}
 use Rattle.alphabet.specs.TableB1.{b1}
 use Rattle.alphabet.specs.TableB2.{b2}
 use Rattle.alphabet.specs.Baudot.{printedAt}
 use Rattle.alphabet.specs.Dtmf.{withMark, codeFrom, codeOfKeys, prefixes, keysOf, marksThenDigit, among, notStruck, remaining, names, firstSign, named, sendIn, hasRow, sendFrom, sendDtmf}
-use Rattle.alphabet.proofs.Same.{sameSends}
+use Rattle.alphabet_theorems.proofs.Same.{sameSends}
 
 abbrev numbered : ℕ → Bool
 numbered n = cond (ltb (n / 16) 15 && leb 1 (n % 16) && leb (n % 16) 10) (eqb (codeOfKeys (keysOf n)) n) (eqb 0 0)
