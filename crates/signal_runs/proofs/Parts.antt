@@ -14,12 +14,8 @@ use Rattle.alphabet.specs.code.Numbers.{longest}
 use Rattle.half_duplex.specs.declared.OnLine.{OnLine}
 use Rattle.half_duplex.specs.Line.{isCode, inBurst, partMs}
 use Rattle.half_duplex.specs.Range.{LineIn}
+use Rattle.alphabet.proofs.Ranges.{few-codes}
 use Rattle.signal.proofs.Lengths.{within-longest}
-
-pub few-codes : (a : Alphabet) → codes a ≤ 256
-few-codes alphabet.Baudot = omega arith
-few-codes alphabet.Dtmf = omega arith
-few-codes alphabet.Edt = omega arith
 
 pub longest-480 : (mode : Mode) → longest mode ≤ 480
 longest-480 Baudot45 = omega arith
