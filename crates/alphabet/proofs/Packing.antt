@@ -5,24 +5,20 @@ use mathlib.Core.List.{List, [], _∷_, _++_}
 use Prim.Native.Nat.{ℕ, zero, suc, _+_, _*_, _-_, _/_, _%_, _<_, _≤_}
 use native.Mathlib.Omega.{arith}
 use lib.Dec.{T, eqb, ltb, ltb→lt}
-use lib.ListN.{length, getD}
-use borrow.Author.Tests.{ne-eqb, lt-ltb, le-ltb, eqb-true, eqb-false}
+use lib.ListN.{getD}
+use borrow.Author.Tests.{ne-eqb, eqb-true}
 use Rattle.lists.specs.Tables.{passes}
 use Rattle.lists.proofs.Tables.{both-left, both-right, tabulate-at, passes-at}
 use Rattle.alphabet.specs.declared.Alphabet.{Alphabet}
 use Rattle.alphabet.specs.declared.Alphabet.the-variants.{Baudot, Dtmf, Edt}
-use Rattle.alphabet.specs.declared.LineCode.{LineCode}
 use Rattle.alphabet.specs.declared.Sends.{Sends}
 use Rattle.alphabet.specs.declared.Sends.the-variants.{Nothing, Code}
 use Rattle.alphabet.specs.declared.Reads.{Reads}
 use Rattle.alphabet.specs.declared.Reads.the-variants.{Character, Shift, NoRow}
-use Rattle.alphabet.specs.Print.{leftRows, rightRows, rows, bitsFrom, bits, keys}
-use Rattle.alphabet.specs.TableA1.{a1}
-use Rattle.alphabet.specs.TableB1.{b1}
-use Rattle.alphabet.specs.Baudot.{lettersCode, figuresCode, printedAt, readBaudot}
-use Rattle.alphabet.specs.Dtmf.{withMark, codeFrom, prefixes, keysOf, marksThenDigit, among, notStruck, remaining, names, firstSign, named, readIn, readDtmf}
+use Rattle.alphabet.specs.Print.{keys}
+use Rattle.alphabet.specs.Baudot.{lettersCode, figuresCode, readBaudot}
+use Rattle.alphabet.specs.Dtmf.{prefixes, keysOf, readDtmf}
 use Rattle.alphabet.specs.Normal.{sends}
-use Rattle.alphabet.specs.Modes.{codes}
 use Rattle.alphabet.specs.code.Packing.{base, alphabetAt, packed, entryAt, sendTable, readTable, shiftOf, packedRead, charIn, baudotAt, dtmfAt, keyAt}
 use Rattle.alphabet.proofs.Ranges.{some-shift, few-codes, charOrNone, range-of, dtmf-read}
 

@@ -1,6 +1,6 @@
 -- The normal form: the theorems that document 01 names.
-use mathlib.Core.Path.{_≡_, _∙_, refl, sym, ap, subst}
-use mathlib.Core.Bool.{Bool, true, false, cond}
+use mathlib.Core.Path.{_≡_, _∙_, refl, sym, ap}
+use mathlib.Core.Bool.{Bool, true, false}
 use mathlib.Core.Logic.{_↔_, _⊎_, inl, inr}
 use mathlib.Core.List.{List, [], _∷_, _++_, append-nil, append-assoc}
 use Prim.Native.Nat.{ℕ, _<_}
@@ -14,10 +14,9 @@ use Rattle.alphabet.specs.declared.Alphabet.the-variants.{Baudot, Dtmf, Edt}
 use Rattle.alphabet.specs.declared.LineCode.{LineCode}
 use Rattle.alphabet.specs.declared.Sends.{Sends}
 use Rattle.alphabet.specs.declared.Sends.the-variants.{Nothing, Code}
-use Rattle.alphabet.specs.declared.Reads.{Reads}
-use Rattle.alphabet.specs.declared.Reads.the-variants.{Character, Shift, NoRow}
+use Rattle.alphabet.specs.declared.Reads.the-variants.{Character}
 use Rattle.alphabet.specs.Baudot.{readBaudot}
-use Rattle.alphabet.specs.Normal.{sends, reads, charsOf, readBack, normal, normalForm, allChars}
+use Rattle.alphabet.specs.Normal.{sends, reads, normal, normalForm, allChars}
 use Rattle.alphabet_theorems.proofs.Rule.{ReadBack, rule-of}
 
 -- a reader takes a code of both shifts as in letters

@@ -1,19 +1,16 @@
 -- Laws of the sending rule.
-use mathlib.Core.Path.{_≡_, _∙_, refl, sym, ap, subst}
+use mathlib.Core.Path.{_≡_, _∙_, refl, sym, ap}
 use mathlib.Core.Bool.{Bool, true, false, cond, not, _&&_, false≢true}
-use mathlib.Core.List.{List, [], _∷_, _++_}
+use mathlib.Core.List.{List, [], _∷_}
 use mathlib.Core.Logic.{_⊎_, inl, inr, ⊎-elim}
-use Prim.Native.Nat.{ℕ, zero, suc, _+_, _*_, _/_, _%_, _≤_, _<_}
-use native.Mathlib.Nat.{add-zero}
-use native.Mathlib.Numerals.{add-one}
+use Prim.Native.Nat.{ℕ, _+_, _*_, _/_, _%_, _≤_, _<_}
 use native.Mathlib.Omega.{arith}
 use lib.Bits.{bitAnd}
 use lib.Dec.{T, eqb, leb}
-use lib.ListN.{length, set, length-append}
-use lib.Seq.{sets}
-use borrow.Author.Tests.{eq-eqb, ne-eqb, eqb-true, eqb-false, le-leb, lt-leb, leb-true, leb-false}
+use lib.ListN.{length, length-append}
+use borrow.Author.Tests.{eq-eqb, ne-eqb, eqb-false, le-leb, lt-leb, leb-true, leb-false}
 use Rattle.lists.specs.Tables.{passes}
-use Rattle.lists.proofs.Tables.{both-left, both-right, passes-at}
+use Rattle.lists.proofs.Tables.{passes-at}
 use Rattle.alphabet.specs.declared.Alphabet.the-variants.{Baudot}
 use Rattle.alphabet.specs.declared.LineCode.{LineCode}
 use Rattle.alphabet.specs.declared.Sends.{Sends}
@@ -22,7 +19,7 @@ use Rattle.alphabet.specs.Normal.{sends, allChars}
 use Rattle.lists.proofs.Lists.{at-most-head, at-most-tail}
 use Rattle.alphabet.proofs.Ranges.{range-of}
 use Rattle.baudot.specs.declared.Sender.{Sender}
-use Rattle.baudot.specs.Sending.{sender, differs, wanted, shifted, shiftCodes, shiftCode, opened, counted, codesFor, senderFor, codesOf, senderAfter, Running}
+use Rattle.baudot.specs.Sending.{sender, differs, wanted, shifted, shiftCodes, shiftCode, counted, codesFor, senderFor, codesOf, Running}
 
 -- two Bools that a test finds equal
 same : Bool → Bool → Bool

@@ -1,12 +1,11 @@
 -- Laws of the listing.
 use mathlib.Core.Path.{_≡_, _∙_, refl, sym, ap}
-use mathlib.Core.Bool.{Bool, true, false, cond}
+use mathlib.Core.Bool.{Bool, true, false}
 use mathlib.Core.List.{List, [], _∷_, _++_}
-use Prim.Native.Nat.{ℕ, zero, suc, _+_, _*_, _/_, _≤_, _<_}
+use Prim.Native.Nat.{ℕ, _+_, _*_, _/_, _≤_, _<_}
 use native.Mathlib.Numerals.{add-one, add-two, add-three, add-four, add-five}
 use native.Mathlib.Omega.{arith}
-use lib.Dec.{eqb}
-use lib.ListN.{length, getD, set, take, drop, drop-of-length-le, length-append}
+use lib.ListN.{length, getD, set, take, drop, drop-of-length-le}
 use lib.Seq.{sets, drop-cons, length-sets, take-at}
 use Rattle.lists.proofs.Lists.{sets-append, sets-front, at-most-head, at-most-tail}
 use Rattle.alphabet.specs.declared.Alphabet.the-variants.{Baudot}
@@ -16,8 +15,7 @@ use Rattle.alphabet.specs.Normal.{sends, isCode, allChars}
 use Rattle.baudot.specs.declared.Sender.{Sender}
 use Rattle.baudot.specs.declared.BaudotSent.{BaudotSent}
 use Rattle.baudot.specs.Sending.{sender, fresh, codesFor, senderFor, codesOf}
-use Rattle.lists.specs.Lists.{written}
-use Rattle.baudot.specs.Entries.{sent, sendAnswer, sentOf, codesAfter}
+use Rattle.baudot.specs.Entries.{sentOf, codesAfter}
 use Rattle.baudot_list.specs.Listing.{digit, lineOf, linesOf, listing}
 use Rattle.baudot.proofs.SendingRule.{codes-twice}
 use Rattle.baudot.proofs.Fresh.{running-letters, fresh-for}

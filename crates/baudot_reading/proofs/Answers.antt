@@ -1,13 +1,13 @@
 -- What `read` answers: the questions in order, a refusal, a success.
-use mathlib.Core.Path.{_≡_, _∙_, refl, sym, ap}
-use mathlib.Core.Bool.{Bool, true, false, cond, _&&_, _||_, and-false}
-use mathlib.Core.List.{List, [], _∷_, _++_}
-use Prim.Native.Nat.{ℕ, zero, suc, _+_, _≤_, _<_}
+use mathlib.Core.Path.{_≡_, _∙_, refl}
+use mathlib.Core.Bool.{true, false, _||_}
+use mathlib.Core.List.{List}
+use Prim.Native.Nat.{ℕ, zero, suc, _≤_, _<_}
 use native.Mathlib.Omega.{arith}
-use lib.Dec.{eqb, leb}
-use lib.ListN.{length, drop}
+use lib.Dec.{eqb}
+use lib.ListN.{length}
 use lib.Seq.{sets}
-use borrow.Author.Tests.{ne-eqb, eq-eqb, le-leb, lt-leb, leb-true, leb-false}
+use borrow.Author.Tests.{ne-eqb, le-leb, lt-leb}
 use Rattle.lists.proofs.Lists.{sets-front}
 use Rattle.baudot.specs.declared.BaudotText.{BaudotText}
 use Rattle.baudot_reading.specs.declared.Taken.{Taken}

@@ -1,13 +1,13 @@
 -- Laws of reading a list of codes, and of counting its shift codes.
 use mathlib.Core.Path.{_≡_, _∙_, refl, sym, ap}
 use mathlib.Core.Bool.{Bool, true, false, cond}
-use mathlib.Core.List.{List, [], _∷_, _++_}
-use Prim.Native.Nat.{ℕ, zero, suc, _+_, _-_, _≤_, _<_}
+use mathlib.Core.List.{List, [], _++_}
+use Prim.Native.Nat.{ℕ, _+_, _-_, _≤_, _<_}
 use native.Mathlib.Nat.{add-zero}
 use native.Mathlib.Numerals.{add-one}
 use native.Mathlib.Omega.{arith}
 use lib.Dec.{eqb, leb}
-use lib.ListN.{length, getD, set, take, drop, drop-of-length-le, length-append, length-take, length-drop, take-append-drop}
+use lib.ListN.{length, getD, set, take, drop, drop-of-length-le, length-append, take-append-drop}
 use lib.Seq.{sets, drop-cons, drop-drop, length-sets}
 use borrow.Author.Tests.{leb-true, leb-false}
 use Rattle.lists.proofs.Lists.{sets-append}

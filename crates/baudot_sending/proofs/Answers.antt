@@ -1,20 +1,19 @@
 -- What `send` answers: the questions in order, a refusal, a success.
-use mathlib.Core.Path.{_≡_, _∙_, refl, sym, ap}
-use mathlib.Core.Bool.{Bool, true, false, cond, _&&_, _||_, and-false}
-use mathlib.Core.List.{List, [], _∷_, _++_}
+use mathlib.Core.Path.{_≡_, _∙_, sym, ap}
+use mathlib.Core.Bool.{Bool, true, false, and-false}
+use mathlib.Core.List.{List, _++_}
 use Prim.Native.Nat.{ℕ, zero, suc, _+_, _≤_, _<_}
 use native.Mathlib.Omega.{arith}
 use lib.Dec.{eqb, leb}
 use lib.ListN.{length, drop}
 use lib.Seq.{sets}
-use borrow.Author.Tests.{ne-eqb, eq-eqb, le-leb, lt-leb, leb-true, leb-false}
+use borrow.Author.Tests.{ne-eqb, le-leb, lt-leb}
 use Rattle.lists.proofs.Lists.{sets-front}
 use Rattle.alphabet.specs.Normal.{allChars}
-use Rattle.baudot.specs.declared.Sender.{Sender}
 use Rattle.baudot.specs.declared.BaudotSent.{BaudotSent}
 use Rattle.baudot_sending.specs.declared.Placed.{Placed}
 use Rattle.baudot_sending.specs.declared.Opening.{Opening}
-use Rattle.baudot.specs.Sending.{sender, inRange, codesOf, senderAfter}
+use Rattle.baudot.specs.Sending.{sender, codesOf, senderAfter}
 use Rattle.baudot_sending.specs.code.Opening.{openingCodes, Opened}
 use Rattle.baudot.specs.Entries.{sent, sendAnswer, sentOf, codesAfter}
 

@@ -1,17 +1,15 @@
 -- Laws of taking a text up: the silent characters ahead, and a fresh sender's first shift code.
-use mathlib.Core.Path.{_≡_, _∙_, refl, sym, ap, subst}
-use mathlib.Core.Bool.{Bool, true, false, cond, false≢true}
-use mathlib.Core.List.{List, [], _∷_, _++_}
-use mathlib.Core.Logic.{⊎-elim}
-use Prim.Native.Nat.{ℕ, zero, suc, _+_, _-_, _*_, _/_, _≤_, _<_}
+use mathlib.Core.Path.{_≡_, _∙_, refl, sym, ap}
+use mathlib.Core.Bool.{true, false, false≢true}
+use mathlib.Core.List.{List, _∷_, _++_}
+use Prim.Native.Nat.{ℕ, _+_, _-_, _*_, _/_, _≤_, _<_}
 use native.Mathlib.Omega.{arith}
-use lib.Dec.{eqb, leb}
+use lib.Dec.{leb}
 use lib.ListN.{length, getD, set, drop, length-drop}
 use lib.Seq.{sets}
-use borrow.Author.Tests.{ne-eqb, le-leb}
+use borrow.Author.Tests.{le-leb}
 use Rattle.lists.proofs.Lists.{at-most-drop}
 use Rattle.alphabet.specs.declared.Alphabet.the-variants.{Baudot}
-use Rattle.alphabet.specs.declared.LineCode.{LineCode}
 use Rattle.alphabet.specs.declared.Sends.{Sends}
 use Rattle.alphabet.specs.declared.Sends.the-variants.{Nothing, Code}
 use Rattle.alphabet.specs.Baudot.{lettersCode}
@@ -19,11 +17,11 @@ use Rattle.alphabet.specs.Normal.{sends, isCode, allChars}
 use Rattle.baudot.specs.declared.Sender.{Sender}
 use Rattle.baudot_sending.specs.declared.Opening.{Opening}
 use Rattle.baudot_sending.specs.declared.Placed.{Placed}
-use Rattle.baudot.specs.Sending.{sender, wanted, shifted, shiftCodes, opened, counted, codesFor, senderFor, codesOf, senderAfter, Running}
+use Rattle.baudot.specs.Sending.{sender, codesFor, senderFor, codesOf, senderAfter, Running}
 use Rattle.baudot_sending.specs.code.Opening.{Silent, openingCodes, Opened}
 use Rattle.baudot.proofs.SendingRule.{codes-twice}
 use Rattle.baudot.proofs.Fresh.{running-letters, fresh-for}
-use Rattle.baudot_sending.proofs.Left.{codes-left, sender-left, codes-end, sender-end}
+use Rattle.baudot_sending.proofs.Left.{codes-left, sender-left}
 
 -- the characters ahead of a place send nothing
 pub record Quiet (text : List ℕ) (n : ℕ) : Type 0 where

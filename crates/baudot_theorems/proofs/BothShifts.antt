@@ -1,21 +1,19 @@
 -- SPACE, CR, LF and BACKSPACE never change the shift.
-use mathlib.Core.Path.{_≡_, _∙_, refl, sym, ap}
+use mathlib.Core.Path.{_≡_, refl}
 use mathlib.Core.Bool.{Bool, true, false, cond}
-use mathlib.Core.List.{List, [], _∷_, _++_}
-use Prim.Native.Nat.{ℕ, _≤_, _<_}
+use mathlib.Core.List.{[], _∷_}
 use native.Mathlib.Omega.{arith}
 use lib.Dec.{eqb, leb}
 use borrow.Author.Tests.{ne-eqb}
 use Rattle.alphabet.specs.declared.Alphabet.the-variants.{Baudot}
 use Rattle.alphabet.specs.declared.LineCode.{LineCode}
-use Rattle.alphabet.specs.declared.Sends.{Sends}
-use Rattle.alphabet.specs.declared.Sends.the-variants.{Nothing, Code}
+use Rattle.alphabet.specs.declared.Sends.the-variants.{Code}
 use Rattle.alphabet.specs.Print.{leftRows, rightRows, rows, bitsFrom, bits}
 use Rattle.alphabet.specs.TableA2.{a2}
 use Rattle.alphabet.specs.Baudot.{anyShift, lettersCode, printedAt, sendBaudot}
 use Rattle.alphabet.specs.Normal.{sends}
 use Rattle.baudot.specs.declared.Sender.{Sender}
-use Rattle.baudot.specs.Sending.{sender, shiftCode, wanted, codesFor, senderFor, Running}
+use Rattle.baudot.specs.Sending.{shiftCode, wanted, codesFor, senderFor, Running}
 
 -- the four codes, by their characters
 pub four-codes : (sends Baudot 0x08 ≡ Code anyShift (record { 0 = 0b00000 })) × (sends Baudot 0x0a ≡ Code anyShift (record { 0 = 0b00010 }))

@@ -1,13 +1,12 @@
 -- Between two shift codes, and after the last, there are never more than 72 characters.
-use mathlib.Core.Path.{_≡_, _∙_, refl, sym, ap, subst}
-use mathlib.Core.Bool.{Bool, true, false, cond}
+use mathlib.Core.Path.{_≡_, refl, ap, subst}
+use mathlib.Core.Bool.{true, cond}
 use mathlib.Core.List.{List, [], _∷_, _++_}
 use mathlib.Core.Logic.{⊎-elim}
 use Prim.Native.Nat.{ℕ, zero, suc, _+_, _≤_, _<_}
 use native.Mathlib.Omega.{arith}
 use lib.Dec.{eqb}
 use lib.ListN.{length}
-use borrow.Author.Tests.{eqb-true}
 use Rattle.lists.proofs.Lists.{at-most-head, at-most-tail}
 use Rattle.alphabet.specs.declared.Alphabet.the-variants.{Baudot}
 use Rattle.alphabet.specs.declared.LineCode.{LineCode}
@@ -22,7 +21,7 @@ use Rattle.baudot.specs.Sending.{sender, shiftCode, wanted, codesFor, senderFor
 use Rattle.baudot.specs.Counting.{shiftOne, shiftsIn}
 use Rattle.baudot.proofs.SendingRule.{NoneAhead, Ahead, ahead, codes-none, codes-some, sender-none, sender-some, own-range, running-for}
 use Rattle.baudot.proofs.Fresh.{running-letters, fresh-for}
-use Rattle.baudot.proofs.CountingRule.{one-of, shifts-append}
+use Rattle.baudot.proofs.CountingRule.{one-of}
 
 -- the characters since the last shift code, n at first
 abbrev since : ℕ → ℕ → ℕ

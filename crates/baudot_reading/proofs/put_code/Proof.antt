@@ -1,5 +1,5 @@
 -- `reading::put_code` meets its contract: a code for letters, one for figures, any other.
-use mathlib.Core.Path.{_∙_, sym}
+use mathlib.Core.Path.{sym}
 use Rattle.alphabet.proofs.Packing.{reads-letters-code, reads-figures-code}
 use Rattle.baudot_reading.proofs.ReadingRule.{got-character, got-shift, room-character}
 use borrow.Author.Needs.{needs}

@@ -1,6 +1,6 @@
 -- `sending::count_from` meets its contract. The invariant: what is left.
 use mathlib.Core.Path.{ap}
-use Prim.Native.Nat.{_+_, _-_, _*_, _≤_, _<_}
+use Prim.Native.Nat.{_+_, _-_, _*_}
 use native.Mathlib.Omega.{arith}
 use lib.ListN.{length}
 use borrow.Author.Needs.{needs}

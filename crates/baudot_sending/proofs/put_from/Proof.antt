@@ -1,5 +1,5 @@
 -- `sending::put_from` meets its contract. The invariant: what is left, and the slice as written so far.
-use Prim.Native.Nat.{_-_, _<_}
+use Prim.Native.Nat.{_-_}
 use native.Mathlib.Omega.{arith}
 use borrow.Author.Needs.{needs}
 use lib.ListN.{length}

@@ -1,5 +1,5 @@
 -- `listing::put_lines` meets its contract. The invariant: the lines left, behind those written.
-use Prim.Native.Nat.{_-_, _*_}
+use Prim.Native.Nat.{_-_}
 use native.Mathlib.Omega.{arith}
 use lib.ListN.{length}
 use borrow.Author.Needs.{needs}
