@@ -10,7 +10,7 @@ use lib.Dec.{T, eqb, leb}
 use lib.ListN.{length, length-append}
 use borrow.Author.Tests.{eq-eqb, ne-eqb, eqb-false, le-leb, lt-leb, leb-true, leb-false}
 use Rattle.lists.specs.Tables.{passes}
-use Rattle.lists.proofs.Tables.{passes-at}
+use Rattle.lists.proofs.Tables.{agree, agreed, passes-at}
 use Rattle.alphabet.specs.declared.Alphabet.the-variants.{Baudot}
 use Rattle.alphabet.specs.declared.LineCode.{LineCode}
 use Rattle.alphabet.specs.declared.Sends.{Sends}
@@ -21,25 +21,13 @@ use Rattle.alphabet.proofs.Ranges.{range-of}
 use Rattle.baudot.specs.declared.Sender.{Sender}
 use Rattle.baudot.specs.Sending.{sender, differs, wanted, shifted, shiftCodes, shiftCode, counted, codesFor, senderFor, codesOf, Running}
 
--- two Bools that a test finds equal
-same : Bool → Bool → Bool
-same true b = b
-same false b = not b
-
-same-is : (a b : Bool) → T (same a b) → a ≡ b
-unfolding same
-same-is true true t = refl
-same-is true false t = absurd t
-same-is false true t = absurd t
-same-is false false t = refl
-
 meetAt : ℕ → Bool
 meetAt i =
     cond (leb 1 (i / 4) && (leb 1 (i % 4) && leb (i % 4) 2))
-    (same (eqb (bitAnd (i / 4) (i % 4)) 0) (differs (i / 4) (i % 4))) true
+    (agree (eqb (bitAnd (i / 4) (i % 4)) 0) (differs (i / 4) (i % 4))) true
 
 meet-test : T (passes meetAt 16 0)
-unfolding passes meetAt same
+unfolding passes meetAt
 meet-test = tt
 
 -- a code's shift and the shift in force have no common bit exactly where they differ
@@ -49,7 +37,7 @@ meet-differs own shift a b c d =
     let q : (own * 4 + shift) / 4 ≡ own = omega arith in
     let m : (own * 4 + shift) % 4 ≡ shift = omega arith in
     let t = passes-at meetAt 16 meet-test (own * 4 + shift) (omega arith) in
-    same-is (eqb (bitAnd own shift) 0) (differs own shift) (simp (q, m, le-leb 1 own a, le-leb 1 shift c, le-leb shift 2 d) at t)
+    agreed (eqb (bitAnd own shift) 0) (differs own shift) (simp (q, m, le-leb 1 own a, le-leb 1 shift c, le-leb shift 2 d) at t)
 
 module _ (s : Sender) (own : ℕ) (r : Running s) where
   not-fresh : eqb (s .shift) 0 ≡ false

@@ -6,9 +6,7 @@ use native.Mathlib.Omega.{arith}
 use lib.ListN.{length, length-replicate}
 use Rattle.alphabet.specs.declared.Mode.{Mode}
 use Rattle.alphabet.specs.declared.Mode.the-variants.{Baudot45, Baudot50, Dtmf, Edt}
-use Rattle.alphabet.specs.declared.Alphabet.{Alphabet}
-use Rattle.alphabet.specs.declared.Alphabet.the-variants as alphabet
-use Rattle.alphabet.specs.Modes.{alphabetOf, preambleOf, codes}
+use Rattle.alphabet.specs.Modes.{alphabetOf, preambleOf}
 use Rattle.signal.specs.Signal.{signal, preamble}
 use Rattle.alphabet.specs.code.Numbers.{longest}
 use Rattle.half_duplex.specs.declared.OnLine.{OnLine}
