@@ -1,5 +1,3 @@
-pub mod Same
-pub mod Rule
+pub mod Ranges
 pub mod Packing
-pub mod Normal
-pub mod Numbering
+pub mod ReadingBack

@@ -5,36 +5,48 @@ use mathlib.Core.List.{List, [], _∷_, _++_}
 use Prim.Native.Nat.{ℕ, zero, suc, _+_, _*_, _-_, _/_, _%_, _<_, _≤_}
 use native.Mathlib.Omega.{arith}
 use lib.Dec.{T, eqb, ltb, ltb→lt}
-use lib.ListN.{length, getD}
-use borrow.Author.Tests.{ne-eqb, lt-ltb, le-ltb, eqb-true, eqb-false}
+use lib.ListN.{getD}
+use borrow.Author.Tests.{ne-eqb, eqb-true}
 use Rattle.lists.specs.Tables.{passes}
 use Rattle.lists.proofs.Tables.{both-left, both-right, tabulate-at, passes-at}
 use Rattle.alphabet.specs.declared.Alphabet.{Alphabet}
 use Rattle.alphabet.specs.declared.Alphabet.the-variants.{Baudot, Dtmf, Edt}
-use Rattle.alphabet.specs.declared.LineCode.{LineCode}
 use Rattle.alphabet.specs.declared.Sends.{Sends}
 use Rattle.alphabet.specs.declared.Sends.the-variants.{Nothing, Code}
 use Rattle.alphabet.specs.declared.Reads.{Reads}
 use Rattle.alphabet.specs.declared.Reads.the-variants.{Character, Shift, NoRow}
-use Rattle.alphabet.specs.Print.{leftRows, rightRows, rows, bitsFrom, bits, keys}
-use Rattle.alphabet.specs.TableA1.{a1}
-use Rattle.alphabet.specs.TableB1.{b1}
-use Rattle.alphabet.specs.Baudot.{lettersCode, figuresCode, printedAt, readBaudot}
-use Rattle.alphabet.specs.Dtmf.{withMark, codeFrom, prefixes, keysOf, marksThenDigit, among, notStruck, remaining, names, firstSign, named, readIn, readDtmf}
+use Rattle.alphabet.specs.Print.{keys}
+use Rattle.alphabet.specs.Baudot.{lettersCode, figuresCode, readBaudot}
+use Rattle.alphabet.specs.Dtmf.{prefixes, keysOf, readDtmf}
 use Rattle.alphabet.specs.Normal.{sends}
-use Rattle.alphabet.specs.Modes.{codes}
-use Rattle.alphabet.specs.code.Packing.{base, packed, entryAt, sendTable, readTable, shiftOf, packedRead, charIn, baudotAt, dtmfAt, keyAt}
-use Rattle.alphabet.proofs.Rule.{leastShift, ReadBack, entry-place, entry-below, rule-of}
+use Rattle.alphabet.specs.code.Packing.{base, alphabetAt, packed, entryAt, sendTable, readTable, shiftOf, packedRead, charIn, baudotAt, dtmfAt, keyAt}
+use Rattle.alphabet.proofs.Ranges.{some-shift, few-codes, charOrNone, range-of, dtmf-read}
+
+-- the place of a character's entry in the table of 384, taken apart
+pub entry-place : {A : Type 0} (f : Alphabet → ℕ → A) (a : Alphabet) (c : ℕ) → c < 128
+    → f (alphabetAt ((base a + c) / 128)) ((base a + c) % 128) ≡ f a c
+entry-place f Baudot c h =
+    let d : (0 + c) / 128 ≡ 0 = omega arith in
+    let m : (0 + c) % 128 ≡ c = omega arith in
+    simp (d, m)
+entry-place f Dtmf c h =
+    let d : (128 + c) / 128 ≡ 1 = omega arith in
+    let m : (128 + c) % 128 ≡ c = omega arith in
+    simp (d, m)
+entry-place f Edt c h =
+    let d : (256 + c) / 128 ≡ 2 = omega arith in
+    let m : (256 + c) % 128 ≡ c = omega arith in
+    simp (d, m)
+
+pub entry-below : (a : Alphabet) (c : ℕ) → c < 128 → base a + c < 384
+entry-below Baudot c h = omega arith
+entry-below Dtmf c h = omega arith
+entry-below Edt c h = omega arith
 
 -- the entry of a character
 pub entry-of : (a : Alphabet) (c : ℕ) → c < 128 → entryAt (base a + c) ≡ packed (sends a c)
 unfolding entryAt
 entry-of a c h = entry-place (λ b d. packed (sends b d)) a c h
-
-shifts-fit : (a : Alphabet) → 1 ≤ leastShift a
-shifts-fit Baudot = omega arith
-shifts-fit Dtmf = omega arith
-shifts-fit Edt = omega arith
 
 -- an entry below 256 sends nothing
 pub packed-nothing : (a : Alphabet) (c : ℕ) → c < 128 → packed (sends a c) < 256 → sends a c ≡ Nothing
@@ -43,14 +55,9 @@ packed-nothing a c h g = go (sends a c) refl g
     go : (x : Sends) → sends a c ≡ x → packed x < 256 → x ≡ Nothing
     go Nothing e g = refl
     go (Code s k) e g =
-        let f = shifts-fit a in
-        let b = rule-of a c h s k e .shift-least in
+        let f = some-shift a in
+        let b = range-of a c h s k e .shift-least in
         absurd (omega arith)
-
-codes-fit : (a : Alphabet) → codes a ≤ 256
-codes-fit Baudot = omega arith
-codes-fit Dtmf = omega arith
-codes-fit Edt = omega arith
 
 -- any other holds its shift and its code
 pub packed-code : (a : Alphabet) (c : ℕ) → c < 128 → 256 ≤ packed (sends a c)
@@ -60,8 +67,8 @@ packed-code a c h g = go (sends a c) refl g
     go : (x : Sends) → sends a c ≡ x → 256 ≤ packed x → x ≡ Code (packed x / 256) (record { 0 = packed x % 256 })
     go Nothing e g = absurd (omega arith)
     go (Code s k) e g =
-        let f = codes-fit a in
-        let b = rule-of a c h s k e .code-in in
+        let f = few-codes a in
+        let b = range-of a c h s k e .code-in in
         let p : s ≡ (256 * s + k .0) / 256 = omega arith in
         let q : k .0 ≡ (256 * s + k .0) % 256 = omega arith in
         λ i. Code (p i) (record { 0 = q i })
@@ -83,9 +90,9 @@ module _ (t : List ℕ) (is : t ≡ sendTable) (a : Alphabet) (c b : ℕ) (h : c
       go : (x : Sends) → sends a c ≡ x → packed x < 1024
       go Nothing e = omega arith
       go (Code s k) e =
-          let f = codes-fit a in
-          let r = rule-of a c h s k e .code-in in
-          let m = rule-of a c h s k e .shift-most in
+          let f = few-codes a in
+          let r = range-of a c h s k e .code-in in
+          let m = range-of a c h s k e .shift-most in
           omega arith
 
   pub lookup-nothing : getD t (b + c) 0 < 256 → Nothing ≡ sends a c
@@ -94,27 +101,14 @@ module _ (t : List ℕ) (is : t ≡ sendTable) (a : Alphabet) (c b : ℕ) (h : c
   pub lookup-code : 256 ≤ getD t (b + c) 0 → Code (getD t (b + c) 0 / 256) (record { 0 = getD t (b + c) 0 % 256 }) ≡ sends a c
   lookup-code g = rw entry-is (sym (packed-code a c h (subst (λ (n : ℕ). 256 ≤ n) entry-is g)))
 
--- what is read of a DTMF entry: a character below 128, or none
-abbrev charOrNone : Reads → Bool
-charOrNone (Character c) = ltb (c .0) 128
-charOrNone (Shift s) = false
-charOrNone NoRow = true
-
-dtmf-test : T (passes (λ (i : ℕ). charOrNone (readDtmf i)) 256 0)
-unfolding passes leftRows rightRows rows b1 keys withMark codeFrom marksThenDigit among notStruck remaining names firstSign named readIn readDtmf
-dtmf-test = tt
-
 -- what the lookup of a DTMF code makes of an entry e
-module _ (i e : ℕ) (h : i < 256) (found : e ≡ dtmfAt i) where
+module _ (i e : ℕ) (found : e ≡ dtmfAt i) where
   found-is : e ≡ packedRead (readDtmf i)
   unfolding dtmfAt
   found-is = found
 
-  fine : T (charOrNone (readDtmf i))
-  fine = passes-at (λ (k : ℕ). charOrNone (readDtmf k)) 256 dtmf-test i h
-
   pub dtmf-char : e < 128 → Character (record { 0 = e }) ≡ readDtmf i
-  dtmf-char g = rw found-is (go (readDtmf i) fine (subst (λ (n : ℕ). n < 128) found-is g))
+  dtmf-char g = rw found-is (go (readDtmf i) (dtmf-read i) (subst (λ (n : ℕ). n < 128) found-is g))
     where
       go : (r : Reads) → T (charOrNone r) → packedRead r < 128 → Character (record { 0 = packedRead r }) ≡ r
       go (Character c) t h = refl
@@ -122,7 +116,7 @@ module _ (i e : ℕ) (h : i < 256) (found : e ≡ dtmfAt i) where
       go NoRow t h = absurd (omega arith)
 
   pub dtmf-none : 128 ≤ e → NoRow ≡ readDtmf i
-  dtmf-none g = go (readDtmf i) fine (subst (λ (n : ℕ). 128 ≤ n) found-is g)
+  dtmf-none g = go (readDtmf i) (dtmf-read i) (subst (λ (n : ℕ). 128 ≤ n) found-is g)
     where
       go : (r : Reads) → T (charOrNone r) → 128 ≤ packedRead r → NoRow ≡ r
       go (Character c) t h = let l = ltb→lt (c .0) 128 t in absurd (omega arith)

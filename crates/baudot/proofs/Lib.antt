@@ -1,10 +1,3 @@
 pub mod SendingRule
-pub mod Left
-pub mod OpeningRule
-pub mod Answers
-pub mod ReadingRule
-pub mod RoundTrip
-pub mod Runs
-pub mod Cuts
-pub mod BothShifts
-pub mod ListingRule
+pub mod Fresh
+pub mod CountingRule

@@ -1,49 +1,33 @@
 -- Laws of the sending rule.
-use mathlib.Core.Path.{_≡_, _∙_, refl, sym, ap, subst}
+use mathlib.Core.Path.{_≡_, _∙_, refl, sym, ap}
 use mathlib.Core.Bool.{Bool, true, false, cond, not, _&&_, false≢true}
-use mathlib.Core.List.{List, [], _∷_, _++_}
+use mathlib.Core.List.{List, [], _∷_}
 use mathlib.Core.Logic.{_⊎_, inl, inr, ⊎-elim}
-use Prim.Native.Nat.{ℕ, zero, suc, _+_, _*_, _/_, _%_, _≤_, _<_}
-use native.Mathlib.Nat.{add-zero}
-use native.Mathlib.Numerals.{add-one}
+use Prim.Native.Nat.{ℕ, _+_, _*_, _/_, _%_, _≤_, _<_}
 use native.Mathlib.Omega.{arith}
 use lib.Bits.{bitAnd}
 use lib.Dec.{T, eqb, leb}
-use lib.ListN.{length, set, length-append}
-use lib.Seq.{sets}
-use borrow.Author.Tests.{eq-eqb, ne-eqb, eqb-true, eqb-false, le-leb, lt-leb, leb-true, leb-false}
+use lib.ListN.{length, length-append}
+use borrow.Author.Tests.{eq-eqb, ne-eqb, eqb-false, le-leb, lt-leb, leb-true, leb-false}
 use Rattle.lists.specs.Tables.{passes}
-use Rattle.lists.proofs.Tables.{both-left, both-right, passes-at}
+use Rattle.lists.proofs.Tables.{agree, agreed, passes-at}
 use Rattle.alphabet.specs.declared.Alphabet.the-variants.{Baudot}
 use Rattle.alphabet.specs.declared.LineCode.{LineCode}
 use Rattle.alphabet.specs.declared.Sends.{Sends}
 use Rattle.alphabet.specs.declared.Sends.the-variants.{Nothing, Code}
 use Rattle.alphabet.specs.Normal.{sends, allChars}
 use Rattle.lists.proofs.Lists.{at-most-head, at-most-tail}
-use Rattle.alphabet.proofs.Rule.{ReadBack, rule-of}
+use Rattle.alphabet.proofs.Ranges.{range-of}
 use Rattle.baudot.specs.declared.Sender.{Sender}
-use Rattle.baudot.specs.declared.sending.Placed.{Placed}
-use Rattle.baudot.specs.Sending.{sender, differs, wanted, shifted, shiftCodes, shiftCode, opened, counted, codesFor, senderFor, codesOf, senderAfter, Running}
-
--- two Bools that a test finds equal
-same : Bool → Bool → Bool
-same true b = b
-same false b = not b
-
-same-is : (a b : Bool) → T (same a b) → a ≡ b
-unfolding same
-same-is true true t = refl
-same-is true false t = absurd t
-same-is false true t = absurd t
-same-is false false t = refl
+use Rattle.baudot.specs.Sending.{sender, differs, wanted, shifted, shiftCodes, shiftCode, counted, codesFor, senderFor, codesOf, Running}
 
 meetAt : ℕ → Bool
 meetAt i =
     cond (leb 1 (i / 4) && (leb 1 (i % 4) && leb (i % 4) 2))
-    (same (eqb (bitAnd (i / 4) (i % 4)) 0) (differs (i / 4) (i % 4))) true
+    (agree (eqb (bitAnd (i / 4) (i % 4)) 0) (differs (i / 4) (i % 4))) true
 
 meet-test : T (passes meetAt 16 0)
-unfolding passes meetAt same
+unfolding passes meetAt
 meet-test = tt
 
 -- a code's shift and the shift in force have no common bit exactly where they differ
@@ -53,7 +37,7 @@ meet-differs own shift a b c d =
     let q : (own * 4 + shift) / 4 ≡ own = omega arith in
     let m : (own * 4 + shift) % 4 ≡ shift = omega arith in
     let t = passes-at meetAt 16 meet-test (own * 4 + shift) (omega arith) in
-    same-is (eqb (bitAnd own shift) 0) (differs own shift) (simp (q, m, le-leb 1 own a, le-leb 1 shift c, le-leb shift 2 d) at t)
+    agreed (eqb (bitAnd own shift) 0) (differs own shift) (simp (q, m, le-leb 1 own a, le-leb 1 shift c, le-leb shift 2 d) at t)
 
 module _ (s : Sender) (own : ℕ) (r : Running s) where
   not-fresh : eqb (s .shift) 0 ≡ false
@@ -153,7 +137,7 @@ module _ (s : Sender) (own : ℕ) (r : Running s) (lo : 1 ≤ own) (hi : own ≤
 
 -- what a character sends is of a shift
 pub own-range : (c own : ℕ) (k : LineCode) → c < 128 → sends Baudot c ≡ Code own k → (1 ≤ own) × (own ≤ 3)
-own-range c own k h e = (rule-of Baudot c h own k e .shift-least, rule-of Baudot c h own k e .shift-most)
+own-range c own k h e = (range-of Baudot c h own k e .shift-least, range-of Baudot c h own k e .shift-most)
 
 pub running-for : (s : Sender) (c : ℕ) → c < 128 → Running s → Running (senderFor s (sends Baudot c))
 unfolding senderFor
@@ -162,36 +146,6 @@ running-for s c h r = go (sends Baudot c) refl
     go : (x : Sends) → sends Baudot c ≡ x → Running (senderFor s x)
     go Nothing e = r
     go (Code own k) e = running-code s own r (own-range c own k h e .0) (own-range c own k h e .1) k
-
--- What a character's codes leave: the place and sender after them, and the slice.
-module _ (codes : List ℕ) (at : ℕ) (s : Sender) where
-  pub record Put (x : Sends) (p : Placed) (after : List ℕ) : Type 0 where
-    pub placed : p ≡ record { at = at + length (codesFor s x); sender = senderFor s x }
-    pub stored : after ≡ sets codes at (codesFor s x)
-
-  pub put-nothing : (x : Sends) → x ≡ Nothing → Put x (record { at = at; sender = s }) codes
-  unfolding codesFor senderFor
-  put-nothing x e = record { placed = simp (e, add-zero); stored = simp e }
-
-  module _ (x : Sends) (own : ℕ) (k : LineCode) (sent : x ≡ Code own k) (r : Running s) (lo : 1 ≤ own) (hi : own ≤ 3) where
-    pub put-none : wanted s own ≡ 0 → Put x (record { at = at + 1; sender = counted s }) (set codes at (k .0))
-    put-none e = record { placed = simp (sent, codes-none s own r lo hi k e, sender-none s own r lo hi k e); stored = simp (sent, codes-none s own r lo hi k e) }
-
-    pub ahead-of : (wanted s own ≡ 0 → ⊥) → Ahead s own r lo hi (wanted s own)
-    ahead-of n = ⊎-elim (λ o. absurd (n (o .none))) (λ a. a) (ahead s own r lo hi)
-
-    pub put-some : (wanted s own ≡ 0 → ⊥)
-        → Put x (record { at = at + 2; sender = sender (wanted s own) 1 }) (set (set codes at (shiftCode (wanted s own))) (at + 1) (k .0))
-    put-some n =
-        let a = ahead-of n in
-        record { placed = simp (sent, codes-some s own r lo hi k a, sender-some s own r lo hi k a); stored = simp (sent, codes-some s own r lo hi k a, add-one) }
-
-    -- the room that its codes need
-    pub room-none : wanted s own ≡ 0 → at + length (codesFor s x) ≤ length codes → at < length codes
-    room-none e h = let l : length (codesFor s x) ≡ 1 = simp (sent, codes-none s own r lo hi k e) in omega arith
-
-    pub room-some : (wanted s own ≡ 0 → ⊥) → at + length (codesFor s x) ≤ length codes → at + 1 < length codes
-    room-some n h = let l : length (codesFor s x) ≡ 2 = simp (sent, codes-some s own r lo hi k (ahead-of n)) in omega arith
 
 -- the number of shift codes
 pub shifts-none : (w : ℕ) → w ≡ 0 → length (shiftCodes w) ≡ 0
@@ -231,19 +185,6 @@ module _ (s : Sender) (own : ℕ) (k : LineCode) (r : Running s) (lo : 1 ≤ own
       go : (b : Bool) → (cond b s (sender (wanted s own) 0)) .count ≤ 72
       go true = r .count-in
       go false = omega arith
-
--- what counting leaves: the place and sender after a character's codes
-pub count-code : (at : ℕ) (s : Sender) (x : Sends) (own : ℕ) (k : LineCode) → x ≡ Code own k → Running s → 1 ≤ own → own ≤ 3
-    → (w : ℕ) (t : Sender) (n : ℕ) → w ≡ wanted s own → t ≡ shifted s w → n ≡ at + length (shiftCodes w) + 1
-    → _≡_ {A = Placed} (record { at = n; sender = counted t }) (record { at = at + length (codesFor s x); sender = senderFor s x })
-count-code at s x own k sent r lo hi w t n ew et en =
-    let a : n ≡ at + length (codesFor s x) =
-    let l = codes-length s own k r lo hi in
-    let m = ap (λ (y : Sends). length (codesFor s y)) sent in
-    let v = ap (λ (y : ℕ). length (shiftCodes y)) ew in
-    omega arith in
-    let b : counted t ≡ senderFor s x = ap counted (et ∙ ap (shifted s) ew) ∙ sym (sender-both s own k r lo hi) ∙ ap (senderFor s) (sym sent) in
-    λ i. record { at = a i; sender = b i }
 
 -- a running sender's codes for a character are at most two
 pub codes-two : (s : Sender) (c : ℕ) → c < 128 → Running s → length (codesFor s (sends Baudot c)) ≤ 2

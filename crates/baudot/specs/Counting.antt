@@ -1,8 +1,8 @@
--- How the code counts shift codes: block by block.
-use Prim.Native.Nat.{ℕ, _+_, _-_}
+-- The shift codes of a list, counted.
+use Prim.Native.Nat.{ℕ, _+_}
 use mathlib.Core.Bool.{cond}
 use mathlib.Core.List.{List, [], _∷_}
-use lib.Dec.{eqb, leb}
+use lib.Dec.{eqb}
 use Rattle.alphabet.specs.Baudot.{lettersCode, figuresCode}
 
 abbrev pub shiftOne : ℕ → ℕ
@@ -12,6 +12,3 @@ shiftOne k = cond (eqb k lettersCode) 1 (cond (eqb k figuresCode) 1 0)
 unfoldable pub shiftsIn : List ℕ → ℕ
 shiftsIn [] = 0
 shiftsIn (k ∷ ks) = shiftOne k + shiftsIn ks
-
-abbrev pub blockEnd : ℕ → ℕ → ℕ
-blockEnd at len = cond (leb (len - at) 128) len (at + 128)

@@ -2,5 +2,3 @@ pub mod Sending
 pub mod Reading
 pub mod Counting
 pub mod Entries
-pub mod Listing
-pub mod code

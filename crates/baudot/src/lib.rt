@@ -1,6 +1,4 @@
-// The bare Baudot conversions: text to five-bit codes, and codes to text.
-pub mod listing;
-pub mod reading;
+// Baudot senders and readers: the definitions of both directions, and the sending rule.
 pub mod sending;
 
 // A sender: its shift (0 fresh, 1 letters, 2 figures) and the characters that have gone since the last shift code.

@@ -14,7 +14,7 @@ use Rattle.alphabet.specs.declared.Sends.{Sends}
 use Rattle.alphabet.specs.declared.Sends.the-variants.{Nothing, Code}
 use Rattle.alphabet.specs.Modes.{alphabetOf, codes}
 use Rattle.alphabet.specs.Normal.{sends}
-use Rattle.alphabet.proofs.Rule.{leastShift, rule-of}
+use Rattle.alphabet.proofs.Ranges.{leastShift, some-shift, range-of}
 use Rattle.baudot.specs.declared.Sender.{Sender}
 use Rattle.baudot.specs.Sending.{sender, differs, wanted, shiftCode, shifted, inRange as senderIn}
 use Rattle.burst.specs.declared.OnLine.{OnLine}
@@ -61,18 +61,13 @@ some-codes Baudot = omega arith
 some-codes Dtmf = omega arith
 some-codes Edt = omega arith
 
-some-shift : (a : Alphabet) → 1 ≤ leastShift a
-some-shift Baudot = omega arith
-some-shift Dtmf = omega arith
-some-shift Edt = omega arith
-
 pub sends-in : (a : Alphabet) (c : ℕ) → c < 128 → SendsIn a (sends a c)
 sends-in a c h = go (sends a c) refl
   where
     go : (x : Sends) → sends a c ≡ x → SendsIn a x
     go Nothing e = tt
     go (Code own k) e =
-        let r = rule-of a c h own k e in
+        let r = range-of a c h own k e in
         let l = some-shift a in
         let m = r .shift-least in
         record { own-low = omega arith; own-in = r .shift-most; code-in = r .code-in }

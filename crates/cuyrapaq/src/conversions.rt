@@ -11,7 +11,7 @@ pub extern "C" fn cq_baudot_send(text: &[u8], shift: u8, count: u8, codes: &mut 
     ensures { λ r. ⌜ r ≡ sentOf (now (text .entry)) shift count (length (now (codes .entry))) ⌝ }
     ensures { λ r. ⌜ now (codes .exit) ≡ codesAfter (now (text .entry)) shift count (now (codes .entry)) ⌝ }
 {
-    baudot::sending::send(text, shift, count, codes)
+    baudot_sending::send(text, shift, count, codes)
 }
 
 // Codes to text.
@@ -20,5 +20,5 @@ pub extern "C" fn cq_baudot_read(codes: &[u8], shift: u8, text: &mut [u8]) -> Ba
     ensures { λ r. ⌜ r ≡ readOf (now (codes .entry)) shift (length (now (text .entry))) ⌝ }
     ensures { λ r. ⌜ now (text .exit) ≡ textAfter (now (codes .entry)) shift (now (text .entry)) ⌝ }
 {
-    baudot::reading::read(codes, shift, text)
+    baudot_reading::read(codes, shift, text)
 }

@@ -18,8 +18,8 @@ use Rattle.alphabet.specs.declared.Sends.{Sends}
 use Rattle.alphabet.specs.declared.Sends.the-variants.{Nothing, Code}
 use Rattle.alphabet.specs.Modes.{alphabetOf}
 use Rattle.alphabet.specs.Normal.{sends, normal, normalForm, allChars}
-use Rattle.alphabet.proofs.Normal.{normal-code}
-use Rattle.alphabet.proofs.Rule.{rule-of}
+use Rattle.alphabet_theorems.proofs.Normal.{normal-code}
+use Rattle.alphabet_theorems.proofs.Rule.{rule-of}
 use Rattle.baudot.specs.declared.Sender.{Sender}
 use Rattle.reader.specs.declared.Event.{Event}
 use Rattle.reader.specs.declared.Reader.{Reader}

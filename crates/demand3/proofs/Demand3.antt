@@ -14,7 +14,7 @@ use Rattle.lists.proofs.Lists.{either, at-most-front}
 use Rattle.alphabet.specs.declared.Mode.{Mode}
 use Rattle.alphabet.specs.Modes.{modeOf, alphabetOf}
 use Rattle.alphabet.specs.Normal.{allChars}
-use Rattle.alphabet.proofs.Normal.{normal-form-twice}
+use Rattle.alphabet_theorems.proofs.Normal.{normal-form-twice}
 use Rattle.reader.specs.declared.Event.{Event}
 use Rattle.reader.specs.Reader.{fresh}
 use Rattle.reader.specs.Words.{wordsOf, characterWord}

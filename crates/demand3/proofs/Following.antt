@@ -8,7 +8,7 @@ use Rattle.lists.specs.Steps.{stateAfter, outputs}
 use Rattle.alphabet.specs.declared.Mode.{Mode}
 use Rattle.alphabet.specs.Modes.{alphabetOf}
 use Rattle.alphabet.specs.Normal.{normal, normalForm}
-use Rattle.alphabet.proofs.Normal.{normal-append}
+use Rattle.alphabet_theorems.proofs.Normal.{normal-append}
 use Rattle.baudot.specs.declared.Sender.{Sender}
 use Rattle.reader.specs.declared.Reader.{Reader}
 use Rattle.reader.specs.Reader.{hear}

@@ -23,13 +23,13 @@ use Rattle.alphabet.specs.Print.{keys}
 use Rattle.alphabet.specs.Dtmf.{prefixes, keysOf, readDtmf}
 use Rattle.alphabet.specs.Modes.{alphabetOf}
 use Rattle.alphabet.specs.Normal.{sends, reads, charsOf, readBack, normal, normalForm}
-use Rattle.alphabet.proofs.Rule.{rule-of}
-use Rattle.alphabet.proofs.Normal.{own-shift, normal-code}
+use Rattle.alphabet_theorems.proofs.Rule.{rule-of}
+use Rattle.alphabet_theorems.proofs.Normal.{own-shift, normal-code}
 use Rattle.baudot.specs.declared.Sender.{Sender}
 use Rattle.baudot.specs.Sending.{wanted, shiftCode, shifted, counted, codesFor, senderFor, codesOf, senderAfter, Running}
 use Rattle.baudot.specs.Reading.{shiftBy, textOf, shiftAfter}
 use Rattle.baudot.proofs.SendingRule.{NoneAhead, ahead, codes-none, sender-none}
-use Rattle.baudot.proofs.RoundTrip.{reads-shift-code, round-trip-running, shift-follows}
+use Rattle.baudot_theorems.proofs.RoundTrip.{reads-shift-code, round-trip-running, shift-follows}
 use Rattle.frames.specs.Frames.{hunting, frameStep}
 use Rattle.keys.specs.declared.Keys.{Keys}
 use Rattle.keys.specs.Keys.{ready, keyStep}

@@ -22,7 +22,7 @@ use Rattle.alphabet.specs.declared.Reads.the-variants.{Character, Shift, NoRow}
 use Rattle.alphabet.specs.Baudot.{readBaudot}
 use Rattle.alphabet.specs.Modes.{alphabetOf, elementOf, preambleOf}
 use Rattle.alphabet.specs.Normal.{sends, reads, charsOf, normal, normalForm, allChars}
-use Rattle.alphabet.proofs.Rule.{rule-of}
+use Rattle.alphabet_theorems.proofs.Rule.{rule-of}
 use Rattle.baudot.specs.declared.Sender.{Sender}
 use Rattle.baudot.specs.Sending.{sender, shiftCode, shiftCodes, wanted, opened, codesAhead, codesFor, senderFor, codesOf, Running}
 use Rattle.baudot.specs.Reading.{shiftBy, textOf, shiftAfter}

@@ -21,7 +21,7 @@ use Rattle.alphabet.specs.Print.{Row, keys, rows}
 use Rattle.alphabet.specs.Dtmf.{isDigit, isMark, withMark, dtmfCode, codeFrom, codeOfKeys, prefixes, keysOf, marksThenDigit, isCode, among, notStruck, remaining, drawn, readIn, readDtmf}
 use Rattle.alphabet.specs.TableB1.{b1}
 use Rattle.alphabet.specs.Normal.{reads}
-use Rattle.alphabet.proofs.Numbering.{keys-number}
+use Rattle.alphabet_theorems.proofs.Numbering.{keys-number}
 use Rattle.frames.specs.declared.Frame.{Frame}
 use Rattle.keys.specs.declared.Keys.{Keys}
 use Rattle.reader.specs.declared.Event.{Event}

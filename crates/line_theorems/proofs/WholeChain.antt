@@ -18,12 +18,12 @@ use Rattle.alphabet.specs.declared.Reads.the-variants.{Character}
 use Rattle.alphabet.specs.Modes.{alphabetOf, preambleOf}
 use Rattle.alphabet.specs.Normal.{sends, reads, charsOf, readBack, normal, normalForm, allChars}
 use Rattle.alphabet.specs.declared.LineCode.{LineCode}
-use Rattle.alphabet.proofs.Rule.{ReadBack, rule-of}
-use Rattle.alphabet.proofs.Normal.{own-shift}
+use Rattle.alphabet_theorems.proofs.Rule.{ReadBack, rule-of}
+use Rattle.alphabet_theorems.proofs.Normal.{own-shift}
 use Rattle.baudot.specs.declared.Sender.{Sender}
 use Rattle.baudot.specs.Sending.{codesOf, Running}
 use Rattle.baudot.specs.Reading.{textOf, shiftAfter}
-use Rattle.baudot.proofs.RoundTrip.{round-trip-running, round-trip-fresh}
+use Rattle.baudot_theorems.proofs.RoundTrip.{round-trip-running, round-trip-fresh}
 use Rattle.frames.specs.declared.Frame.{Frame}
 use Rattle.keys.specs.declared.Keys.{Keys}
 use Rattle.reader.specs.declared.Reader.{Reader}

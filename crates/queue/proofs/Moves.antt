@@ -65,11 +65,12 @@ front-none n xs h = none (movedBy n xs) (moved-by-length n xs ∙ h)
     none [] e = refl
     none (y ∷ ys) e = absurd (omega arith)
 
-pub front-last : (n : ℕ) (xs : List ℕ) → 1 ≤ length xs → length xs - 1 < n → getD (movedBy n xs) 0 0 ≡ getD xs (length xs - 1) 0
-front-last n xs o h = let e : min (0 + n) (length xs - 1) ≡ length xs - 1 = omega arith in moved-by-at n xs 0 (omega arith) ∙ ap (λ (k : ℕ). getD xs k 0) e
+-- a place has the character that moves to it
+pub moved-from : (n : ℕ) (xs : List ℕ) (j k : ℕ) → j < length xs → min (j + n) (length xs - 1) ≡ k → getD (movedBy n xs) j 0 ≡ getD xs k 0
+moved-from n xs j k h e = moved-by-at n xs j h ∙ ap (λ (m : ℕ). getD xs m 0) e
 
 pub moved-place : (n : ℕ) (xs : List ℕ) (j : ℕ) → n + j < length xs → getD (movedBy n xs) j 0 ≡ getD xs (n + j) 0
-moved-place n xs j h = let e : min (j + n) (length xs - 1) ≡ n + j = omega arith in moved-by-at n xs j (omega arith) ∙ ap (λ (k : ℕ). getD xs k 0) e
+moved-place n xs j h = moved-from n xs j (n + j) (omega arith) (omega arith)
 
 module _ (n : ℕ) (xs : List ℕ) where
   abbrev last : ℕ

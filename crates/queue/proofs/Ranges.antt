@@ -1,12 +1,12 @@
 -- The characters that send something, by their ranges: one computed test over all bytes for each alphabet.
 use mathlib.Core.Path.{_≡_, refl}
-use mathlib.Core.Bool.{Bool, true, false, not, cond, _&&_, _||_}
+use mathlib.Core.Bool.{Bool, true, false, cond, _&&_, _||_}
 use mathlib.Core.List.{List, [], _∷_}
 use Prim.Native.Nat.{ℕ, _<_}
 use lib.Dec.{T, eqb, leb}
 use Rattle.lists.specs.Lists.{allAtMost}
 use Rattle.lists.specs.Tables.{passes}
-use Rattle.lists.proofs.Tables.{passes-at}
+use Rattle.lists.proofs.Tables.{agree, agreed, passes-at}
 use Rattle.alphabet.specs.declared.Alphabet.the-variants.{Baudot, Dtmf, Edt}
 use Rattle.alphabet.specs.Print.{leftRows, rightRows, rows, bitsFrom, bits, keys}
 use Rattle.alphabet.specs.TableA2.{a2}
@@ -17,16 +17,6 @@ use Rattle.alphabet.specs.Dtmf.{withMark, codeFrom, marksThenDigit, among, notS
 use Rattle.alphabet.specs.declared.Sends.the-variants.{Nothing, Code}
 use Rattle.alphabet.specs.Normal.{sends, isCode}
 use Rattle.queue.specs.Queue.{waits, allWait}
-
-abbrev agree : Bool → Bool → Bool
-agree true b = b
-agree false b = not b
-
-agreed : (a b : Bool) → T (agree a b) → a ≡ b
-agreed true true t = refl
-agreed true false t = absurd t
-agreed false true t = absurd t
-agreed false false t = refl
 
 abbrev pub within : ℕ → ℕ → ℕ → Bool
 within c least most = leb least c && leb c most

@@ -1,6 +1,6 @@
 -- Laws on the characters that wait.
 use mathlib.Core.Path.{_≡_, _∙_, refl, sym, ap}
-use mathlib.Core.Bool.{Bool, true, false, cond, _&&_}
+use mathlib.Core.Bool.{Bool, true, false, cond, _&&_, and-assoc, and-true}
 use mathlib.Core.List.{List, [], _∷_, _++_}
 use Prim.Native.Nat.{ℕ, suc, _+_, _<_, _≤_}
 use native.Mathlib.Omega.{arith}
@@ -10,14 +10,6 @@ use lib.Seq.{sets, drop-cons, length-sets}
 use Rattle.lists.proofs.Lists.{sets-append}
 use Rattle.alphabet.specs.declared.Alphabet.{Alphabet}
 use Rattle.queue.specs.Queue.{waits, waiters, allWait}
-
-and-assoc : (x y z : Bool) → ((x && y) && z) ≡ (x && (y && z))
-and-assoc true y z = refl
-and-assoc false y z = refl
-
-and-true : (x : Bool) → (x && true) ≡ x
-and-true true = refl
-and-true false = refl
 
 module _ (a : Alphabet) where
   -- one character after the other

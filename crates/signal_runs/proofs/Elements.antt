@@ -24,7 +24,8 @@ use Rattle.burst.specs.Line.{further, inBurst, partMs}
 use Rattle.burst.proofs.Laws.{level-preamble, level-code}
 use Rattle.lists.specs.code.Places.{UpTo}
 use Rattle.signal_runs.specs.code.Levels.{codeLevel, partLevel, evenMs, elementAt, elementEnd, frameOf, frameLevel, Run, Framed}
-use Rattle.signal_runs.proofs.Parts.{few-codes, longest-480}
+use Rattle.alphabet.proofs.Ranges.{few-codes}
+use Rattle.signal_runs.proofs.Parts.{longest-480}
 use Rattle.signal_runs.proofs.Filling.{part-behind, Writing, writing-start, level-fits, level-written, writing-end}
 
 -- ---- keys

@@ -6,20 +6,14 @@ use native.Mathlib.Omega.{arith}
 use lib.ListN.{length, length-replicate}
 use Rattle.alphabet.specs.declared.Mode.{Mode}
 use Rattle.alphabet.specs.declared.Mode.the-variants.{Baudot45, Baudot50, Dtmf, Edt}
-use Rattle.alphabet.specs.declared.Alphabet.{Alphabet}
-use Rattle.alphabet.specs.declared.Alphabet.the-variants as alphabet
-use Rattle.alphabet.specs.Modes.{alphabetOf, preambleOf, codes}
+use Rattle.alphabet.specs.Modes.{alphabetOf, preambleOf}
 use Rattle.signal.specs.Signal.{signal, preamble}
 use Rattle.alphabet.specs.code.Numbers.{longest}
 use Rattle.burst.specs.declared.OnLine.{OnLine}
 use Rattle.burst.specs.Line.{isCode, inBurst, partMs}
 use Rattle.burst.specs.code.Bounds.{LineIn}
+use Rattle.alphabet.proofs.Ranges.{few-codes}
 use Rattle.signal.proofs.Lengths.{within-longest}
-
-pub few-codes : (a : Alphabet) → codes a ≤ 256
-few-codes alphabet.Baudot = omega arith
-few-codes alphabet.Dtmf = omega arith
-few-codes alphabet.Edt = omega arith
 
 pub longest-480 : (mode : Mode) → longest mode ≤ 480
 longest-480 Baudot45 = omega arith

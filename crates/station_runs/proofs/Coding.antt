@@ -44,7 +44,7 @@ use Rattle.station_runs.specs.code.Stretches.{between, Stretches}
 use Rattle.half_duplex_runs.proofs.Laws.{silence-full, silence-none, deaf-some, burst-some}
 use Rattle.station_runs.proofs.Laws.{begun-same, left-burst, left-over, gone-over}
 use Rattle.station_runs.proofs.Joining.{between-length, begin-stretch, send-stretch}
-use Rattle.signal_runs.proofs.Parts.{few-codes}
+use Rattle.alphabet.proofs.Ranges.{few-codes}
 use Rattle.signal_runs.proofs.Elements.{code-levels}
 use Rattle.station_runs.proofs.Fold.{after-none, sent-none, words-none}
 

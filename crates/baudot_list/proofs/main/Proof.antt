@@ -5,7 +5,7 @@ use Prim.Native.Nat.{ℕ, _≤_}
 use native.Mathlib.Omega.{arith}
 use lib.ListN.{length, drop, length-append}
 use lib.Seq.{length-take-le}
-use Rattle.baudot.specs.Listing.{listing}
+use Rattle.baudot_list.specs.Listing.{listing}
 use borrow.Author.Needs.{needs}
 use Rattle.baudot_list.proofs.main.Statement.{statement}
 use Rattle.baudot_list.proofs.main.Tie as tie

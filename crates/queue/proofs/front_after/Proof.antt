@@ -1,9 +1,7 @@
 -- `front_after` meets its contract.
-use mathlib.Core.Path.{_≡_, _∙_, sym, ap}
-use Prim.Native.Nat.{ℕ, _+_}
+use mathlib.Core.Path.{sym}
 use native.Mathlib.Omega.{arith}
-use lib.ListN.{getD}
-use Rattle.queue.proofs.Moves.{front-none, front-last, moved-place}
+use Rattle.queue.proofs.Moves.{front-none, moved-from}
 use borrow.Author.Needs.{needs}
 use Rattle.queue.proofs.front_after.Statement.{statement}
 use Rattle.queue.proofs.front_after.Tie as tie
@@ -18,7 +16,7 @@ shared-slice-read-t7 : tie.Need-shared-slice-read-t7
 shared-slice-read-t7 c = search needs
 
 returns-2 : tie.Need-returns-2
-returns-2 c = sym (front-last _ _ (omega arith) (omega arith))
+returns-2 c = sym (moved-from _ _ 0 _ (omega arith) (omega arith))
 
 shared-slice-read-t9 : tie.Need-shared-slice-read-t9
 shared-slice-read-t9 c = search needs
@@ -26,8 +24,7 @@ shared-slice-read-t9 c = search needs
 returns-3 : tie.Need-returns-3
 returns-3 c =
     let s = c .before .before .before .args in
-    let e : s .n + 0 ≡ s .n = omega arith in
-    sym (moved-place (s .n) (s .chars .now) 0 (omega arith) ∙ ap (λ (k : ℕ). getD (s .chars .now) k 0) e)
+    sym (moved-from (s .n) (s .chars .now) 0 (s .n) (omega arith) (omega arith))
 
 pub front-after-spec : {M : Type 1} → statement M
 front-after-spec =

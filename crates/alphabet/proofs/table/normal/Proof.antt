@@ -1,4 +1,4 @@
-use Rattle.alphabet.proofs.Normal.{nothing-read, code-read, baudot-code-in}
+use Rattle.alphabet.proofs.ReadingBack.{nothing-read, code-read, baudot-code-in}
 use borrow.Author.Needs.{needs}
 use Rattle.alphabet.proofs.table.normal.Statement.{statement}
 use Rattle.alphabet.proofs.table.normal.Tie as tie

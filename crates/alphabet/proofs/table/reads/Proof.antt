@@ -1,7 +1,7 @@
 -- `table::reads` meets its contract, by the alphabet.
 use mathlib.Core.Path.{refl}
 use Rattle.alphabet.specs.Normal.{reads}
-use Rattle.alphabet.proofs.Normal.{reads-as}
+use Rattle.alphabet.proofs.ReadingBack.{reads-as}
 use borrow.Author.Needs.{needs}
 use Rattle.alphabet.proofs.table.reads.Statement.{statement}
 use Rattle.alphabet.proofs.table.reads.Tie as tie

@@ -25,7 +25,7 @@ use Rattle.queue.specs.Queue.{movedBy}
 use Rattle.queue.proofs.Moves.{moved-by-length, moved-place}
 use Rattle.station.specs.Station.{station}
 use Rattle.station.proofs.Range.{station-in}
-use Rattle.signal_runs.proofs.Parts.{few-codes}
+use Rattle.alphabet.proofs.Ranges.{few-codes}
 use Rattle.station_runs.proofs.Coding.{Coded, Goes, goes, Begins, coded-start, char-in-range, q-begins, some-ms, coded-turn, goes-far, coded-stretch}
 use borrow.Author.Needs.{needs}
 use Rattle.station_runs.proofs.bursts.codes.Statement.{statement}

@@ -1,0 +1,4 @@
+pub mod Same
+pub mod Rule
+pub mod Normal
+pub mod Numbering

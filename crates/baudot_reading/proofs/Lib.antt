@@ -1,0 +1,2 @@
+pub mod ReadingRule
+pub mod Answers

@@ -1,0 +1,4 @@
+pub mod Put
+pub mod Left
+pub mod OpeningRule
+pub mod Answers

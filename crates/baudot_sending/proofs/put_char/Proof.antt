@@ -1,0 +1,120 @@
+-- `sending::put_char` meets its contract, by what is wanted ahead of the character's code.
+use mathlib.Core.Path.{_≡_, _∙_, sym}
+use Prim.Native.Nat.{_≤_}
+use native.Mathlib.Omega.{arith}
+use lib.ListN.{length-set}
+use Rattle.alphabet.specs.declared.Alphabet.the-variants.{Baudot}
+use Rattle.alphabet.specs.declared.Sends.the-variants.{Code}
+use Rattle.alphabet.specs.Normal.{sends}
+use Rattle.baudot.specs.Sending.{wanted}
+use Rattle.baudot.proofs.SendingRule.{own-range}
+use Rattle.baudot_sending.proofs.Put.{put-nothing, put-none, put-some, room-none, room-some}
+use borrow.Author.Needs.{needs}
+use Rattle.baudot_sending.proofs.put_char.Statement.{statement}
+use Rattle.baudot_sending.proofs.put_char.Tie as tie
+
+-- what the character sends, and the range of its shift
+sent-is : (k : tie.After-known-told) → sends Baudot (k .before .before .before .before .before .args .c .0) ≡ Code (k .before .e .given .0 .0) (k .before .e .given .0 .1 .0)
+sent-is k = sym (k .before .before .before .lookup-in .ensures) ∙ k .before .e .given .1
+
+range-is : (k : tie.After-known-told) → (1 ≤ k .before .e .given .0 .0) × (k .before .e .given .0 .0 ≤ 3)
+range-is k = own-range _ _ _ (k .before .before .before .before .before .pre .1 .0) (sent-is k)
+
+some-is : (c : tie.After-shift-code) → wanted (c .before .before .before .before .before .before .before .before .args .s) (c .before .before .before .before .e .given .0 .0) ≡ 0 → ⊥
+some-is c e = c .before .if1 .left (c .before .before .wanted .ensures ∙ e)
+
+lookup-in-requires : tie.Need-lookup-in-requires
+lookup-in-requires c κs = search needs
+
+enum-known-e : tie.Need-enum-known-e
+enum-known-e c = search needs
+
+enum-told : tie.Need-enum-told
+enum-told c = search needs
+
+returns : tie.Need-returns
+returns c =
+    let a = c .before .before .before .before .args in
+    let p = put-nothing (a .codes .now) (a .at) (a .s) _ (sym (c .before .before .lookup-in .ensures) ∙ c .enum-told .given .1) in
+    (p .placed, p .stored)
+
+wanted-requires : tie.Need-wanted-requires
+wanted-requires c κs =
+    let s = c .before .before .before .before .before in
+    (s .pre .1 .1 .0, own-range _ _ _ (s .pre .1 .0) (sent-is c))
+
+slice-write-codes : tie.Need-slice-write-codes
+slice-write-codes c =
+    let k = c .before .before in
+    let s = k .before .before .before .before .before in
+    room-none (s .args .codes .now) (s .args .at) (s .args .s) _ _ _ (sent-is k) (s .pre .1 .1 .0) (range-is k .0) (range-is k .1) (sym (c .before .wanted .ensures) ∙ c .if1 .taken) (s .pre .1 .1 .1)
+
+add-t13 : tie.Need-add-t13
+add-t13 c = search needs
+
+add-t14 : tie.Need-add-t14
+add-t14 c = search needs
+
+same-length : tie.Need-same-length
+same-length c = search needs
+
+returns-2 : tie.Need-returns-2
+returns-2 c =
+    let k = c .before .before .before in
+    let s = k .before .before .before .before .before in
+    let p = put-none (s .args .codes .now) (s .args .at) (s .args .s) _ _ _ (sent-is k) (s .pre .1 .1 .0) (range-is k .0) (range-is k .1) (sym (c .before .before .wanted .ensures) ∙ c .before .if1 .taken) in
+    (p .placed, p .stored)
+
+shift-code-requires : tie.Need-shift-code-requires
+shift-code-requires c κs = search needs
+
+slice-write-codes-2 : tie.Need-slice-write-codes-2
+slice-write-codes-2 c =
+    let k = c .before .before .before in
+    let s = k .before .before .before .before .before in
+    omega (arith, room-some (s .args .codes .now) (s .args .at) (s .args .s) _ _ _ (sent-is k) (s .pre .1 .1 .0) (range-is k .0) (range-is k .1) (some-is c) (s .pre .1 .1 .1))
+
+add-codes : tie.Need-add-codes
+add-codes c = search needs
+
+slice-write-codes-3 : tie.Need-slice-write-codes-3
+slice-write-codes-3 c =
+    let k = c .before .before .before in
+    let s = k .before .before .before .before .before in
+    rw length-set (room-some (s .args .codes .now) (s .args .at) (s .args .s) _ _ _ (sent-is k) (s .pre .1 .1 .0) (range-is k .0) (range-is k .1) (some-is c) (s .pre .1 .1 .1))
+
+add-t18 : tie.Need-add-t18
+add-t18 c = search needs
+
+same-length-2 : tie.Need-same-length-2
+same-length-2 c = search needs
+
+returns-3 : tie.Need-returns-3
+returns-3 c =
+    let k = c .before .before .before in
+    let s = k .before .before .before .before .before in
+    let p = put-some (s .args .codes .now) (s .args .at) (s .args .s) _ _ _ (sent-is k) (s .pre .1 .1 .0) (range-is k .0) (range-is k .1) (some-is c) in
+    let w = c .before .before .wanted .ensures in
+    (simp w (p .placed), simp (c .shift-code .ensures, w) (p .stored))
+
+pub put-char-spec : {M : Type 1} → statement M
+put-char-spec =
+    tie.close
+    (tie.spec
+    lookup-in-requires
+    enum-known-e
+    enum-told
+    returns
+    wanted-requires
+    slice-write-codes
+    add-t13
+    add-t14
+    same-length
+    returns-2
+    shift-code-requires
+    slice-write-codes-2
+    add-codes
+    slice-write-codes-3
+    add-t18
+    same-length-2
+    returns-3)

@@ -1,0 +1,4 @@
+pub mod RoundTrip
+pub mod Runs
+pub mod Cuts
+pub mod BothShifts
