@@ -17,7 +17,7 @@ use Rattle.frames.specs.declared.Frame.{Frame}
 use Rattle.frames.specs.declared.Found.{Found}
 use Rattle.frames.specs.declared.Found.the-variants.{Nothing, Fault, Code}
 use Rattle.frames.specs.declared.FrameRead.{FrameRead}
-use Rattle.frames.specs.code.Bounds.{FrameIn, FrameOf, FoundIn}
+use Rattle.frames.specs.code.Bounds.{FrameIn, FrameOf, Framed, FoundIn}
 use Rattle.frames.specs.Samples.{Placed, placed, sampleAt, samplesOf, baudotKinds, baudotPlace, baudotSamples, edtKinds, edtPlace, edtSamples}
 use Rattle.frames.specs.Frames.{inFrame, hunting, waiting, gives, goesOn, faulty, parityHeard, withDigit, sampled, frameStep}
 use Rattle.alphabet.specs.Modes.{frameCodes}
@@ -178,14 +178,10 @@ unfolding edtKinds allKinds
 weigh-edt m = is-true _ (kinds-pass (weighs 128) tt edtPlace edtKinds 0 m tt)
 
 -- one ms keeps the frame of a mode in range
-pub frame-45 : (f : Frame) (heard : ℕ) → FrameOf Baudot45 f → FrameOf Baudot45 (frameStep (samplesOf Baudot45) f heard .frame)
-unfolding samplesOf lastMs placed baudotKinds
-frame-45 f heard h = frame-baudot 22 (omega arith) f heard h
-
-pub frame-50 : (f : Frame) (heard : ℕ) → FrameOf Baudot50 f → FrameOf Baudot50 (frameStep (samplesOf Baudot50) f heard .frame)
-unfolding samplesOf lastMs placed baudotKinds
-frame-50 f heard h = frame-baudot 20 (omega arith) f heard h
-
-pub frame-edt : (f : Frame) (heard : ℕ) → FrameOf Edt f → FrameOf Edt (frameStep (samplesOf Edt) f heard .frame)
-unfolding samplesOf lastMs placed edtKinds sampleAt
-frame-edt f heard h = step-in edtSamples 128 (omega arith) weigh-edt (omega arith) refl f heard h
+pub next-in : (mode : Mode) → Framed mode → (f : Frame) (heard : ℕ) → FrameOf mode f
+    → FrameOf mode (frameStep (samplesOf mode) f heard .frame)
+unfolding samplesOf lastMs placed baudotKinds edtKinds sampleAt
+next-in Baudot45 t f heard h = frame-baudot 22 (omega arith) f heard h
+next-in Baudot50 t f heard h = frame-baudot 20 (omega arith) f heard h
+next-in Dtmf t f heard h = absurd t
+next-in Edt t f heard h = step-in edtSamples 128 (omega arith) weigh-edt (omega arith) refl f heard h

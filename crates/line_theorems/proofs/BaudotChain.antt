@@ -78,12 +78,12 @@ module _ (mode : Mode) (code : (k : Keys) (s p c : ℕ) → c < 32 → Gives mod
 
 pub code-45 : (k : Keys) (s p c : ℕ) → c < 32 → Gives Baudot45 (reader hunting k s p) (signal Baudot45 c) (wordOf (eventOf (reads Baudot s c))) (reader hunting k (shiftBy s (reads Baudot s c)) p)
 unfolding hear signal samplesOf
-code-45 k s p c h = code-read Baudot45 (λ r x. refl) k s p _ 143 21 c (reads-code 22 (omega arith) c h)
+code-45 k s p c h = code-read Baudot45 tt k s p _ 143 21 c (reads-code 22 (omega arith) c h)
 
 pub code-50 : (k : Keys) (s p c : ℕ) → c < 32 → Gives Baudot50 (reader hunting k s p) (signal Baudot50 c) (wordOf (eventOf (reads Baudot s c))) (reader hunting k (shiftBy s (reads Baudot s c)) p)
 unfolding hear signal samplesOf
-code-50 k s p c h = code-read Baudot50 (λ r x. refl) k s p _ 130 19 c (reads-code 20 (omega arith) c h)
+code-50 k s p c h = code-read Baudot50 tt k s p _ 130 19 c (reads-code 20 (omega arith) c h)
 
 pub code-edt : (k : Keys) (s p c : ℕ) → c < 128 → Gives Edt (reader hunting k s p) (signal Edt c) (c ∷ []) (reader hunting k s p)
 unfolding hear signal samplesOf reads
-code-edt k s p c h = code-read Edt (λ r x. refl) k s p _ 95 4 c (reads-edt c h)
+code-edt k s p c h = code-read Edt tt k s p _ 95 4 c (reads-edt c h)

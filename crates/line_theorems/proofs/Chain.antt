@@ -24,12 +24,13 @@ use Rattle.reader.specs.declared.Reader.{Reader}
 use Rattle.reader.specs.declared.Reading.{Reading}
 use Rattle.lists.specs.Steps.{stateAfter, outputs}
 use Rattle.frames.specs.Samples.{Placed, samplesOf}
-use Rattle.frames.specs.Frames.{hunting, frameStep, frameNext, frameFound, frameAfter, founds}
-use Rattle.keys.specs.Keys.{ready, keyStep, keyNext, keyCounts, keysAfter, keysHeard}
-use Rattle.reader.specs.Reader.{reader, eventOf, foundEvent, foundShift, keyEvent, prefixAfter, hearFrame, hearKey, hear}
+use Rattle.frames.specs.Frames.{hunting, frameStep}
+use Rattle.frames.specs.code.Bounds.{Framed}
+use Rattle.reader.specs.Reader.{reader, eventOf, hearFrame, hear}
 use Rattle.reader.specs.Words.{wordOf, wordsOf, readerNext, readerEvent, readerAfter, events, words}
 use Rattle.lists.proofs.Steps as steps
 use Rattle.lists.proofs.Steps.{Takes}
+use Rattle.reader.proofs.Parts.{foundsEvents, foundsShift, frames-after, frames-events}
 use Rattle.reader.proofs.WordLists.{words-append}
 use Rattle.line_theorems.proofs.FrameRules.{Hears}
 
@@ -61,15 +62,6 @@ unfolding wordsOf
 one-word n m e =
     words-append (replicate n Nothing) (e ∷ replicate m Nothing) ∙ (λ i. silent-words n i ++ (wordOf e ++ silent-words m i)) ∙ append-nil (wordOf e)
 
--- what the ms of frames end in, in a shift that they may change
-foundsEvents : Alphabet → ℕ → List Found → List Event
-foundsEvents a s [] = []
-foundsEvents a s (o ∷ os) = foundEvent a s o ∷ foundsEvents a (foundShift a s o) os
-
-foundsShift : Alphabet → ℕ → List Found → ℕ
-foundsShift a s [] = s
-foundsShift a s (o ∷ os) = foundsShift a (foundShift a s o) os
-
 -- one code among nothing
 silent-shift : (a : Alphabet) (s n : ℕ) (os : List Found) → foundsShift a s (replicate n nothing ++ os) ≡ foundsShift a s os
 unfolding foundsShift
@@ -82,23 +74,12 @@ silent-events a s zero os = refl
 silent-events a s (suc n) os = ap (λ (l : List Event). Nothing ∷ l) (silent-events a s n os)
 
 -- a mode that reads frames
-module _ (mode : Mode) (law : (r : Reader) (x : ℕ) → hear mode r x ≡ hearFrame mode r x) where
+module _ (mode : Mode) (framed : Framed mode) where
   abbrev samples : List Placed
   samples = samplesOf mode
 
   abbrev a : Alphabet
   a = alphabetOf mode
-
-  frames-after : (r : Reader) (xs : List ℕ) → readerAfter mode r xs ≡ reader (frameAfter samples (r .frame) xs) (r .keys) (foundsShift a (r .shift) (founds samples (r .frame) xs)) (r .prefix)
-  unfolding stateAfter outputs foundsShift
-  frames-after r [] = refl
-  frames-after r (x ∷ xs) = ap (λ (d : Reading). readerAfter mode (d .reader) xs) (law r x) ∙ frames-after (hearFrame mode r x .reader) xs
-
-  frames-events : (r : Reader) (xs : List ℕ) → events mode r xs ≡ foundsEvents a (r .shift) (founds samples (r .frame) xs)
-  unfolding stateAfter outputs foundsEvents
-  frames-events r [] = refl
-  frames-events r (x ∷ xs) =
-      ap (λ (d : Reading). d .event ∷ events mode (d .reader) xs) (law r x) ∙ ap (λ (l : List Event). hearFrame mode r x .event ∷ l) (frames-events (hearFrame mode r x .reader) xs)
 
   -- ms that find one code
   pub code-read : (k : Keys) (s p : ℕ) (xs : List ℕ) (n m c : ℕ) → Hears samples hunting xs (replicate n nothing ++ (Code (record { 0 = c }) ∷ replicate m nothing)) hunting
@@ -110,8 +91,8 @@ module _ (mode : Mode) (law : (r : Reader) (x : ℕ) → hear mode r x ≡ hearF
       let u : foundsShift a t (replicate m nothing) ≡ t = ap (foundsShift a t) (sym (append-nil (replicate m nothing))) ∙ silent-shift a t m [] in
       let v : foundsEvents a t (replicate m nothing) ≡ replicate m Nothing = ap (foundsEvents a t) (sym (append-nil (replicate m nothing))) ∙ silent-events a t m [] ∙ append-nil (replicate m Nothing) in
       record {
-        after = frames-after (reader hunting k s p) xs ∙ (rw (h .after, h .found, silent-shift a s n (Code (record { 0 = c }) ∷ replicate m nothing), u) refl);
-        heard = ap wordsOf (frames-events (reader hunting k s p) xs ∙ ap (foundsEvents a s) (h .found) ∙ silent-events a s n (Code (record { 0 = c }) ∷ replicate m nothing) ∙ ap (λ (l : List Event). replicate n Nothing ++ (eventOf (reads a s c) ∷ l)) v) ∙ one-word n m (eventOf (reads a s c));
+        after = frames-after mode framed (reader hunting k s p) xs ∙ (rw (h .after, h .found, silent-shift a s n (Code (record { 0 = c }) ∷ replicate m nothing), u) refl);
+        heard = ap wordsOf (frames-events mode framed (reader hunting k s p) xs ∙ ap (foundsEvents a s) (h .found) ∙ silent-events a s n (Code (record { 0 = c }) ∷ replicate m nothing) ∙ ap (λ (l : List Event). replicate n Nothing ++ (eventOf (reads a s c) ∷ l)) v) ∙ one-word n m (eventOf (reads a s c));
       }
 
 -- preamble: marks are passed over

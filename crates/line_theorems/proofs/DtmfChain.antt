@@ -33,28 +33,10 @@ use Rattle.signal.specs.Signal.{heldKeys, keysSignal, signal}
 use Rattle.keys.specs.Keys.{ready, keyStep, keysAfter, keysHeard}
 use Rattle.reader.specs.Reader.{reader, eventOf, keyEvent, prefixAfter, hear}
 use Rattle.reader.specs.Words.{wordOf, wordsOf, readerAfter, events}
+use Rattle.reader.proofs.Parts.{keysEvents, keysPrefix, keys-after, keys-events}
 use Rattle.reader.proofs.Outcomes.{digit-outcome, mark-outcome, other-outcome}
 use Rattle.line_theorems.proofs.KeyRules.{KeysTake, key-counts}
 use Rattle.line_theorems.proofs.Chain.{Gives, none, chain, one-word}
-
--- what keys that count end in, behind a prefix that they change
-keysEvents : ℕ → List ℕ → List Event
-keysEvents p [] = []
-keysEvents p (k ∷ ks) = keyEvent p k ∷ keysEvents (prefixAfter p k) ks
-
-keysPrefix : ℕ → List ℕ → ℕ
-keysPrefix p [] = p
-keysPrefix p (k ∷ ks) = keysPrefix (prefixAfter p k) ks
-
-keys-after : (r : Reader) (xs : List ℕ) → readerAfter Dtmf r xs ≡ reader (r .frame) (keysAfter (r .keys) xs) (r .shift) (keysPrefix (r .prefix) (keysHeard (r .keys) xs))
-unfolding stateAfter outputs keysPrefix hear
-keys-after r [] = refl
-keys-after r (x ∷ xs) = keys-after (hear Dtmf r x .reader) xs
-
-keys-events : (r : Reader) (xs : List ℕ) → events Dtmf r xs ≡ keysEvents (r .prefix) (keysHeard (r .keys) xs)
-unfolding stateAfter outputs keysEvents hear
-keys-events r [] = refl
-keys-events r (x ∷ xs) = ap (λ (l : List Event). hear Dtmf r x .event ∷ l) (keys-events (hear Dtmf r x .reader) xs)
 
 -- ms in which no key counts
 silent-prefix : (p n : ℕ) (ks : List ℕ) → keysPrefix p (replicate n 0 ++ ks) ≡ keysPrefix p ks

@@ -1,6 +1,6 @@
 -- `skip` meets its contract: frames, or keys.
 use types.Run.{OneOf}
-use mathlib.Core.Path.{_≡_, refl, sym, subst}
+use mathlib.Core.Path.{_≡_, sym, subst}
 use mathlib.Core.Bool.{not}
 use mathlib.Core.Logic.{⊎-elim}
 use mathlib.Core.List.{[], _∷_}
@@ -10,10 +10,9 @@ use denote.Enum.Declared
 use Rattle.alphabet.specs.declared.Mode.{Mode}
 use Rattle.alphabet.specs.declared.Mode.the-variants.{Baudot45, Baudot50, Dtmf, Edt}
 use Rattle.alphabet.proofs.Mode as declared
-use Rattle.reader.specs.declared.Reader.{Reader}
-use Rattle.reader.specs.Reader.{hear}
+use Rattle.frames.specs.code.Bounds.{Framed}
 use Rattle.reader.specs.code.Bounds.{ReaderIn}
-use Rattle.reader_runs.specs.code.Skipping.{Framed, Skips}
+use Rattle.reader_runs.specs.code.Skipping.{Skips}
 use borrow.Author.Needs.{needs}
 use Rattle.reader_runs.proofs.skip.Statement.{statement}
 use Rattle.reader_runs.proofs.skip.Tie as tie
@@ -26,18 +25,18 @@ never {A} {m} {n} t e = absurd (T-not (eqb m n) t (subst (λ (k : ℕ). T (eqb m
 
 -- any mode but DTMF
 framed : (m : Mode) → OneOf (0 ∷ 1 ∷ 3 ∷ []) (tag m) → Framed m
-unfolding tag hear
-framed Baudot45 p = record { hears = λ (r : Reader) (x : ℕ). refl }
-framed Baudot50 p = record { hears = λ (r : Reader) (x : ℕ). refl }
+unfolding tag
+framed Baudot45 p = tt
+framed Baudot50 p = tt
 framed Dtmf p = ⊎-elim (never tt) (⊎-elim (never tt) (never tt)) p
-framed Edt p = record { hears = λ (r : Reader) (x : ℕ). refl }
+framed Edt p = tt
 
 enum-told : tie.Need-enum-told
 enum-told c = search needs
 
 skip-frame-requires : tie.Need-skip-frame-requires
 unfolding tag
-skip-frame-requires c κs = let s = c .before .before in (framed _ (c .match .keys2), (s .pre .0, s .pre .1 .1))
+skip-frame-requires c κs = let s = c .before .before in (framed (s .args .mode) (c .match .keys2), (s .pre .0, s .pre .1 .1 .1))
 
 returns : tie.Need-returns
 returns c = c .skip-frame .ensures
