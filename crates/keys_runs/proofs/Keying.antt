@@ -89,7 +89,7 @@ module _ (heard : List ℕ) (levels : allAtMost 16 heard ≡ true) where
     still-passes : s .key ≡ 0 → s .ms ≡ 0 → (to : ℕ) → QuietFrom heard (s .needed) i to → KeysPass heard s i s to
     still-passes a b to t =
         let same : (n : ℕ) → s .needed ≡ n → keysAt 0 0 n ≡ s
-            = λ (n : ℕ) (c : s .needed ≡ n). λ j. keysAt (sym a j) (sym b j) (sym c j) in
+        = λ (n : ℕ) (c : s .needed ≡ n). λ j. keysAt (sym a j) (sym b j) (sym c j) in
         keys-pass (λ (k : ℕ). s) refl to (t .low) (t .high)
         (λ (k : ℕ) (g : k < to - i). let n = t .still (omega arith) in
         still-step s (getD heard (i + k) 0) (λ (z : s .needed ≡ 0). omega arith)

@@ -152,13 +152,11 @@ fn hear_frame(mode: Mode, r: Reader, heard: u8) -> Reading
     let o = found_outcome(mode, r.shift, found);
     let event = o.event;
     let frame = f.frame;
-    let keys = r.keys;
     Reading {
         reader: Reader {
             frame,
-            keys,
             shift: o.next,
-            prefix: r.prefix,
+            ..r
         },
         event,
     }
@@ -174,14 +172,12 @@ fn hear_key(r: Reader, heard: u8) -> Reading
     let k = keys::key_step(before, heard);
     let o = key_outcome(r.prefix, k.key);
     let event = o.event;
-    let frame = r.frame;
     let keys = k.keys;
     Reading {
         reader: Reader {
-            frame,
             keys,
-            shift: r.shift,
             prefix: o.next,
+            ..r
         },
         event,
     }
@@ -212,8 +208,7 @@ pub fn inhibited(r: Reader) -> Reader
             digits: 0,
         },
         keys,
-        shift: r.shift,
-        prefix: r.prefix,
+        ..r
     }
 }
 
