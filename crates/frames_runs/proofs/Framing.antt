@@ -18,11 +18,11 @@ use Rattle.frames.specs.declared.FrameRead.{FrameRead}
 use Rattle.frames.specs.declared.Found.the-variants.{Nothing as nothing}
 use Rattle.frames.specs.Samples.{Placed, sampleAt, samplesOf}
 use Rattle.frames.specs.Frames.{gives, sampled, frameStep, frameNext, frameFound}
-use Rattle.frames.specs.code.Bounds.{Framed, FrameOf}
+use Rattle.frames.specs.code.Bounds.{Framed, FrameOf, isFound}
 use Rattle.frames.proofs.Range.{digits-128, next-in}
 use Rattle.frames_runs.specs.declared.samples.Effect.the-variants.{On, Hunts}
 use Rattle.frames_runs.specs.code.Samples.{numberAt, sampleMs, kindOf, Does}
-use Rattle.frames_runs.specs.code.Passing.{frameAt, isFound, FramePasses, placeAfter, Stays}
+use Rattle.frames_runs.specs.code.Passing.{frameAt, FramePasses, placeAfter, Stays}
 use Rattle.frames_runs.proofs.Numbered.{next-of, number-next, ms-grows}
 
 -- ---- hunting and waiting: the place stays
@@ -44,7 +44,8 @@ module _ (heard : List ℕ) (place i to : ℕ) where
     stays = λ (k : ℕ) (l : i ≤ k) (m : k < to). rw (u .same k l m, e) refl;
   }
 
-either-place : (b : Bool) (p : ℕ) → gives (cond b (frameAt p 0) (frameAt 0 0)) nothing ≡ gives (frameAt (cond b p 0) 0) nothing
+either-place : (b : Bool) (p : ℕ)
+    → gives (cond b (frameAt p 0) (frameAt 0 0)) nothing ≡ gives (frameAt (cond b p 0) 0) nothing
 either-place true p = refl
 either-place false p = refl
 
@@ -55,11 +56,13 @@ module _ (mode : Mode) (framed : Framed mode) (heard : List ℕ) where
   abbrev step : Frame → ℕ → FrameRead
   step f x = frameStep samples f x
 
-  keeps : (i : ℕ) → i < length heard → (f : Frame) → FrameOf mode f → FrameOf mode (frameNext samples f (getD heard i 0))
+  keeps : (i : ℕ) → i < length heard → (f : Frame) → FrameOf mode f
+      → FrameOf mode (frameNext samples f (getD heard i 0))
   keeps i l f h = next-in mode framed f (getD heard i 0) h
 
   -- a ms that leaves the frame at g and finds nothing
-  silent : (f g : Frame) (x : ℕ) → step f x ≡ gives g nothing → Silent (frameNext samples) (frameFound samples) isFound f x g
+  silent : (f g : Frame) (x : ℕ) → step f x ≡ gives g nothing
+      → Silent (frameNext samples) (frameFound samples) isFound f x g
   silent f g x e = record {
     next = ap (λ (r : FrameRead). r .frame) e;
     nothing = ap (λ (r : FrameRead). isFound (r .found)) e;
@@ -95,13 +98,15 @@ module _ (mode : Mode) (framed : Framed mode) (heard : List ℕ) where
 
   -- ---- hunting and waiting
 
-  alike-step : (place digits x : ℕ) → place ≤ 1 → step (frameAt place digits) x ≡ gives (frameAt (placeAfter place x) 0) nothing
+  alike-step : (place digits x : ℕ) → place ≤ 1
+      → step (frameAt place digits) x ≡ gives (frameAt (placeAfter place x) 0) nothing
   unfolding frameStep placeAfter
   alike-step zero digits x h = either-place (eqb x 2) 2
   alike-step (suc zero) digits x h = either-place (eqb x 2) 1
   alike-step (suc (suc place)) digits x h = absurd (omega arith)
 
-  pub alike-passes : (place digits i to : ℕ) → FrameOf mode (frameAt place digits) → place ≤ 1 → i < length heard → Stays heard place i to
+  pub alike-passes : (place digits i to : ℕ) → FrameOf mode (frameAt place digits) → place ≤ 1 → i < length heard
+      → Stays heard place i to
       → FramePasses mode heard (frameAt place digits) i (frameAt place 0) to
   alike-passes place digits i to h l m s =
       let d = h .digits-in in
@@ -110,22 +115,29 @@ module _ (mode : Mode) (framed : Framed mode) (heard : List ℕ) where
       pass-chain _ _ _ i i to
       (pass-same _ _ i none m (alike-step place 0 x l ∙ sym (alike-step place digits x l)))
       (pass-to (λ (k : ℕ). frameAt place 0) i to none (s .low) (s .high)
-      (λ (k : ℕ) (g : k < to - i). alike-step place 0 (getD heard (i + k) 0) l ∙ ap (λ (p : ℕ). gives (frameAt p 0) nothing) (s .stays (i + k) (omega arith) (omega arith))))
+      (λ (k : ℕ) (g : k < to - i). alike-step place 0 (getD heard (i + k) 0) l
+      ∙ ap (λ (p : ℕ). gives (frameAt p 0) nothing) (s .stays (i + k) (omega arith) (omega arith))))
 
-  pub alike-next : (place digits i at : ℕ) → FrameOf mode (frameAt place digits) → place ≤ 1 → i < length heard → Stays heard place i at → at < length heard
-      → (p : ℕ) → p ≡ placeAfter place (getD heard at 0) → FramePasses mode heard (frameAt place digits) i (frameAt p 0) (at + 1)
+  pub alike-next : (place digits i at : ℕ) → FrameOf mode (frameAt place digits) → place ≤ 1 → i < length heard
+      → Stays heard place i at → at < length heard
+      → (p : ℕ) → p ≡ placeAfter place (getD heard at 0)
+      → FramePasses mode heard (frameAt place digits) i (frameAt p 0) (at + 1)
   alike-next place digits i at h l m s a p e =
       let b = alike-passes place digits i at h l m s in
       pass-chain _ _ _ i at (at + 1) b
-      (pass-one _ _ at (b .in-range) a (alike-step place 0 (getD heard at 0) l ∙ ap (λ (n : ℕ). gives (frameAt n 0) nothing) (sym e)))
+      (pass-one _ _ at (b .in-range) a
+      (alike-step place 0 (getD heard at 0) l ∙ ap (λ (n : ℕ). gives (frameAt n 0) nothing) (sym e)))
 
 -- ---- in a frame
 
 module _ (mode : Mode) where
   -- a ms of a frame
-  in-frame : (place digits x : ℕ) → 2 ≤ place → frameStep (samplesOf mode) (frameAt place digits) x ≡ sampled (sampleAt (samplesOf mode) (place - 1)) (place - 1) digits x
+  in-frame : (place digits x : ℕ) → 2 ≤ place
+      → frameStep (samplesOf mode) (frameAt place digits) x
+      ≡ sampled (sampleAt (samplesOf mode) (place - 1)) (place - 1) digits x
   unfolding frameStep
-  in-frame place digits x l = rw (ne-eqb place 0 (λ (e : place ≡ 0). omega arith), ne-eqb place 1 (λ (e : place ≡ 1). omega arith)) refl
+  in-frame place digits x l =
+      rw (ne-eqb place 0 (λ (e : place ≡ 0). omega arith), ne-eqb place 1 (λ (e : place ≡ 1). omega arith)) refl
 
   -- without a sample on it
   none-step : (place digits k x : ℕ) → 2 ≤ place → sampleAt (samplesOf mode) (place - 1 + k) ≡ None
@@ -143,7 +155,7 @@ module _ (mode : Mode) where
 pub stops : (i to : ℕ) → false ≡ true → i < to
 stops i to e = let z : _≡_ {A = ℕ} 0 1 = cc in absurd (omega arith)
 
--- Before the sample number j, on ms s of the frame and at a place of the list; or, if the list ends before it, at its end.
+-- Before the sample number j, on ms s of the frame and at a place of the list; or at its end, if it ends before that.
 pub record Ahead (mode : Mode) (heard : List ℕ) (f : Frame) (i j s at digits : ℕ) : Type 0 where
   pub ms : s ≡ sampleMs mode j
   pub number : j ≤ 10
@@ -175,7 +187,8 @@ module _ (mode : Mode) (framed : Framed mode) (heard : List ℕ) (f : Frame) (h 
       let behind = n .low in
       let to = at - (at - length heard) in
       let z : place + (to - t) ≡ s + 1 - (at - length heard) = omega arith in
-      let b = none-passes place digits t to g l (omega arith) (omega arith) (λ (k : ℕ) (e : k < to - t). n .none k (omega arith)) in
+      let b = none-passes place digits t to g l (omega arith) (omega arith)
+      (λ (k : ℕ) (e : k < to - t). n .none k (omega arith)) in
       record {
         ms = es;
         number = n .number;
@@ -190,10 +203,12 @@ module _ (mode : Mode) (framed : Framed mode) (heard : List ℕ) (f : Frame) (h 
   pub ahead-start : (place digits : ℕ) → f ≡ frameAt place digits → 2 ≤ place → i ≤ length heard
       → (j s : ℕ) → j ≡ numberAt mode (place - 1) → s ≡ sampleMs mode j
       → Ahead mode heard f i j s (i + (s - (place - 1))) digits
-  ahead-start place digits e l m j s ej es = ahead place digits i (rw (← e) (pass-none mode framed heard f i h m)) l j s _ ej es refl
+  ahead-start place digits e l m j s ej es =
+      ahead place digits i (rw (← e) (pass-none mode framed heard f i h m)) l j s _ ej es refl
 
   module _ (j s at digits : ℕ) (a : Ahead mode heard f i j s at digits) where
-    pub ahead-end : length heard ≤ at → FramePasses mode heard f i (frameAt (s + 1 - (at - length heard)) digits) (length heard)
+    pub ahead-end : length heard ≤ at
+        → FramePasses mode heard f i (frameAt (s + 1 - (at - length heard)) digits) (length heard)
     ahead-end l = let z : at - (at - length heard) ≡ length heard = omega arith in rw z at (a .passes)
 
     module _ (l : at < length heard) where
@@ -214,8 +229,11 @@ module _ (mode : Mode) (framed : Framed mode) (heard : List ℕ) (f : Frame) (h 
           ∙ ap (λ (m : ℕ). sampled (sampleAt (samplesOf mode) m) m digits x) z
           ∙ ap (λ (m : ℕ). sampled (sampleAt (samplesOf mode) m) s digits x) (a .ms)
 
-      sample-passes : (g : Frame) → sampled (kindOf mode j) s digits x ≡ gives g nothing → FramePasses mode heard f i g (at + 1)
-      sample-passes g e = pass-chain mode framed heard _ _ _ i at (at + 1) ahead-here (pass-one mode framed heard _ g at (ahead-here .in-range) l (sample-step ∙ e))
+      sample-passes : (g : Frame) → sampled (kindOf mode j) s digits x ≡ gives g nothing
+          → FramePasses mode heard f i g (at + 1)
+      sample-passes g e =
+          pass-chain mode framed heard _ _ _ i at (at + 1) ahead-here
+          (pass-one mode framed heard _ g at (ahead-here .in-range) l (sample-step ∙ e))
 
       pub ahead-hunts : Does (kindOf mode j) digits x Hunts → FramePasses mode heard f i (frameAt 0 0) (at + 1)
       ahead-hunts e = sample-passes (frameAt 0 0) (e s)

@@ -20,19 +20,6 @@ use Rattle.frames_runs.specs.declared.samples.Effect.{Effect}
 use Rattle.frames_runs.specs.code.Samples.{numberAt, sampleMs, kindOf, Does}
 use Rattle.frames_runs.specs.code.Passing.{frameAt}
 
--- the digits of EDT
-pub edt-digit : (j : ℕ) → (j ≡ 0 → ⊥) → j < 8 → getD edtKinds j None ≡ Digit 64
-unfolding edtKinds
-edt-digit zero n h = absurd (n refl)
-edt-digit (suc zero) n h = refl
-edt-digit (suc (suc zero)) n h = refl
-edt-digit (suc (suc (suc zero))) n h = refl
-edt-digit (suc (suc (suc (suc zero)))) n h = refl
-edt-digit (suc (suc (suc (suc (suc zero))))) n h = refl
-edt-digit (suc (suc (suc (suc (suc (suc zero)))))) n h = refl
-edt-digit (suc (suc (suc (suc (suc (suc (suc zero))))))) n h = refl
-edt-digit (suc (suc (suc (suc (suc (suc (suc (suc j)))))))) n h = absurd (omega arith)
-
 -- the kinds of a mode
 module _ (mode : Mode) (j : ℕ) where
   pub kind-45 : mode ≡ Baudot45 → kindOf mode j ≡ getD baudotKinds j None
@@ -74,7 +61,10 @@ none-is Last t = absurd t
 nextTest : Mode → ℕ → Bool
 nextTest mode m =
     let j = numberAt mode m in
-    leb j 10 && (leb m (sampleMs mode j) && (leb (sampleMs mode j) 254 && passes (λ (k : ℕ). isNone (sampleAt (samplesOf mode) (m + k))) (sampleMs mode j - m) 0))
+    leb j 10 &&
+    (leb m (sampleMs mode j) &&
+    (leb (sampleMs mode j) 254 &&
+    passes (λ (k : ℕ). isNone (sampleAt (samplesOf mode) (m + k))) (sampleMs mode j - m) 0))
 
 pub record Next (mode : Mode) (m j s : ℕ) : Type 0 where
   pub number : j ≤ 10
@@ -98,7 +88,9 @@ next-by mode m t =
       number = leb-true j 10 (is-true a (both-left a (b && (c && d)) t));
       low = leb-true m s (is-true b (both-left b (c && d) bcd));
       high = leb-true s 254 (is-true c (both-left c d cd));
-      none = λ (k : ℕ) (g : k < s - m). none-is (sampleAt (samplesOf mode) (m + k)) (passes-at f (s - m) (both-right c d cd) k g);
+      none =
+          λ (k : ℕ) (g : k < s - m).
+          none-is (sampleAt (samplesOf mode) (m + k)) (passes-at f (s - m) (both-right c d cd) k g);
     }
 
 allTest : Mode → ℕ → Bool
@@ -117,7 +109,8 @@ unfolding allTest nextTest passes isNone numberAt sampleMs sampleAt samplesOf pl
 test-edt = tt
 
 -- at each ms of a frame
-next-at : (mode : Mode) (m : ℕ) → 1 ≤ m → m ≤ lastMs (samplesOf mode) → Next mode m (numberAt mode m) (sampleMs mode (numberAt mode m))
+next-at : (mode : Mode) (m : ℕ) → 1 ≤ m → m ≤ lastMs (samplesOf mode)
+    → Next mode m (numberAt mode m) (sampleMs mode (numberAt mode m))
 unfolding allTest lastMs samplesOf placed baudotKinds edtKinds
 next-at Baudot45 m o h = next-by Baudot45 m (passes-at (nextTest Baudot45) 144 test-45 m (omega arith))
 next-at Baudot50 m o h = next-by Baudot50 m (passes-at (nextTest Baudot50) 131 test-50 m (omega arith))
@@ -125,8 +118,10 @@ next-at Dtmf m o h = absurd (omega arith)
 next-at Edt m o h = next-by Edt m (passes-at (nextTest Edt) 96 test-edt m (omega arith))
 
 -- at each place in a frame
-pub next-of : (mode : Mode) (place digits : ℕ) → FrameOf mode (frameAt place digits) → 2 ≤ place → (j s : ℕ) → j ≡ numberAt mode (place - 1) → s ≡ sampleMs mode j → Next mode (place - 1) j s
-next-of mode place digits h l j s ej es = let p = h .place-in in rw (es, ej) (next-at mode (place - 1) (omega arith) (omega arith))
+pub next-of : (mode : Mode) (place digits : ℕ) → FrameOf mode (frameAt place digits) → 2 ≤ place → (j s : ℕ)
+    → j ≡ numberAt mode (place - 1) → s ≡ sampleMs mode j → Next mode (place - 1) j s
+next-of mode place digits h l j s ej es =
+    let p = h .place-in in rw (es, ej) (next-at mode (place - 1) (omega arith) (omega arith))
 
 -- behind a sample, the next one comes
 pub number-next : (mode : Mode) (j : ℕ) → numberAt mode (sampleMs mode j + 1) ≡ j + 1

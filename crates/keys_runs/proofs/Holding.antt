@@ -58,35 +58,42 @@ row-39 k x = go (eqb x (k .key)) refl
     go true e h = (eqb-true x (k .key) e, h)
     go false e h = absurd (omega arith)
 
-module _ (heard : List ℕ) (levels : allAtMost 16 heard ≡ true) (k : Keyed) (i : KeysIn (keysOf k)) (level to : ℕ) (h : to ≤ length heard)
+module _ (heard : List ℕ) (levels : allAtMost 16 heard ≡ true) (k : Keyed) (i : KeysIn (keysOf k)) (level to : ℕ)
+    (h : to ≤ length heard)
     (same : (j : ℕ) → k .to ≤ j → j < to → getD heard j 0 ≡ level) (some : k .to < to) where
   held : (g : ℕ → Keys) → keyStep (keysOf k) level ≡ counts (g 1) 0
-      → ((n : ℕ) → 1 ≤ n → n < to - k .to → keyStep (g n) level ≡ counts (g (suc n)) 0) → KeyPasses heard k (keyedAt (g (to - k .to)) to)
+      → ((n : ℕ) → 1 ≤ n → n < to - k .to → keyStep (g n) level ≡ counts (g (suc n)) 0)
+      → KeyPasses heard k (keyedAt (g (to - k .to)) to)
   unfolding after
   held g first next =
       subst (λ (x : Keys). KeyPasses heard k (keyedAt x to)) (after-some (keysOf k) g (to - k .to) (omega arith))
       (keys-pass heard levels (keysOf k) i (k .to) (after (keysOf k) g) refl to (omega arith) h step)
     where
-      step : (n : ℕ) → n < to - k .to → keyStep (after (keysOf k) g n) (getD heard (k .to + n) 0) ≡ counts (after (keysOf k) g (suc n)) 0
+      step : (n : ℕ) → n < to - k .to
+          → keyStep (after (keysOf k) g n) (getD heard (k .to + n) 0) ≡ counts (after (keysOf k) g (suc n)) 0
       step zero m = ap (keyStep (keysOf k)) (same (k .to + 0) (omega arith) (omega arith)) ∙ first
-      step (suc n) m = ap (keyStep (g (suc n))) (same (k .to + suc n) (omega arith) (omega arith)) ∙ next (suc n) (omega arith) m
+      step (suc n) m =
+          ap (keyStep (g (suc n))) (same (k .to + suc n) (omega arith) (omega arith)) ∙ next (suc n) (omega arith) m
 
   -- quiet
-  pub held-quiet : level ≡ 0 → (left : ℕ) → left ≡ k .needed - (to - k .to) → KeyPasses heard k (record { key = 0; ms = 0; needed = left; to = to })
+  pub held-quiet : level ≡ 0 → (left : ℕ) → left ≡ k .needed - (to - k .to)
+      → KeyPasses heard k (record { key = 0; ms = 0; needed = left; to = to })
   held-quiet e left p =
       rw p (held (λ (n : ℕ). needs (k .needed - n)) (quiet-step (keysOf k) level e)
       (λ (n : ℕ) (a : 1 ≤ n) (b : n < to - k .to). let z : k .needed - n - 1 ≡ k .needed - suc n = omega arith in
       quiet-step (needs (k .needed - n)) level e ∙ ap (λ (m : ℕ). counts (needs m) 0) z))
 
   -- a key, while quiet is needed
-  pub held-still : (level ≡ 0 → ⊥) → (k .needed ≡ 0 → ⊥) → KeyPasses heard k (record { key = 0; ms = 0; needed = 40; to = to })
+  pub held-still : (level ≡ 0 → ⊥) → (k .needed ≡ 0 → ⊥)
+      → KeyPasses heard k (record { key = 0; ms = 0; needed = 40; to = to })
   held-still e n =
       held (λ (m : ℕ). needs 40) (still-step (keysOf k) level n e)
       (λ (m : ℕ) (a : 1 ≤ m) (b : m < to - k .to). still-step (needs 40) level (λ z. omega arith) e)
 
   -- a key that does not count yet
   pub held-row : (level ≡ 0 → ⊥) → k .needed ≡ 0 → rowOf (keysOf k) level + (to - k .to) < 40
-      → (ms : ℕ) → ms ≡ rowOf (keysOf k) level + (to - k .to) → KeyPasses heard k (record { key = level; ms = ms; needed = 0; to = to })
+      → (ms : ℕ) → ms ≡ rowOf (keysOf k) level + (to - k .to)
+      → KeyPasses heard k (record { key = level; ms = ms; needed = 0; to = to })
   held-row e n f ms p = rw p (held (λ (m : ℕ). keysAt level (row + m) 0) first next)
     where
       row : ℕ
@@ -99,19 +106,24 @@ module _ (heard : List ℕ) (levels : allAtMost 16 heard ≡ true) (k : Keyed) (
           ∙ next-step (k .key) (k .ms) level (λ (z : msNext (k .key) (k .ms) level ≡ 40). omega arith)
           ∙ ap (λ (m : ℕ). counts (keysAt level m 0) 0) r
 
-      next : (m : ℕ) → 1 ≤ m → m < to - k .to → keyStep (keysAt level (row + m) 0) level ≡ counts (keysAt level (row + suc m) 0) 0
+      next : (m : ℕ) → 1 ≤ m → m < to - k .to
+          → keyStep (keysAt level (row + m) 0) level ≡ counts (keysAt level (row + suc m) 0) 0
       next m a b =
           let r = next-same level (row + m) level e refl in
           let z : row + m + 1 ≡ row + suc m = omega arith in
-          next-step level (row + m) level (λ (y : msNext level (row + m) level ≡ 40). omega arith) ∙ ap (λ (i : ℕ). counts (keysAt level i 0) 0) (r ∙ z)
+          next-step level (row + m) level (λ (y : msNext level (row + m) level ≡ 40). omega arith)
+          ∙ ap (λ (i : ℕ). counts (keysAt level i 0) 0) (r ∙ z)
 
 -- up to the ms in which a key counts
-pub held-count : (heard : List ℕ) → allAtMost 16 heard ≡ true → (k : Keyed) → KeysIn (keysOf k) → (level end : ℕ) → end ≤ length heard
+pub held-count : (heard : List ℕ) → allAtMost 16 heard ≡ true → (k : Keyed) → KeysIn (keysOf k) → (level end : ℕ)
+    → end ≤ length heard
     → ((j : ℕ) → k .to ≤ j → j < end → getD heard j 0 ≡ level) → (level ≡ 0 → ⊥) → k .needed ≡ 0 → k .ms < 40
-    → (to : ℕ) → to ≡ k .to + (39 - rowOf (keysOf k) level) → to < end → KeyPasses heard k (record { key = level; ms = 39; needed = 0; to = to })
+    → (to : ℕ) → to ≡ k .to + (39 - rowOf (keysOf k) level) → to < end
+    → KeyPasses heard k (record { key = level; ms = 39; needed = 0; to = to })
 held-count heard levels k i level end h same e n f to p l = go (eqb (rowOf (keysOf k) level) 39) refl
   where
-    go : (b : Bool) → eqb (rowOf (keysOf k) level) 39 ≡ b → KeyPasses heard k (record { key = level; ms = 39; needed = 0; to = to })
+    go : (b : Bool) → eqb (rowOf (keysOf k) level) 39 ≡ b
+        → KeyPasses heard k (record { key = level; ms = 39; needed = 0; to = to })
     go true z =
         let r = eqb-true (rowOf (keysOf k) level) 39 z in
         let q = row-39 (keysOf k) level r in
@@ -120,4 +132,6 @@ held-count heard levels k i level end h same e n f to p l = go (eqb (rowOf (keys
     go false z =
         let r = eqb-false (rowOf (keysOf k) level) 39 z in
         let s = row-few (keysOf k) level f in
-        held-row heard levels k i level to (omega arith) (λ (j : ℕ) (a : k .to ≤ j) (b : j < to). same j a (omega arith)) (omega (arith, r)) e n (omega arith) 39 (omega arith)
+        held-row heard levels k i level to (omega arith)
+        (λ (j : ℕ) (a : k .to ≤ j) (b : j < to). same j a (omega arith)) (omega (arith, r)) e n (omega arith) 39
+        (omega arith)

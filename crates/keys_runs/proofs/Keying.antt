@@ -16,10 +16,10 @@ use Rattle.lists.proofs.Passing.{Silent}
 use Rattle.keys.specs.declared.Keys.{Keys}
 use Rattle.keys.specs.declared.KeyRead.{KeyRead}
 use Rattle.keys.specs.Keys.{keysAt, ready, needs, counts, nthMs, keyStep, keyNext, keyCounts}
-use Rattle.keys.specs.code.Bounds.{KeysIn}
+use Rattle.keys.specs.code.Bounds.{KeysIn, isKey}
 use Rattle.keys.proofs.Range.{key-step-in}
 use Rattle.keys_runs.specs.declared.Keyed.{Keyed}
-use Rattle.keys_runs.specs.code.Passing.{isKey, KeysPass, KeyPasses, QuietFrom, msNext, keyAfter, msAfter}
+use Rattle.keys_runs.specs.code.Passing.{KeysPass, KeyPasses, QuietFrom, msNext, keyAfter, msAfter}
 use Rattle.keys_runs.proofs.Rows.{next-40, after-most}
 
 -- a quiet ms, and one of a key while quiet is needed
@@ -27,7 +27,8 @@ pub quiet-step : (k : Keys) (x : ℕ) → x ≡ 0 → keyStep k x ≡ counts (ne
 unfolding keyStep
 quiet-step k x e = rw e (go (eqb (k .needed) 0) refl)
   where
-    go : (b : Bool) → eqb (k .needed) 0 ≡ b → cond b (counts ready 0) (counts (needs (k .needed - 1)) 0) ≡ counts (needs (k .needed - 1)) 0
+    go : (b : Bool) → eqb (k .needed) 0 ≡ b
+        → cond b (counts ready 0) (counts (needs (k .needed - 1)) 0) ≡ counts (needs (k .needed - 1)) 0
     go true z = let y = eqb-true (k .needed) 0 z in rw y refl
     go false z = refl
 
@@ -35,12 +36,14 @@ pub still-step : (k : Keys) (x : ℕ) → (k .needed ≡ 0 → ⊥) → (x ≡ 0
 unfolding keyStep
 still-step k x n e = rw (ne-eqb (k .needed) 0 n, ne-eqb x 0 e) refl
 
-pub next-step : (key ms x : ℕ) → (msNext key ms x ≡ 40 → ⊥) → keyStep (keysAt key ms 0) x ≡ counts (keysAt x (msNext key ms x) 0) 0
+pub next-step : (key ms x : ℕ) → (msNext key ms x ≡ 40 → ⊥)
+    → keyStep (keysAt key ms 0) x ≡ counts (keysAt x (msNext key ms x) 0) 0
 unfolding keyStep msNext
 next-step key ms x = go (eqb x 0) refl (eqb x key)
   where
     go : (b : Bool) → eqb x 0 ≡ b → (c : Bool) → (cond b 0 (cond c (ms + 1) 1) ≡ 40 → ⊥)
-        → cond b (counts (keysAt 0 0 0) 0) (nthMs x (cond c (ms + 1) 1)) ≡ counts (keysAt x (cond b 0 (cond c (ms + 1) 1)) 0) 0
+        → cond b (counts (keysAt 0 0 0) 0) (nthMs x (cond c (ms + 1) 1))
+        ≡ counts (keysAt x (cond b 0 (cond c (ms + 1) 1)) 0) 0
     go true e c n = sym (ap (λ (m : ℕ). counts (keysAt m 0 0) 0) (eqb-true x 0 e))
     go false e c n = rw (ne-eqb (cond c (ms + 1) 1) 40 n) refl
 
@@ -72,7 +75,8 @@ module _ (heard : List ℕ) (levels : allAtMost 16 heard ≡ true) where
   pub pass-none : (k : Keys) (i : ℕ) → KeysIn k → i ≤ length heard → KeysPass heard k i k i
   pass-none = passing.pass-none keyNext keyCounts isKey KeysIn heard keeps
 
-  pub pass-chain : (s t u : Keys) (i j to : ℕ) → KeysPass heard s i t j → KeysPass heard t j u to → KeysPass heard s i u to
+  pub pass-chain : (s t u : Keys) (i j to : ℕ) → KeysPass heard s i t j → KeysPass heard t j u to
+      → KeysPass heard s i u to
   pass-chain = passing.pass-chain keyNext keyCounts isKey KeysIn heard keeps
 
   module _ (s : Keys) (h : KeysIn s) (i : ℕ) where
@@ -95,7 +99,8 @@ module _ (heard : List ℕ) (levels : allAtMost 16 heard ≡ true) where
         still-step s (getD heard (i + k) 0) (λ (z : s .needed ≡ 0). omega arith)
         (t .others (i + k) (omega arith) (omega arith)) ∙ ap (λ (x : Keys). counts x 0) (same 40 n))
 
-    needed-passes : s .key ≡ 0 → s .ms ≡ 0 → (end to : ℕ) → UpTo i (s .needed) (length heard) end → Through heard i end 0 to
+    needed-passes : s .key ≡ 0 → s .ms ≡ 0 → (end to : ℕ) → UpTo i (s .needed) (length heard) end
+        → Through heard i end 0 to
         → KeysPass heard s i (needs (s .needed - (to - i))) to
     needed-passes a b end to u t =
         let n = s .needed in
@@ -116,7 +121,8 @@ module _ (heard : List ℕ) (levels : allAtMost 16 heard ≡ true) where
         let x = getD heard to 0 in
         let g : msNext key ms x ≡ 40 → ⊥ = rw e at f in
         let q = keysAt x (msNext key ms x) 0 in
-        let o = passing.pass-one keyNext keyCounts isKey KeysIn heard keeps (keysAt key ms 0) q to (c .passes .in-range) l
+        let o = passing.pass-one keyNext keyCounts isKey KeysIn heard keeps (keysAt key ms 0) q to
+        (c .passes .in-range) l
         (silent (keysAt key ms 0) q x (next-step key ms x g)) in
         rw e (record {
           few = next-in key ms x (c .few) g;
@@ -142,7 +148,8 @@ module _ (heard : List ℕ) (levels : allAtMost 16 heard ≡ true) where
           let z : to + (last - to) ≡ last = omega arith in
           rw z at (counted-many key ms to c (last - to) f (omega arith))
 
-      next-last : n ≡ msNext (keyAfter heard to key (last - to)) (msAfter heard to key ms (last - to)) (getD heard last 0)
+      next-last : n
+          ≡ msNext (keyAfter heard to key (last - to)) (msAfter heard to key ms (last - to)) (getD heard last 0)
       unfolding msAfter
       next-last = let z : to + (last - to) ≡ last = omega arith in e ∙ (rw z refl)
 
@@ -154,14 +161,16 @@ module _ (heard : List ℕ) (levels : allAtMost 16 heard ≡ true) where
           let q = next-40 _ _ _ (sym next-last ∙ g) in
           rw (q .0, q .1) at (before-last .passes)
 
-  pub counted-start : (key ms i : ℕ) → key ≤ 16 → ms < 40 → i ≤ length heard → Counted heard (keysAt key ms 0) i key ms i
+  pub counted-start : (key ms i : ℕ) → key ≤ 16 → ms < 40 → i ≤ length heard
+      → Counted heard (keysAt key ms 0) i key ms i
   counted-start key ms i k f l = record {
     few = f;
     passes = pass-none (keysAt key ms 0) i (record { key-in = k; ms-in = f; needed-in = omega arith }) l;
   }
 
   -- quiet that is needed
-  pub passes-quiet : (s : Keys) → KeysIn s → s .key ≡ 0 → s .ms ≡ 0 → (i from end to : ℕ) → QuietFrom heard (s .needed) i from
+  pub passes-quiet : (s : Keys) → KeysIn s → s .key ≡ 0 → s .ms ≡ 0 → (i from end to : ℕ)
+      → QuietFrom heard (s .needed) i from
       → UpTo from (s .needed) (length heard) end → Through heard from end 0 to
       → KeysPass heard s i (needs (s .needed - (to - from))) to
   passes-quiet s h a b i from end to f u t =

@@ -52,7 +52,8 @@ module _ (heard : List ℕ) (to key ms : ℕ) where
 
   -- after b ms in a row, p more
   run : (x q b : ℕ) → (x ≡ 0 → ⊥) → msNext (keyAfter heard to key q) (msAfter heard to key ms q) x ≡ b
-      → (p n : ℕ) → n ≡ q + p → ((k : ℕ) → q ≤ k → k ≤ n → getD heard (to + k) 0 ≡ x) → msAfter heard to key ms (suc n) ≡ b + p
+      → (p n : ℕ) → n ≡ q + p → ((k : ℕ) → q ≤ k → k ≤ n → getD heard (to + k) 0 ≡ x)
+      → msAfter heard to key ms (suc n) ≡ b + p
   unfolding msAfter keyAfter
   run x q b z h zero n e same =
       let y : n ≡ q = omega arith in
@@ -64,7 +65,10 @@ module _ (heard : List ℕ) (to key ms : ℕ) where
       let a = run x q b z h p n (omega arith) (λ (k : ℕ) (l : q ≤ k) (m : k ≤ n). same k l (omega arith)) in
       let u = same n (omega arith) (omega arith) in
       let v = same (suc n) (omega arith) (omega arith) in
-      next-same (getD heard (to + n) 0) (msAfter heard to key ms (suc n)) (getD heard (to + suc n) 0) (λ (y : getD heard (to + suc n) 0 ≡ 0). z (sym v ∙ y)) (v ∙ sym u) ∙ ap (λ (m : ℕ). m + 1) a ∙ w
+      next-same (getD heard (to + n) 0) (msAfter heard to key ms (suc n)) (getD heard (to + suc n) 0)
+      (λ (y : getD heard (to + suc n) 0 ≡ 0). z (sym v ∙ y)) (v ∙ sym u)
+      ∙ ap (λ (m : ℕ). m + 1) a
+      ∙ w
 
   module _ (last : ℕ) (l : to ≤ last) where
     pub row-quiet : getD heard last 0 ≡ 0 → 0 ≡ msAfter heard to key ms (suc (last - to))
@@ -79,7 +83,8 @@ module _ (heard : List ℕ) (to key ms : ℕ) where
           go true q = let z = eqb-true (to + k) last q in rw z e
           go false q = let z = eqb-false (to + k) last q in b .same (to + k) (omega arith) (omega arith)
 
-      row : (first : ℕ) → msNext (keyAfter heard to key (from - to)) (msAfter heard to key ms (from - to)) x ≡ first → first + (last - from) ≡ msAfter heard to key ms (suc (last - to))
+      row : (first : ℕ) → msNext (keyAfter heard to key (from - to)) (msAfter heard to key ms (from - to)) x ≡ first
+          → first + (last - from) ≡ msAfter heard to key ms (suc (last - to))
       row first h =
           let low = b .low in
           let high = b .high in
@@ -92,7 +97,11 @@ module _ (heard : List ℕ) (to key ms : ℕ) where
           let k = from - to - 1 in
           let z : from - to ≡ suc k = omega arith in
           let y : last + 1 - from ≡ 1 + (last - from) = omega arith in
-          y ∙ row 1 (rw z (next-other (getD heard (to + k) 0) _ x n (λ (q : x ≡ getD heard (to + k) 0). b .other (to + k) (omega arith) (omega arith) (sym q))))
+          y
+          ∙ row 1
+          (rw z
+          (next-other (getD heard (to + k) 0) _ x n
+          (λ (q : x ≡ getD heard (to + k) 0). b .other (to + k) (omega arith) (omega arith) (sym q))))
 
       module _ (g : from ≤ to) where
         at-first : from - to ≡ 0

@@ -1,4 +1,5 @@
 pub mod Outcomes
 pub mod Parts
 pub mod Range
+pub mod Tags
 pub mod WordLists

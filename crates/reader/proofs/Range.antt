@@ -73,13 +73,15 @@ baudot-shift : (shift n : ℕ) → ShiftIn shift → ShiftIn (shiftBy shift (rea
 unfolding reads readBaudot
 baudot-shift shift n h =
     let P : Reads → Type 0 = λ (r : Reads). ShiftIn (shiftBy shift r) in
-    either P (eqb n 0b11111) (Shift 1) _ (omega arith, omega arith) (either P (eqb n 0b11011) (Shift 2) _ (omega arith, omega arith) h)
+    either P (eqb n 0b11111) (Shift 1) _ (omega arith, omega arith)
+    (either P (eqb n 0b11011) (Shift 2) _ (omega arith, omega arith) h)
 
 edt-shift : (shift n : ℕ) → ShiftIn shift → ShiftIn (shiftBy shift (reads edt shift n))
 unfolding reads
 edt-shift shift n h = h
 
-found-shift : (a : Alphabet) → ((shift n : ℕ) → ShiftIn shift → ShiftIn (shiftBy shift (reads a shift n))) → (shift : ℕ) (f : Found) → ShiftIn shift → ShiftIn (foundShift a shift f)
+found-shift : (a : Alphabet) → ((shift n : ℕ) → ShiftIn shift → ShiftIn (shiftBy shift (reads a shift n)))
+    → (shift : ℕ) (f : Found) → ShiftIn shift → ShiftIn (foundShift a shift f)
 found-shift a law shift Nothing h = h
 found-shift a law shift Fault h = h
 found-shift a law shift (Code k) h = law shift (k .0) h

@@ -1,84 +1,33 @@
 -- What a frame may pass over, or keys may, their reader may skip.
-use mathlib.Core.Path.{_≡_, _∙_, refl, sym, ap}
-use mathlib.Core.Bool.{Bool, true, false, not, cond}
-use mathlib.Core.List.{List, [], _∷_, _++_}
+use mathlib.Core.Path.{_≡_, _∙_, sym, ap}
+use mathlib.Core.List.{List}
 use Prim.Native.Nat.{ℕ}
-use lib.Dec.{eqb}
 use lib.ListN.{drop}
-use Rattle.lists.specs.code.Passing.{kept}
 use Rattle.alphabet.specs.declared.Alphabet.{Alphabet}
 use Rattle.alphabet.specs.declared.Mode.{Mode}
 use Rattle.alphabet.specs.declared.Mode.the-variants.{Dtmf}
 use Rattle.alphabet.specs.Modes.{alphabetOf}
 use Rattle.frames.specs.declared.Frame.{Frame}
 use Rattle.frames.specs.declared.Found.{Found}
-use Rattle.frames.specs.declared.Found.the-variants.{Nothing, Fault, Code}
 use Rattle.frames.specs.Samples.{samplesOf}
 use Rattle.frames.specs.Frames.{founds}
 use Rattle.frames.specs.code.Bounds.{Framed}
 use Rattle.keys.specs.declared.Keys.{Keys}
 use Rattle.keys.specs.Keys.{keysHeard}
-use Rattle.reader.specs.declared.Event.the-variants.{Nothing as Silence}
 use Rattle.reader.specs.declared.Reader.{Reader}
-use Rattle.reader.specs.Reader.{foundEvent, foundShift, keyEvent, prefixAfter, withFrame, withKeys, withShift, withPrefix}
-use Rattle.reader.specs.Words.{wordOf, wordsOf}
+use Rattle.reader.specs.Reader.{withFrame, withKeys, withShift, withPrefix}
+use Rattle.reader.specs.Words.{wordsOf}
 use Rattle.reader.specs.code.Bounds.{ReaderIn}
-use Rattle.reader.proofs.Parts.{foundsEvents, foundsShift, keysEvents, keysPrefix, frames-after, frames-events, keys-after, keys-events}
-use Rattle.frames_runs.specs.code.Passing.{isFound, FramePasses}
-use Rattle.keys_runs.specs.code.Passing.{isKey, KeysPass}
+use Rattle.reader.proofs.Parts.{foundsEvents, foundsShift, frames-after, frames-events, kept-shift, kept-words}
+use Rattle.reader.proofs.Parts.{keysEvents, keysPrefix, keys-after, keys-events, kept-prefix, kept-keys}
+use Rattle.frames_runs.specs.code.Passing.{FramePasses}
+use Rattle.keys_runs.specs.code.Passing.{KeysPass}
 use Rattle.reader_runs.specs.code.Skipping.{Skips}
-
--- what is nothing changes no shift and gives no word
-kept-shift : (a : Alphabet) (s : ℕ) (os : List Found) → foundsShift a s (kept isFound os) ≡ foundsShift a s os
-unfolding foundsShift kept
-kept-shift a s [] = refl
-kept-shift a s (Nothing ∷ os) = kept-shift a s os
-kept-shift a s (Fault ∷ os) = kept-shift a s os
-kept-shift a s (Code k ∷ os) = kept-shift a (foundShift a s (Code k)) os
-
-kept-words : (a : Alphabet) (s : ℕ) (os : List Found)
-    → wordsOf (foundsEvents a s (kept isFound os)) ≡ wordsOf (foundsEvents a s os)
-unfolding foundsEvents wordsOf kept
-kept-words a s [] = refl
-kept-words a s (Nothing ∷ os) = kept-words a s os
-kept-words a s (Fault ∷ os) = ap (λ (l : List ℕ). wordOf (foundEvent a s Fault) ++ l) (kept-words a s os)
-kept-words a s (Code k ∷ os) =
-    ap (λ (l : List ℕ). wordOf (foundEvent a s (Code k)) ++ l) (kept-words a (foundShift a s (Code k)) os)
-
--- no key changes no prefix and gives no word
-no-prefix : (p k : ℕ) → eqb k 0 ≡ true → prefixAfter p k ≡ p
-unfolding prefixAfter
-no-prefix p k e = rw e refl
-
-no-event : (p k : ℕ) → eqb k 0 ≡ true → keyEvent p k ≡ Silence
-unfolding keyEvent
-no-event p k e = rw e refl
-
-kept-prefix : (p : ℕ) (ks : List ℕ) → keysPrefix p (kept isKey ks) ≡ keysPrefix p ks
-unfolding keysPrefix kept
-kept-prefix p [] = refl
-kept-prefix p (k ∷ ks) = go (λ (q : ℕ). kept-prefix q ks) (eqb k 0) refl
-  where
-    go : ((q : ℕ) → keysPrefix q (kept isKey ks) ≡ keysPrefix q ks) → (b : Bool) → eqb k 0 ≡ b
-        → keysPrefix p (cond (not b) (k ∷ kept isKey ks) (kept isKey ks)) ≡ keysPrefix (prefixAfter p k) ks
-    go rest true e = rest p ∙ ap (λ (q : ℕ). keysPrefix q ks) (sym (no-prefix p k e))
-    go rest false e = rest (prefixAfter p k)
-
-kept-keys : (p : ℕ) (ks : List ℕ) → wordsOf (keysEvents p (kept isKey ks)) ≡ wordsOf (keysEvents p ks)
-unfolding keysEvents wordsOf kept
-kept-keys p [] = refl
-kept-keys p (k ∷ ks) = go (λ (q : ℕ). kept-keys q ks) (eqb k 0) refl
-  where
-    go : ((q : ℕ) → wordsOf (keysEvents q (kept isKey ks)) ≡ wordsOf (keysEvents q ks)) → (b : Bool) → eqb k 0 ≡ b
-        → wordsOf (keysEvents p (cond (not b) (k ∷ kept isKey ks) (kept isKey ks)))
-        ≡ wordOf (keyEvent p k) ++ wordsOf (keysEvents (prefixAfter p k) ks)
-    go rest true e =
-        rest p ∙ sym (λ j. wordOf (no-event p k e j) ++ wordsOf (keysEvents (no-prefix p k e j) ks))
-    go rest false e = ap (λ (l : List ℕ). wordOf (keyEvent p k) ++ l) (rest (prefixAfter p k))
 
 -- ---- a reader of frames
 
-module _ (mode : Mode) (framed : Framed mode) (heard : List ℕ) (r : Reader) (h : ReaderIn mode r) (i : ℕ) (g : Frame) (to : ℕ)
+module _ (mode : Mode) (framed : Framed mode) (heard : List ℕ) (r : Reader) (h : ReaderIn mode r) (i : ℕ) (g : Frame)
+    (to : ℕ)
     (p : FramePasses mode heard (r .frame) i g to) where
   abbrev a : Alphabet
   a = alphabetOf mode
@@ -90,7 +39,8 @@ module _ (mode : Mode) (framed : Framed mode) (heard : List ℕ) (r : Reader) (h
   behind = founds (samplesOf mode) g (drop to heard)
 
   same-shift : foundsShift a (r .shift) behind ≡ foundsShift a (r .shift) before
-  same-shift = sym (kept-shift a (r .shift) behind) ∙ ap (foundsShift a (r .shift)) (p .rest) ∙ kept-shift a (r .shift) before
+  same-shift =
+      sym (kept-shift a (r .shift) behind) ∙ ap (foundsShift a (r .shift)) (p .rest) ∙ kept-shift a (r .shift) before
 
   same-words : wordsOf (foundsEvents a (r .shift) behind) ≡ wordsOf (foundsEvents a (r .shift) before)
   same-words =
@@ -121,7 +71,8 @@ module _ (mode : Mode) (framed : Framed mode) (heard : List ℕ) (r : Reader) (h
 
 -- ---- a reader of keys
 
-module _ (heard : List ℕ) (r : Reader) (h : ReaderIn Dtmf r) (i : ℕ) (k : Keys) (to : ℕ) (p : KeysPass heard (r .keys) i k to) where
+module _ (heard : List ℕ) (r : Reader) (h : ReaderIn Dtmf r) (i : ℕ) (k : Keys) (to : ℕ)
+    (p : KeysPass heard (r .keys) i k to) where
   abbrev counted : List ℕ
   counted = keysHeard (r .keys) (drop i heard)
 
@@ -129,7 +80,8 @@ module _ (heard : List ℕ) (r : Reader) (h : ReaderIn Dtmf r) (i : ℕ) (k : Ke
   counting = keysHeard k (drop to heard)
 
   same-prefix : keysPrefix (r .prefix) counting ≡ keysPrefix (r .prefix) counted
-  same-prefix = sym (kept-prefix (r .prefix) counting) ∙ ap (keysPrefix (r .prefix)) (p .rest) ∙ kept-prefix (r .prefix) counted
+  same-prefix =
+      sym (kept-prefix (r .prefix) counting) ∙ ap (keysPrefix (r .prefix)) (p .rest) ∙ kept-prefix (r .prefix) counted
 
   same-keys : wordsOf (keysEvents (r .prefix) counting) ≡ wordsOf (keysEvents (r .prefix) counted)
   same-keys =
@@ -153,5 +105,7 @@ module _ (heard : List ℕ) (r : Reader) (h : ReaderIn Dtmf r) (i : ℕ) (k : Ke
         ∙ (λ j. withPrefix (withKeys r (p .after j)) (same-prefix j))
         ∙ sym (keys-after r (drop i heard));
     words =
-        ap wordsOf (keys-events (withKeys r k) (drop to heard)) ∙ same-keys ∙ sym (ap wordsOf (keys-events r (drop i heard)));
+        ap wordsOf (keys-events (withKeys r k) (drop to heard))
+        ∙ same-keys
+        ∙ sym (ap wordsOf (keys-events r (drop i heard)));
   }

@@ -1,6 +1,6 @@
 -- The bounds that the functions of this crate ask for.
 use Prim.Native.Nat.{ℕ, _+_, _≤_, _<_}
-use mathlib.Core.Bool.{Bool, true}
+use mathlib.Core.Bool.{Bool, true, false}
 use lib.Dec.{leb}
 use Rattle.alphabet.specs.declared.Mode.{Mode}
 use Rattle.alphabet.specs.declared.Mode.the-variants.{Baudot45, Baudot50, Dtmf, Edt}
@@ -47,3 +47,9 @@ abbrev pub FoundIn : ℕ → Found → Type 0
 FoundIn n Nothing = Unit {0}
 FoundIn n Fault = Unit {0}
 FoundIn n (Code k) = k .0 < n
+
+-- something was found
+abbrev pub isFound : Found → Bool
+isFound Nothing = false
+isFound Fault = true
+isFound (Code k) = true

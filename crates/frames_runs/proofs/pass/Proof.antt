@@ -16,8 +16,11 @@ pass-alike-requires c κs = search needs
 
 returns-2 : tie.Need-returns-2
 returns-2 c =
-    let s = c .before .before .before .before in
-    (alike-passes (s .args .mode) (s .pre .0) _ _ _ _ _ (s .pre .1 .0) (c .before .before .if1 .left) (s .pre .1 .1) (c .before .pass-alike .ensures), stops _ _)
+    let s = c .before .before .before .before in (
+      alike-passes (s .args .mode) (s .pre .0) _ _ _ _ _ (s .pre .1 .0) (c .before .before .if1 .left) (s .pre .1 .1)
+          (c .before .pass-alike .ensures),
+      stops _ _,
+    )
 
 shared-slice-read-place-after : tie.Need-shared-slice-read-place-after
 shared-slice-read-place-after c = search needs
@@ -34,8 +37,11 @@ returns-3 c =
     let a = c .before .before .before .pass-alike .ensures in
     let low = a .low in
     let high = a .high in
-    let n = c .before .before .if2 .left in
-    (alike-next (s .args .mode) (s .pre .0) _ _ _ _ _ (s .pre .1 .0) (c .before .before .before .before .if1 .left) (s .pre .1 .1) a (omega arith) _ (c .place-after .ensures), λ t. omega arith)
+    let n = c .before .before .if2 .left in (
+      alike-next (s .args .mode) (s .pre .0) _ _ _ _ _ (s .pre .1 .0) (c .before .before .before .before .if1 .left)
+          (s .pre .1 .1) a (omega arith) _ (c .place-after .ensures),
+      λ t. omega arith,
+    )
 
 pub pass-spec : {M : Type 1} → statement M
 pass-spec =

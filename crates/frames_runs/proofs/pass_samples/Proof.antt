@@ -34,13 +34,15 @@ sample-ms-requires c κs =
 sub-at : tie.Need-sub-at Inv-loop μ-loop
 sub-at c =
     let s = c .before .before .before in
-    let n = next-of (s .args .mode) _ _ (s .pre .1 .0) (s .pre .1 .1 .0) _ _ (c .before .number-at .ensures) (c .sample-ms .ensures) in
+    let n = next-of (s .args .mode) _ _ (s .pre .1 .0) (s .pre .1 .1 .0) _ _ (c .before .number-at .ensures)
+    (c .sample-ms .ensures) in
     n .low
 
 add-at : tie.Need-add-at Inv-loop μ-loop
 add-at c =
     let s = c .before .before .before in
-    let n = next-of (s .args .mode) _ _ (s .pre .1 .0) (s .pre .1 .1 .0) _ _ (c .before .number-at .ensures) (c .sample-ms .ensures) in
+    let n = next-of (s .args .mode) _ _ (s .pre .1 .0) (s .pre .1 .1 .0) _ _ (c .before .number-at .ensures)
+    (c .sample-ms .ensures) in
     let high = n .high in
     omega arith
 
@@ -48,7 +50,8 @@ loop-holds : tie.Need-loop-holds Inv-loop μ-loop
 loop-holds c =
     let s = c .before .before .before in
     let i = s .pre .1 .1 .1 in
-    ahead-start (s .args .mode) (s .pre .0) _ _ (s .pre .1 .0) _ _ _ refl (s .pre .1 .1 .0) (omega arith) _ _ (c .before .number-at .ensures) (c .sample-ms .ensures)
+    ahead-start (s .args .mode) (s .pre .0) _ _ (s .pre .1 .0) _ _ _ refl (s .pre .1 .1 .0) (omega arith) _ _
+    (c .before .number-at .ensures) (c .sample-ms .ensures)
 
 shared-slice-read-effect-of : tie.Need-shared-slice-read-effect-of Inv-loop μ-loop
 shared-slice-read-effect-of c = search needs
@@ -68,8 +71,11 @@ add-t19 c = search needs
 returns : tie.Need-returns Inv-loop μ-loop
 returns c =
     let s = c .before .before .before .before .before .before .before .before .before in
-    let l = c .before .before .before .before .before .loop in
-    (ahead-here (s .args .mode) (s .pre .0) _ _ (s .pre .1 .0) _ _ _ _ _ (l .inv) (c .before .before .before .before .loop-test .taken), stops _ _)
+    let l = c .before .before .before .before .before .loop in (
+      ahead-here (s .args .mode) (s .pre .0) _ _ (s .pre .1 .0) _ _ _ _ _ (l .inv)
+          (c .before .before .before .before .loop-test .taken),
+      stops _ _,
+    )
 
 add-t20 : tie.Need-add-t20 Inv-loop μ-loop
 add-t20 c = search needs
@@ -80,8 +86,12 @@ returns-2 c =
     let l = c .before .before .before .before .before .before .loop in
     let x = getD (s .args .heard .now) (l .at) 0 in
     let e = c .before .before .before .effect-of in
-    let from = l .inv .from in
-    (ahead-hunts (s .args .mode) (s .pre .0) _ _ (s .pre .1 .0) _ _ _ _ _ (l .inv) (c .before .before .before .before .before .loop-test .taken) (subst (Does (kindOf (s .args .mode) (l .j)) (l .d) x) (c .enum-told .given .1) (e .ensures)), λ t. omega arith)
+    let from = l .inv .from in (
+      ahead-hunts (s .args .mode) (s .pre .0) _ _ (s .pre .1 .0) _ _ _ _ _ (l .inv)
+          (c .before .before .before .before .before .loop-test .taken)
+          (subst (Does (kindOf (s .args .mode) (l .j)) (l .d) x) (c .enum-told .given .1) (e .ensures)),
+      λ t. omega arith,
+    )
 
 add-j : tie.Need-add-j Inv-loop μ-loop
 add-j c = search needs
@@ -125,7 +135,10 @@ loop-again c =
     let l = c .before .before .before .before .before .before .before .loop in
     let x = getD (s .args .heard .now) (l .at) 0 in
     let e = c .before .before .before .before .effect-of in
-    ahead-turn (s .args .mode) (s .pre .0) _ _ (s .pre .1 .0) _ _ _ _ _ (l .inv) (c .before .before .before .before .before .before .loop-test .taken) _ (subst (Does (kindOf (s .args .mode) (l .j)) (l .d) x) (c .before .before .e .given .1) (e .ensures)) _ _ _ refl (c .sample-ms2 .ensures) refl
+    ahead-turn (s .args .mode) (s .pre .0) _ _ (s .pre .1 .0) _ _ _ _ _ (l .inv)
+    (c .before .before .before .before .before .before .loop-test .taken) _
+    (subst (Does (kindOf (s .args .mode) (l .j)) (l .d) x) (c .before .before .e .given .1) (e .ensures)) _ _ _ refl
+    (c .sample-ms2 .ensures) refl
 
 add-t14 : tie.Need-add-t14 Inv-loop μ-loop
 add-t14 c = search needs

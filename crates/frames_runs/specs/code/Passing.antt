@@ -1,7 +1,7 @@
 -- Ms of frames that end in nothing.
 use Prim.Native.Nat.{ℕ, _≤_, _<_}
 use mathlib.Core.Path.{_≡_}
-use mathlib.Core.Bool.{Bool, true, false, cond}
+use mathlib.Core.Bool.{cond}
 use mathlib.Core.List.{List}
 use lib.Dec.{eqb}
 use lib.ListN.{length, getD}
@@ -9,19 +9,12 @@ use Rattle.lists.specs.code.Passing.{Passes}
 use Rattle.alphabet.specs.declared.Mode.{Mode}
 use Rattle.signal.specs.Signal.{space}
 use Rattle.frames.specs.declared.Frame.{Frame}
-use Rattle.frames.specs.declared.Found.{Found}
-use Rattle.frames.specs.declared.Found.the-variants.{Nothing, Fault, Code}
 use Rattle.frames.specs.Samples.{samplesOf}
 use Rattle.frames.specs.Frames.{frameNext, frameFound}
-use Rattle.frames.specs.code.Bounds.{FrameOf}
+use Rattle.frames.specs.code.Bounds.{FrameOf, isFound}
 
 abbrev pub frameAt : ℕ → ℕ → Frame
 frameAt place digits = record { place = place; digits = digits }
-
-abbrev pub isFound : Found → Bool
-isFound Nothing = false
-isFound Fault = true
-isFound (Code k) = true
 
 -- From a place to another, a frame is then another.
 abbrev pub FramePasses : Mode → List ℕ → Frame → ℕ → Frame → ℕ → Type 0

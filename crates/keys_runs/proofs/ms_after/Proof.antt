@@ -21,16 +21,24 @@ sub-n : tie.Need-sub-n
 sub-n c = search needs
 
 returns-2 : tie.Need-returns-2
-returns-2 c = let s = c .before .before .before .before .before in row-later _ _ _ _ _ (s .pre .0) _ _ refl (c .before .before .if1 .left) (c .before .back .ensures) (c .if2 .taken)
+returns-2 c =
+    let s = c .before .before .before .before .before in
+    row-later _ _ _ _ _ (s .pre .0) _ _ refl (c .before .before .if1 .left) (c .before .back .ensures) (c .if2 .taken)
 
 returns-3 : tie.Need-returns-3
-returns-3 c = let s = c .before .before .before .before .before .before in row-other _ _ _ _ _ (s .pre .0) _ _ refl (c .before .before .before .if1 .left) (c .before .before .back .ensures) (c .before .if2 .left) (c .if3 .taken)
+returns-3 c =
+    let s = c .before .before .before .before .before .before in
+    row-other _ _ _ _ _ (s .pre .0) _ _ refl (c .before .before .before .if1 .left) (c .before .before .back .ensures)
+    (c .before .if2 .left) (c .if3 .taken)
 
 add-result : tie.Need-add-result
 add-result c = search needs
 
 returns-4 : tie.Need-returns-4
-returns-4 c = let s = c .before .before .before .before .before .before in row-on _ _ _ _ _ (s .pre .0) _ _ refl (c .before .before .before .if1 .left) (c .before .before .back .ensures) (c .before .if2 .left) (c .if3 .left)
+returns-4 c =
+    let s = c .before .before .before .before .before .before in
+    row-on _ _ _ _ _ (s .pre .0) _ _ refl (c .before .before .before .if1 .left) (c .before .before .back .ensures)
+    (c .before .if2 .left) (c .if3 .left)
 
 pub ms-after-spec : {M : Type 1} → statement M
 ms-after-spec =

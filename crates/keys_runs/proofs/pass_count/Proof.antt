@@ -18,7 +18,8 @@ returns : tie.Need-returns Inv-loop μ-loop
 returns c = let p = c .before .before .before .pre in pass-none _ (p .1 .0) _ _ (p .0) (p .1 .1)
 
 loop-holds : tie.Need-loop-holds Inv-loop μ-loop
-loop-holds c = let p = c .before .before .before .pre in counted-start _ (p .1 .0) _ _ _ (p .0 .key-in) (p .0 .ms-in) (p .1 .1)
+loop-holds c =
+    let p = c .before .before .before .pre in counted-start _ (p .1 .0) _ _ _ (p .0 .key-in) (p .0 .ms-in) (p .1 .1)
 
 sub-up-to : tie.Need-sub-up-to Inv-loop μ-loop
 sub-up-to c = let f = c .before .loop .inv .few in omega arith
@@ -51,7 +52,8 @@ returns-2 c =
     let high = u .high in
     let small = l .few in
     needs-none _ k _ (c .before .before .before .before .before .before .if1 .left)
-    (counted-40 _ (c .before .before .before .before .before .before .before .before .before .pre .1 .0) _ _ _ _ _ _ l (u .low) (omega arith) (omega arith) _ (c .before .before .ms-after .ensures) (c .before .if2 .taken))
+    (counted-40 _ (c .before .before .before .before .before .before .before .before .before .pre .1 .0) _ _ _ _ _ _ l
+    (u .low) (omega arith) (omega arith) _ (c .before .before .ms-after .ensures) (c .before .if2 .taken))
 
 shared-slice-read-key : tie.Need-shared-slice-read-key Inv-loop μ-loop
 shared-slice-read-key c = search needs
@@ -70,11 +72,13 @@ loop-again c =
     let few = u .few in
     let high = u .high in
     let small = l .few in
-    counted-row _ (c .before .before .before .before .before .before .before .before .before .pre .1 .0) _ _ _ _ _ _ l (u .low) (omega arith) (omega arith) _ (c .before .before .ms-after .ensures) (c .before .if2 .left)
+    counted-row _ (c .before .before .before .before .before .before .before .before .before .pre .1 .0) _ _ _ _ _ _ l
+    (u .low) (omega arith) (omega arith) _ (c .before .before .ms-after .ensures) (c .before .if2 .left)
 
 returns-3 : tie.Need-returns-3 Inv-loop μ-loop
 returns-3 c =
-    needs-none _ (c .before .before .before .before .before .args .k) _ (c .before .before .if1 .left) (c .before .loop .inv .passes)
+    needs-none _ (c .before .before .before .before .before .args .k) _ (c .before .before .if1 .left)
+    (c .before .loop .inv .passes)
 
 pub pass-count-spec : {M : Type 1} → statement M
 pass-count-spec =

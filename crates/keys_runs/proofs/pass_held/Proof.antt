@@ -15,7 +15,9 @@ use Rattle.keys_runs.proofs.pass_held.Tie as tie
 
 -- the ms in a row are fewer than 40
 few : (c : tie.After-row) → c .row .result < 40
-few c = let s = c .before .before .before .before .before in let e = c .row .ensures in let f = row-few (keysOf (s .args .k)) (s .args .level) (s .pre .0 .ms-in) in omega arith
+few c =
+    let s = c .before .before .before .before .before in
+    let e = c .row .ensures in let f = row-few (keysOf (s .args .k)) (s .args .level) (s .pre .0 .ms-in) in omega arith
 
 sub-n : tie.Need-sub-n
 sub-n c = search needs
@@ -35,8 +37,11 @@ returns c =
     let k = s .args .k in
     let u = c .before .before .up-to .ensures in
     let z = quiet-left _ _ _ u in
-    λ (heard : List ℕ) (levels : allAtMost 16 heard ≡ true) (h : s .args .end ≤ length heard) (t : Through heard (k .to) (s .args .end) (s .args .level) (s .args .end)).
-    subst (KeyPasses heard k) (sym (c .needing .ensures)) (held-quiet heard levels k (s .pre .0) (s .args .level) (s .args .end) h (t .same) (s .pre .1) (c .before .before .before .if1 .taken) _ z)
+    λ (heard : List ℕ) (levels : allAtMost 16 heard ≡ true) (h : s .args .end ≤ length heard)
+    (t : Through heard (k .to) (s .args .end) (s .args .level) (s .args .end)).
+    subst (KeyPasses heard k) (sym (c .needing .ensures))
+    (held-quiet heard levels k (s .pre .0) (s .args .level) (s .args .end) h (t .same) (s .pre .1)
+    (c .before .before .before .if1 .taken) _ z)
 
 needing-requires-2 : tie.Need-needing-requires-2
 needing-requires-2 c κs = search needs
@@ -45,8 +50,11 @@ returns-2 : tie.Need-returns-2
 returns-2 c =
     let s = c .before .before .before .before .before in
     let k = s .args .k in
-    λ (heard : List ℕ) (levels : allAtMost 16 heard ≡ true) (h : s .args .end ≤ length heard) (t : Through heard (k .to) (s .args .end) (s .args .level) (s .args .end)).
-    subst (KeyPasses heard k) (sym (c .needing2 .ensures)) (held-still heard levels k (s .pre .0) (s .args .level) (s .args .end) h (t .same) (s .pre .1) (c .before .before .before .if1 .left) (c .before .if2 .taken))
+    λ (heard : List ℕ) (levels : allAtMost 16 heard ≡ true) (h : s .args .end ≤ length heard)
+    (t : Through heard (k .to) (s .args .end) (s .args .level) (s .args .end)).
+    subst (KeyPasses heard k) (sym (c .needing2 .ensures))
+    (held-still heard levels k (s .pre .0) (s .args .level) (s .args .end) h (t .same) (s .pre .1)
+    (c .before .before .before .if1 .left) (c .before .if2 .taken))
 
 row-requires : tie.Need-row-requires
 row-requires c κs = search needs
@@ -63,8 +71,10 @@ returns-3 c =
     let k = s .args .k in
     let e = c .before .row .ensures in
     let l = c .if3 .taken in
-    λ (heard : List ℕ) (levels : allAtMost 16 heard ≡ true) (h : s .args .end ≤ length heard) (t : Through heard (k .to) (s .args .end) (s .args .level) (s .args .end)).
-    held-row heard levels k (s .pre .0) (s .args .level) (s .args .end) h (t .same) (s .pre .1) (c .before .before .before .before .if1 .left) (c .before .before .if2 .left) (omega arith) _ (omega arith)
+    λ (heard : List ℕ) (levels : allAtMost 16 heard ≡ true) (h : s .args .end ≤ length heard)
+    (t : Through heard (k .to) (s .args .end) (s .args .level) (s .args .end)).
+    held-row heard levels k (s .pre .0) (s .args .level) (s .args .end) h (t .same) (s .pre .1)
+    (c .before .before .before .before .if1 .left) (c .before .before .if2 .left) (omega arith) _ (omega arith)
 
 sub-t9 : tie.Need-sub-t9
 sub-t9 c = let f = few (c .before) in omega arith
@@ -79,8 +89,11 @@ returns-4 c =
     let e = c .before .before .row .ensures in
     let f = few (c .before .before) in
     let l = c .before .if3 .left in
-    λ (heard : List ℕ) (levels : allAtMost 16 heard ≡ true) (h : s .args .end ≤ length heard) (t : Through heard (k .to) (s .args .end) (s .args .level) (s .args .end)).
-    held-count heard levels k (s .pre .0) (s .args .level) (s .args .end) h (t .same) (c .before .before .before .before .before .if1 .left) (c .before .before .before .if2 .left) (s .pre .0 .ms-in) _ (omega arith) (omega arith)
+    λ (heard : List ℕ) (levels : allAtMost 16 heard ≡ true) (h : s .args .end ≤ length heard)
+    (t : Through heard (k .to) (s .args .end) (s .args .level) (s .args .end)).
+    held-count heard levels k (s .pre .0) (s .args .level) (s .args .end) h (t .same)
+    (c .before .before .before .before .before .if1 .left) (c .before .before .before .if2 .left) (s .pre .0 .ms-in) _
+    (omega arith) (omega arith)
 
 pub pass-held-spec : {M : Type 1} → statement M
 pass-held-spec =

@@ -27,10 +27,13 @@ returns-2 : tie.Need-returns-2
 returns-2 c = let p = c .before .before .before .pre .1 in pass-none _ (p .1 .0) _ _ (p .0) (p .1 .1)
 
 shared-slice-read-pass-held : tie.Need-shared-slice-read-pass-held
-shared-slice-read-pass-held c = let n = c .before .if2 .left in let l = c .before .before .before .before .pre .1 .1 .1 in omega (arith, n)
+shared-slice-read-pass-held c =
+    let n = c .before .if2 .left in let l = c .before .before .before .before .pre .1 .1 .1 in omega (arith, n)
 
 pass-held-requires : tie.Need-pass-held-requires
-pass-held-requires c κs = let p = c .before .before .before .before .pre .1 in let n = c .before .if2 .left in let l = p .1 .1 in (p .0, omega (arith, n))
+pass-held-requires c κs =
+    let p = c .before .before .before .before .pre .1 in
+    let n = c .before .if2 .left in let l = p .1 .1 in (p .0, omega (arith, n))
 
 returns-3 : tie.Need-returns-3
 returns-3 c =
@@ -38,7 +41,9 @@ returns-3 c =
     let p = s .pre in
     let n = c .before .before .if2 .left in
     let l = p .1 .1 .1 in
-    c .pass-held .ensures _ (p .1 .1 .0) (omega arith) (alike-through _ (p .0 (not-false (s .args .alike) (c .before .before .before .if1 .left))) _ (omega (arith, n)) _ refl)
+    c .pass-held .ensures _ (p .1 .1 .0) (omega arith)
+    (alike-through _ (p .0 (not-false (s .args .alike) (c .before .before .before .if1 .left))) _
+    (omega (arith, n)) _ refl)
 
 pub pass-keys-spec : {M : Type 1} → statement M
 pass-keys-spec =

@@ -11,7 +11,8 @@ returns-2 : tie.Need-returns-2
 returns-2 c = let p = c .before .before .before .before .before .pre in pass-none _ (p .1 .0) _ _ (p .0) (p .1 .1)
 
 returns-3 : tie.Need-returns-3
-returns-3 c = let p = c .before .before .before .before .before .before .before .pre in pass-none _ (p .1 .0) _ _ (p .0) (p .1 .1)
+returns-3 c =
+    let p = c .before .before .before .before .before .before .before .pre in pass-none _ (p .1 .0) _ _ (p .0) (p .1 .1)
 
 quiet-from-requires : tie.Need-quiet-from-requires
 quiet-from-requires c κs = search needs

@@ -1,7 +1,7 @@
 -- Ms of keys in which none counts.
 use Prim.Native.Nat.{ℕ, zero, suc, _+_, _≤_, _<_}
 use mathlib.Core.Path.{_≡_}
-use mathlib.Core.Bool.{Bool, not, cond}
+use mathlib.Core.Bool.{cond}
 use mathlib.Core.List.{List}
 use lib.Dec.{eqb}
 use lib.ListN.{length, getD}
@@ -9,14 +9,11 @@ use Rattle.lists.specs.code.Passing.{Passes}
 use Rattle.signal.specs.Signal.{quiet}
 use Rattle.keys.specs.declared.Keys.{Keys}
 use Rattle.keys.specs.Keys.{keysAt, quietMs, keyNext, keyCounts}
-use Rattle.keys.specs.code.Bounds.{KeysIn}
+use Rattle.keys.specs.code.Bounds.{KeysIn, isKey}
 use Rattle.keys_runs.specs.declared.Keyed.{Keyed}
 
 abbrev pub keysOf : Keyed → Keys
 keysOf k = keysAt (k .key) (k .ms) (k .needed)
-
-abbrev pub isKey : ℕ → Bool
-isKey k = not (eqb k 0)
 
 -- From a place to another, some keys are then others.
 abbrev pub KeysPass : List ℕ → Keys → ℕ → Keys → ℕ → Type 0

@@ -10,7 +10,10 @@ use Rattle.reader_runs.proofs.are_alike.Tie as tie
 use Rattle.lists.proofs.checks.all_at_least.Reads as all-at-least-reads
 
 returns : tie.Need-returns
-returns c = λ e. alike-zeros _ (ap (λ (m : ℕ). allAtMost m (c .before .before .args .heard .now)) (sym (c .if1 .taken)) ∙ c .before .before .pre)
+returns c =
+    λ e.
+    alike-zeros _
+    (ap (λ (m : ℕ). allAtMost m (c .before .before .args .heard .now)) (sym (c .if1 .taken)) ∙ c .before .before .pre)
 
 enum-told : tie.Need-enum-told
 enum-told c = search needs

@@ -17,7 +17,8 @@ use Rattle.reader_runs.proofs.skip_frame.Statement.{statement}
 use Rattle.reader_runs.proofs.skip_frame.Tie as tie
 
 abbrev Inv-loop : tie.InvT-loop
-Inv-loop mode r heard i place₀ digits₀ to₀ place digits to = FramePasses mode heard (r .frame) i (frameAt place digits) to
+Inv-loop mode r heard i place₀ digits₀ to₀ place digits to =
+    FramePasses mode heard (r .frame) i (frameAt place digits) to
 
 abbrev μ-loop : tie.MeasureT-loop
 μ-loop mode r heard i place₀ digits₀ to₀ place digits to = length heard - to
@@ -71,7 +72,8 @@ loop-again c =
     pass-chain (s .args .mode) (s .pre .0) _ _ _ _ _ _ _ l (c .before .before .pass .ensures .0)
 
 framed-requires-2 : tie.Need-framed-requires-2 Inv-loop μ-loop
-framed-requires-2 c κs = fits (c .before .before .before .before .before .before .args .mode) _ (c .before .loop .inv .in-range)
+framed-requires-2 c κs =
+    fits (c .before .before .before .before .before .before .args .mode) _ (c .before .loop .inv .in-range)
 
 returns-2 : tie.Need-returns-2 Inv-loop μ-loop
 returns-2 c =

@@ -15,13 +15,19 @@ start-requires c κs = search needs
 
 returns : tie.Need-returns
 unfolding baudotKinds
-returns c = let s = c .before .before .args in does-as _ _ (s .digits) (s .heard) (c .start .result) (ap (λ (j : ℕ). getD baudotKinds j None) (c .before .if1 .taken)) (c .start .ensures)
+returns c =
+    let s = c .before .before .args in
+    does-as _ _ (s .digits) (s .heard) (c .start .result)
+    (ap (λ (j : ℕ). getD baudotKinds j None) (c .before .if1 .taken)) (c .start .ensures)
 
 digit-requires : tie.Need-digit-requires
 digit-requires c κs = search needs
 
 returns-2 : tie.Need-returns-2
-returns-2 c = let s = c .before .before .before .args in does-as _ _ (s .digits) (s .heard) (c .digit .result) (kind-digit _ (c .before .before .if1 .left) (c .before .if2 .taken)) (c .digit .ensures)
+returns-2 c =
+    let s = c .before .before .before .args in
+    does-as _ _ (s .digits) (s .heard) (c .digit .result)
+    (kind-digit _ (c .before .before .if1 .left) (c .before .if2 .taken)) (c .digit .ensures)
 
 returns-3 : tie.Need-returns-3
 returns-3 c = search needs

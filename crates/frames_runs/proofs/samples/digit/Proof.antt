@@ -37,11 +37,14 @@ mul-t7 : tie.Need-mul-t7
 mul-t7 c = let s = c .before in record { fits = product-fits (s .args .top) (eqb (s .args .heard) 1) (s .pre .0) }
 
 add-t8 : tie.Need-add-t8
-add-t8 c = let s = c .before in record { fits = sum-fits (s .args .digits) (s .args .top) (eqb (s .args .heard) 1) (s .pre .1) (s .pre .0) }
+add-t8 c =
+    let s = c .before in
+    record { fits = sum-fits (s .args .digits) (s .args .top) (eqb (s .args .heard) 1) (s .pre .1) (s .pre .0) }
 
 returns-2 : tie.Need-returns-2
 unfolding sampled
-returns-2 c = let s = c .before in λ (m : ℕ). simp (ne-eqb _ _ (c .if1 .left), times (s .args .top) (eqb (s .args .heard) 1))
+returns-2 c =
+    let s = c .before in λ (m : ℕ). simp (ne-eqb _ _ (c .if1 .left), times (s .args .top) (eqb (s .args .heard) 1))
 
 pub digit-spec : {M : Type 1} → statement M
 digit-spec = tie.close (tie.spec returns cast-t6 mul-t7 add-t8 returns-2)

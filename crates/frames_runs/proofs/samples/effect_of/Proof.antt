@@ -26,16 +26,25 @@ edt-effect-requires : tie.Need-edt-effect-requires
 edt-effect-requires c κs = search needs
 
 returns : tie.Need-returns
-returns c = let s = c .before .before .before .args in does-as _ _ (s .digits) (s .heard) (c .baudot-effect .result) (kind-45 _ _ (c .before .enum-told .given .1)) (c .baudot-effect .ensures)
+returns c =
+    let s = c .before .before .before .args in
+    does-as _ _ (s .digits) (s .heard) (c .baudot-effect .result) (kind-45 _ _ (c .before .enum-told .given .1))
+    (c .baudot-effect .ensures)
 
 returns-2 : tie.Need-returns-2
-returns-2 c = let s = c .before .before .before .args in does-as _ _ (s .digits) (s .heard) (c .baudot-effect2 .result) (kind-50 _ _ (c .before .enum-told2 .given .1)) (c .baudot-effect2 .ensures)
+returns-2 c =
+    let s = c .before .before .before .args in
+    does-as _ _ (s .digits) (s .heard) (c .baudot-effect2 .result) (kind-50 _ _ (c .before .enum-told2 .given .1))
+    (c .baudot-effect2 .ensures)
 
 returns-3 : tie.Need-returns-3
 returns-3 c = search needs
 
 returns-4 : tie.Need-returns-4
-returns-4 c = let s = c .before .before .before .args in does-as _ _ (s .digits) (s .heard) (c .edt-effect .result) (kind-edt _ _ (c .before .before .before .pre .0) (c .before .enum-told4 .given .1)) (c .edt-effect .ensures)
+returns-4 c =
+    let s = c .before .before .before .args in
+    does-as _ _ (s .digits) (s .heard) (c .edt-effect .result)
+    (kind-edt _ _ (c .before .before .before .pre .0) (c .before .enum-told4 .given .1)) (c .edt-effect .ensures)
 
 pub effect-of-spec : {M : Type 1} → statement M
 effect-of-spec =
