@@ -1,14 +1,13 @@
 // Keys over many ms: those in which none counts are passed over.
 ghost use mathlib.Core.Path.{_≡_};
 ghost use mathlib.Core.Bool.{true};
-ghost use mathlib.Core.List.{List};
-ghost use Prim.Native.Nat.{ℕ, suc, _+_, _-_, _≤_, _<_};
+ghost use Prim.Native.Nat.{suc, _+_, _-_, _≤_, _<_};
 ghost use lib.ListN.{length};
 ghost use Rattle.lists.specs.Lists.{allAtMost};
-ghost use Rattle.lists.specs.code.Places.{Alike, Through};
+ghost use Rattle.lists.specs.code.Places.{Alike};
 ghost use Rattle.keys.specs.Keys.{keyMs};
 ghost use Rattle.keys.specs.code.Bounds.{KeysIn};
-ghost use Rattle.keys_runs.specs.code.Passing.{keysOf, rowOf, msAfter, KeyPasses, QuietFrom};
+ghost use Rattle.keys_runs.specs.code.Passing.{keysOf, rowOf, msAfter, KeyPasses, HeldPasses, QuietFrom};
 
 // A key counts at this ms in a row, and with so many not yet; then so many quiet ms are needed.
 const KEY_MS: usize = keys::KEY_MS as usize;
@@ -147,7 +146,7 @@ fn needing(needed: usize, to: usize) -> Keyed
 fn pass_held(k: Keyed, level: u8, end: usize) -> Keyed
     requires { ⌜ KeysIn (keysOf k) ⌝ }
     requires { ⌜ k .to < end ⌝ }
-    ensures { λ q. ⌜ ((heard : List ℕ) → allAtMost 16 heard ≡ true → end ≤ length heard → Through heard (k .to) end level end → KeyPasses heard k q) ⌝ }
+    ensures { λ q. ⌜ HeldPasses k level end q ⌝ }
 {
     let n = end - k.to;
     if level == 0 {

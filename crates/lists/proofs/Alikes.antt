@@ -19,10 +19,13 @@ alike-zeros xs e = alike xs 0 (λ (k : ℕ) (h : k < length xs). let m = at-most
 
 pub alike-at : (xs : List ℕ) (bound : ℕ) → allAtMost bound xs ≡ true → allAtLeast bound xs ≡ true → Alike xs
 alike-at xs bound e f =
-    alike xs bound (λ (k : ℕ) (h : k < length xs). let m = at-most-at bound xs e k h in let n = at-least-at bound xs f k h in omega arith)
+    alike xs bound
+    (λ (k : ℕ) (h : k < length xs).
+    let m = at-most-at bound xs e k h in let n = at-least-at bound xs f k h in omega arith)
 
 -- from a place to the end
-pub alike-through : (xs : List ℕ) → Alike xs → (from : ℕ) → from < length xs → (x : ℕ) → x ≡ getD xs from 0 → Through xs from (length xs) x (length xs)
+pub alike-through : (xs : List ℕ) → Alike xs → (from : ℕ) → from < length xs → (x : ℕ) → x ≡ getD xs from 0
+    → Through xs from (length xs) x (length xs)
 alike-through xs a from h x e = record {
   low = omega arith;
   high = omega arith;

@@ -12,13 +12,13 @@ use Rattle.lists.specs.Steps.{stateAfter, outputs}
 use Rattle.lists.specs.code.Passing.{kept, Passes}
 
 -- the number x ends in nothing, and takes the state s to t
-pub record Silent {S : Type 0} {O : Type 0} (step : S → ℕ → S) (out : S → ℕ → O) (some : O → Bool) (s : S) (x : ℕ) (t : S)
-    : Type 0 where
+pub record Silent {S : Type 0} {O : Type 0} (step : S → ℕ → S) (out : S → ℕ → O) (some : O → Bool)
+    (s : S) (x : ℕ) (t : S) : Type 0 where
   pub next : step s x ≡ t
   pub nothing : some (out s x) ≡ false
 
-module _ {S : Type 0} {O : Type 0} (step : S → ℕ → S) (out : S → ℕ → O) (some : O → Bool) (In : S → Type 0) (xs : List ℕ)
-    (keeps : (i : ℕ) → i < length xs → (s : S) → In s → In (step s (getD xs i 0))) where
+module _ {S : Type 0} {O : Type 0} (step : S → ℕ → S) (out : S → ℕ → O) (some : O → Bool) (In : S → Type 0)
+    (xs : List ℕ) (keeps : (i : ℕ) → i < length xs → (s : S) → In s → In (step s (getD xs i 0))) where
   abbrev P : S → ℕ → S → ℕ → Type 0
   P s i t to = Passes step out some In xs s i t to
 

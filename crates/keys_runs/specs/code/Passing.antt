@@ -1,10 +1,12 @@
 -- Ms of keys in which none counts.
 use Prim.Native.Nat.{ℕ, zero, suc, _+_, _≤_, _<_}
 use mathlib.Core.Path.{_≡_}
-use mathlib.Core.Bool.{cond}
+use mathlib.Core.Bool.{true, cond}
 use mathlib.Core.List.{List}
 use lib.Dec.{eqb}
 use lib.ListN.{length, getD}
+use Rattle.lists.specs.Lists.{allAtMost}
+use Rattle.lists.specs.code.Places.{Through}
 use Rattle.lists.specs.code.Passing.{Passes}
 use Rattle.signal.specs.Signal.{quiet}
 use Rattle.keys.specs.declared.Keys.{Keys}
@@ -21,6 +23,11 @@ KeysPass heard s i t to = Passes keyNext keyCounts isKey KeysIn heard s i t to
 
 abbrev pub KeyPasses : List ℕ → Keyed → Keyed → Type 0
 KeyPasses heard k q = KeysPass heard (keysOf k) (k .to) (keysOf q) (q .to)
+
+-- The same in any list in which a level stands up to the end.
+abbrev pub HeldPasses : Keyed → ℕ → ℕ → Keyed → Type 0
+HeldPasses k level end q =
+    (heard : List ℕ) → allAtMost 16 heard ≡ true → end ≤ length heard → Through heard (k .to) end level end → KeyPasses heard k q
 
 -- The ms in a row of a level, so far.
 abbrev pub rowOf : Keys → ℕ → ℕ
