@@ -17,7 +17,7 @@ use Rattle.frames.specs.declared.Frame.{Frame}
 use Rattle.frames.specs.declared.Found.{Found}
 use Rattle.frames.specs.declared.Found.the-variants.{Nothing, Fault, Code}
 use Rattle.frames.specs.declared.FrameRead.{FrameRead}
-use Rattle.frames.specs.code.Bounds.{FrameIn, FrameOf, FoundIn}
+use Rattle.frames.specs.code.Bounds.{FrameIn, FrameOf, Framed, FoundIn}
 use Rattle.frames.specs.Samples.{Placed, placed, sampleAt, samplesOf, baudotKinds, baudotPlace, baudotSamples, edtKinds, edtPlace, edtSamples}
 use Rattle.frames.specs.Frames.{inFrame, hunting, waiting, gives, goesOn, faulty, parityHeard, withDigit, sampled, frameStep}
 use Rattle.alphabet.specs.Modes.{frameCodes}
@@ -79,12 +79,15 @@ module _ (n : ℕ) where
   unfolding sampled
   sampled-in None m digits heard h = tt
   sampled-in Start m digits heard h = either Codes (eqb heard 2) (goesOn m digits) (gives hunting Nothing) tt tt
-  sampled-in (Digit top) m digits heard h = either Codes (eqb heard 0) faulty (goesOn m (withDigit top digits heard)) tt tt
+  sampled-in (Digit top) m digits heard h =
+      either Codes (eqb heard 0) faulty (goesOn m (withDigit top digits heard)) tt tt
   sampled-in Parity m digits heard h =
       let good = eqb (parityOf digits) (parityHeard heard) in
-      either Codes (eqb heard 0) faulty (cond good (goesOn m digits) faulty) tt (either Codes good (goesOn m digits) faulty tt tt)
+      either Codes (eqb heard 0) faulty (cond good (goesOn m digits) faulty) tt
+      (either Codes good (goesOn m digits) faulty tt tt)
   sampled-in Stop m digits heard h = either Codes (eqb heard 1) (goesOn m digits) faulty tt tt
-  sampled-in Last m digits heard h = either Codes (eqb heard 1) (gives hunting (Code (record { 0 = digits }))) faulty h tt
+  sampled-in Last m digits heard h =
+      either Codes (eqb heard 1) (gives hunting (Code (record { 0 = digits }))) faulty h tt
 
   pub found-in : (samples : List Placed) (f : Frame) (heard : ℕ) → f .digits < n → Codes (frameStep samples f heard)
   unfolding frameStep
@@ -92,7 +95,8 @@ module _ (n : ℕ) where
       let m = f .place - 1 in
       let s = sampled (sampleAt samples m) m (f .digits) heard in
       let w = gives (cond (eqb heard 2) waiting hunting) Nothing in
-      either Codes (eqb (f .place) 0) (gives (cond (eqb heard 2) (inFrame 1 0) hunting) Nothing) (cond (eqb (f .place) 1) w s) tt
+      either Codes (eqb (f .place) 0) (gives (cond (eqb heard 2) (inFrame 1 0) hunting) Nothing)
+      (cond (eqb (f .place) 1) w s) tt
       (either Codes (eqb (f .place) 1) w s tt (sampled-in (sampleAt samples m) m (f .digits) heard h))
 
 -- the weight of a digit's sample: half of n
@@ -126,37 +130,47 @@ module _ (samples : List Placed) (n : ℕ) (pos : 1 ≤ n) (weigh : (m : ℕ) �
   digit-in top digits heard w h = either (λ (x : ℕ). digits / 2 + x < n) (eqb heard 1) top 0 (omega arith) (omega arith)
 
   -- ahead of the last ms
-  ahead : (k : Sample) (m digits heard : ℕ) → weighs n k ≡ true → m < lastMs samples → digits < n → Kept (sampled k m digits heard)
+  ahead : (k : Sample) (m digits heard : ℕ) → weighs n k ≡ true → m < lastMs samples → digits < n
+      → Kept (sampled k m digits heard)
   unfolding sampled
   ahead None m digits heard w h d = on-in m digits h d
-  ahead Start m digits heard w h d = either Kept (eqb heard 2) (goesOn m digits) (gives hunting Nothing) (on-in m digits h d) hunting-in
+  ahead Start m digits heard w h d =
+      either Kept (eqb heard 2) (goesOn m digits) (gives hunting Nothing) (on-in m digits h d) hunting-in
   ahead (Digit top) m digits heard w h d =
       either Kept (eqb heard 0) faulty (goesOn m (withDigit top digits heard)) waiting-in
       (on-in m (withDigit top digits heard) h (digit-in top digits heard (eqb-true (2 * top) n w) d))
   ahead Parity m digits heard w h d =
       let good = eqb (parityOf digits) (parityHeard heard) in
-      either Kept (eqb heard 0) faulty (cond good (goesOn m digits) faulty) waiting-in (either Kept good (goesOn m digits) faulty (on-in m digits h d) waiting-in)
+      either Kept (eqb heard 0) faulty (cond good (goesOn m digits) faulty) waiting-in
+      (either Kept good (goesOn m digits) faulty (on-in m digits h d) waiting-in)
   ahead Stop m digits heard w h d = either Kept (eqb heard 1) (goesOn m digits) faulty (on-in m digits h d) waiting-in
-  ahead Last m digits heard w h d = either Kept (eqb heard 1) (gives hunting (Code (record { 0 = digits }))) faulty hunting-in waiting-in
+  ahead Last m digits heard w h d =
+      either Kept (eqb heard 1) (gives hunting (Code (record { 0 = digits }))) faulty hunting-in waiting-in
 
   at-last : (m digits heard : ℕ) → Kept (sampled Last m digits heard)
   unfolding sampled
-  at-last m digits heard = either Kept (eqb heard 1) (gives hunting (Code (record { 0 = digits }))) faulty hunting-in waiting-in
+  at-last m digits heard =
+      either Kept (eqb heard 1) (gives hunting (Code (record { 0 = digits }))) faulty hunting-in waiting-in
 
   pub step-in : (f : Frame) (heard : ℕ) → In f → Kept (frameStep samples f heard)
   unfolding frameStep
   step-in f heard h = go (eqb (f .place) 0) refl (eqb (f .place) 1) refl
     where
-      later : (b : Bool) → eqb (f .place - 1) (lastMs samples) ≡ b → f .place - 1 ≤ lastMs samples → Kept (sampled (sampleAt samples (f .place - 1)) (f .place - 1) (f .digits) heard)
+      later : (b : Bool) → eqb (f .place - 1) (lastMs samples) ≡ b → f .place - 1 ≤ lastMs samples
+          → Kept (sampled (sampleAt samples (f .place - 1)) (f .place - 1) (f .digits) heard)
       later true e l =
           let p = eqb-true (f .place - 1) (lastMs samples) e in
           rw (ap (sampleAt samples) p ∙ end) (at-last (f .place - 1) (f .digits) heard)
       later false e l =
           let p = eqb-false (f .place - 1) (lastMs samples) e in
-          ahead (sampleAt samples (f .place - 1)) (f .place - 1) (f .digits) heard (weigh (f .place - 1)) (omega arith) (h .digits-in)
+          ahead (sampleAt samples (f .place - 1)) (f .place - 1) (f .digits) heard (weigh (f .place - 1)) (omega arith)
+          (h .digits-in)
 
       go : (a : Bool) → eqb (f .place) 0 ≡ a → (b : Bool) → eqb (f .place) 1 ≡ b → Kept (frameStep samples f heard)
-      go true e b g = rw e (either (λ (x : Frame). In x) (eqb heard 2) (inFrame 1 0) hunting (record { place-in = omega arith; digits-in = pos }) hunting-in)
+      go true e b g =
+          rw e
+          (either (λ (x : Frame). In x) (eqb heard 2) (inFrame 1 0) hunting
+          (record { place-in = omega arith; digits-in = pos }) hunting-in)
       go false e true g = rw (e, g) (either (λ (x : Frame). In x) (eqb heard 2) waiting hunting waiting-in hunting-in)
       go false e false g =
           let z = eqb-false (f .place) 0 e in
@@ -168,9 +182,11 @@ weigh-baudot : (e m : ℕ) → weighs 32 (sampleAt (baudotSamples e) m) ≡ true
 unfolding baudotKinds allKinds
 weigh-baudot e m = is-true _ (kinds-pass (weighs 32) tt (baudotPlace e) baudotKinds 0 m tt)
 
-pub frame-baudot : (e : ℕ) → 2 ≤ e → (f : Frame) (heard : ℕ) → FrameIn (baudotPlace e 6) 32 f → FrameIn (baudotPlace e 6) 32 (frameStep (baudotSamples e) f heard .frame)
+pub frame-baudot : (e : ℕ) → 2 ≤ e → (f : Frame) (heard : ℕ) → FrameIn (baudotPlace e 6) 32 f
+    → FrameIn (baudotPlace e 6) 32 (frameStep (baudotSamples e) f heard .frame)
 unfolding lastMs placed baudotKinds
-frame-baudot e big f heard h = step-in (baudotSamples e) 32 (omega arith) (weigh-baudot e) (omega arith) (baudot-on e (omega arith) 6) f heard h
+frame-baudot e big f heard h =
+    step-in (baudotSamples e) 32 (omega arith) (weigh-baudot e) (omega arith) (baudot-on e (omega arith) 6) f heard h
 
 -- those of EDT too
 weigh-edt : (m : ℕ) → weighs 128 (sampleAt edtSamples m) ≡ true
@@ -178,14 +194,10 @@ unfolding edtKinds allKinds
 weigh-edt m = is-true _ (kinds-pass (weighs 128) tt edtPlace edtKinds 0 m tt)
 
 -- one ms keeps the frame of a mode in range
-pub frame-45 : (f : Frame) (heard : ℕ) → FrameOf Baudot45 f → FrameOf Baudot45 (frameStep (samplesOf Baudot45) f heard .frame)
-unfolding samplesOf lastMs placed baudotKinds
-frame-45 f heard h = frame-baudot 22 (omega arith) f heard h
-
-pub frame-50 : (f : Frame) (heard : ℕ) → FrameOf Baudot50 f → FrameOf Baudot50 (frameStep (samplesOf Baudot50) f heard .frame)
-unfolding samplesOf lastMs placed baudotKinds
-frame-50 f heard h = frame-baudot 20 (omega arith) f heard h
-
-pub frame-edt : (f : Frame) (heard : ℕ) → FrameOf Edt f → FrameOf Edt (frameStep (samplesOf Edt) f heard .frame)
-unfolding samplesOf lastMs placed edtKinds sampleAt
-frame-edt f heard h = step-in edtSamples 128 (omega arith) weigh-edt (omega arith) refl f heard h
+pub next-in : (mode : Mode) → Framed mode → (f : Frame) (heard : ℕ) → FrameOf mode f
+    → FrameOf mode (frameStep (samplesOf mode) f heard .frame)
+unfolding samplesOf lastMs placed baudotKinds edtKinds sampleAt
+next-in Baudot45 t f heard h = frame-baudot 22 (omega arith) f heard h
+next-in Baudot50 t f heard h = frame-baudot 20 (omega arith) f heard h
+next-in Dtmf t f heard h = absurd t
+next-in Edt t f heard h = step-in edtSamples 128 (omega arith) weigh-edt (omega arith) refl f heard h

@@ -1,12 +1,12 @@
 -- Where the samples of a frame fall.
 use mathlib.Core.Path.{_≡_, _∙_, refl, sym, ap, subst}
 use mathlib.Core.Bool.{Bool, true, false, cond, _&&_}
-use mathlib.Core.List.{List, [], _∷_}
+use mathlib.Core.List.{List, [], _∷_, _++_}
 use Prim.Native.Nat.{ℕ, zero, suc, _+_, _*_, _-_, _/_, _%_, _<_, _≤_}
 use native.Mathlib.Omega.{arith}
 use native.Mathlib.Nat.{add-zero, zero-add, add-suc, suc-add, mul-add-div, div-eq-of-lt, div-add-mod}
 use lib.Dec.{T, eqb, ltb, eqb→eq}
-use lib.ListN.{getD}
+use lib.ListN.{getD, replicate, length-replicate, getD-replicate, List·getD-append, List·getD-eq-default}
 use borrow.Author.Tests.{eq-eqb, ne-eqb, leb-true}
 use Rattle.lists.specs.Tables.{passes}
 use Rattle.lists.proofs.Tables.{is-true, both-left, both-right, passes-at}
@@ -28,13 +28,15 @@ module _ (place : ℕ → ℕ) where
   none-at (k ∷ ks) j m h = rw (ne-eqb m (place j) (h j)) (none-at ks (suc j) m h)
 
   -- the sample number i is of the i-th kind, if no two fall on one ms
-  pub some-at : ((a b : ℕ) → place a ≡ place b → a ≡ b) → (ks : List Sample) (j i : ℕ) → sampleAt (placed place j ks) (place (j + i)) ≡ getD ks i None
+  pub some-at : ((a b : ℕ) → place a ≡ place b → a ≡ b) → (ks : List Sample) (j i : ℕ)
+      → sampleAt (placed place j ks) (place (j + i)) ≡ getD ks i None
   unfolding sampleAt placed
   some-at inj [] j i = refl
   some-at inj (k ∷ ks) j zero = rw (add-zero j, eq-eqb (place j) (place j) refl)
   some-at inj (k ∷ ks) j (suc i) =
       let n : place (j + suc i) ≡ place j → ⊥ = λ e. (let q = inj (j + suc i) j e in omega arith) in
-      rw (ne-eqb (place (j + suc i)) (place j) n) (rw (← (add-suc j i)) at (rw (suc-add j i) at (some-at inj ks (suc j) i)))
+      rw (ne-eqb (place (j + suc i)) (place j) n)
+      (rw (← (add-suc j i)) at (rw (suc-add j i) at (some-at inj ks (suc j) i)))
 
 -- Baudot, for any element length
 module _ (e : ℕ) (big : 1 ≤ e) where
@@ -68,26 +70,25 @@ module _ (e : ℕ) (big : 1 ≤ e) where
       ap (sampleAt (baudotSamples e)) p ∙ baudot-on (m / e)
 
 -- the kinds by their number
+digits-at : (n top : ℕ) (ks : List Sample) (j : ℕ) → (j ≡ 0 → ⊥) → j ≤ n
+    → getD (Start ∷ (replicate n (Digit top) ++ ks)) j None ≡ Digit top
+digits-at n top ks zero p h = absurd (p refl)
+digits-at n top ks (suc j) p h =
+    let l = length-replicate n (Digit top) in
+    List·getD-append (replicate n (Digit top)) ks None j (omega arith)
+    ∙ getD-replicate n j (Digit top) None (omega arith)
+
 pub kind-digit : (j : ℕ) → (j ≡ 0 → ⊥) → j < 6 → getD baudotKinds j None ≡ Digit 16
 unfolding baudotKinds
-kind-digit zero n h = absurd (n refl)
-kind-digit (suc zero) n h = refl
-kind-digit (suc (suc zero)) n h = refl
-kind-digit (suc (suc (suc zero))) n h = refl
-kind-digit (suc (suc (suc (suc zero)))) n h = refl
-kind-digit (suc (suc (suc (suc (suc zero))))) n h = refl
-kind-digit (suc (suc (suc (suc (suc (suc j)))))) n h = absurd (omega arith)
+kind-digit j n h = digits-at 5 16 (Last ∷ []) j n (omega arith)
+
+pub edt-digit : (j : ℕ) → (j ≡ 0 → ⊥) → j < 8 → getD edtKinds j None ≡ Digit 64
+unfolding edtKinds
+edt-digit j n h = digits-at 7 64 (Parity ∷ Stop ∷ Last ∷ []) j n (omega arith)
 
 pub kind-none : (j : ℕ) → 7 ≤ j → getD baudotKinds j None ≡ None
 unfolding baudotKinds
-kind-none zero h = absurd (omega arith)
-kind-none (suc zero) h = absurd (omega arith)
-kind-none (suc (suc zero)) h = absurd (omega arith)
-kind-none (suc (suc (suc zero))) h = absurd (omega arith)
-kind-none (suc (suc (suc (suc zero)))) h = absurd (omega arith)
-kind-none (suc (suc (suc (suc (suc zero))))) h = absurd (omega arith)
-kind-none (suc (suc (suc (suc (suc (suc zero)))))) h = absurd (omega arith)
-kind-none (suc (suc (suc (suc (suc (suc (suc j))))))) h = refl
+kind-none j h = List·getD-eq-default baudotKinds None h
 
 -- a sample as a number, so that two can be compared by a test
 abbrev pub kindNumber : Sample → ℕ
@@ -99,7 +100,9 @@ kindNumber Stop = 3
 kindNumber Last = 4
 
 abbrev pub numbered : ℕ → Sample
-numbered n = cond (eqb n 0) None (cond (eqb n 1) Start (cond (eqb n 2) Parity (cond (eqb n 3) Stop (cond (eqb n 4) Last (Digit (n - 10))))))
+numbered n =
+    cond (eqb n 0) None
+    (cond (eqb n 1) Start (cond (eqb n 2) Parity (cond (eqb n 3) Stop (cond (eqb n 4) Last (Digit (n - 10))))))
 
 -- the sample of EDT that the code finds: t is 11 m + 60
 abbrev pub edtKindAt : ℕ → Sample
@@ -123,7 +126,14 @@ numbered-back None = refl
 numbered-back Start = refl
 numbered-back (Digit top) =
     let a : 10 + top - 10 ≡ top = omega arith in
-    simp (ne-eqb (10 + top) 0 (λ p. omega arith), ne-eqb (10 + top) 1 (λ p. omega arith), ne-eqb (10 + top) 2 (λ p. omega arith), ne-eqb (10 + top) 3 (λ p. omega arith), ne-eqb (10 + top) 4 (λ p. omega arith), a)
+    simp (
+      ne-eqb (10 + top) 0 (λ p. omega arith),
+      ne-eqb (10 + top) 1 (λ p. omega arith),
+      ne-eqb (10 + top) 2 (λ p. omega arith),
+      ne-eqb (10 + top) 3 (λ p. omega arith),
+      ne-eqb (10 + top) 4 (λ p. omega arith),
+      a,
+    )
 numbered-back Parity = refl
 numbered-back Stop = refl
 numbered-back Last = refl
@@ -143,7 +153,8 @@ pub on-mode : (d o : Mode) (m : ℕ) (s : Sample) → d ≡ o → s ≡ sampleAt
 on-mode d o m s p q = q ∙ ap (λ (x : Mode). sampleAt (samplesOf x) m) (sym p)
 
 -- what a sample of a kind that is known does
-pub kind-of : (s k : Sample) (m digits heard : ℕ) (r : FrameRead) → s ≡ k → r ≡ sampled k m digits heard → r ≡ sampled s m digits heard
+pub kind-of : (s k : Sample) (m digits heard : ℕ) (r : FrameRead) → s ≡ k → r ≡ sampled k m digits heard
+    → r ≡ sampled s m digits heard
 kind-of s k m digits heard r p q = q ∙ ap (λ (x : Sample). sampled x m digits heard) (sym p)
 
 pub top-in : (s : Sample) (top : ℕ) → s ≡ Digit top → topIn s ≡ true → top ≤ 64
@@ -155,12 +166,15 @@ allKinds q [] = true
 allKinds q (k ∷ ks) = q k && allKinds q ks
 
 -- what passes for every kind, and for none, passes for the sample at a ms
-pub kinds-pass : (q : Sample → Bool) → T (q None) → (place : ℕ → ℕ) (ks : List Sample) (j m : ℕ) → T (allKinds q ks) → T (q (sampleAt (placed place j ks) m))
+pub kinds-pass : (q : Sample → Bool) → T (q None) → (place : ℕ → ℕ) (ks : List Sample) (j m : ℕ) → T (allKinds q ks)
+    → T (q (sampleAt (placed place j ks) m))
 unfolding sampleAt placed allKinds
 kinds-pass q n place [] j m h = n
-kinds-pass q n place (k ∷ ks) j m h = go (eqb m (place j)) (kinds-pass q n place ks (suc j) m (both-right (q k) (allKinds q ks) h))
+kinds-pass q n place (k ∷ ks) j m h =
+    go (eqb m (place j)) (kinds-pass q n place ks (suc j) m (both-right (q k) (allKinds q ks) h))
   where
-    go : (b : Bool) → T (q (sampleAt (placed place (suc j) ks) m)) → T (q (cond b k (sampleAt (placed place (suc j) ks) m)))
+    go : (b : Bool) → T (q (sampleAt (placed place (suc j) ks) m))
+        → T (q (cond b k (sampleAt (placed place (suc j) ks) m)))
     go true t = both-left (q k) (allKinds q ks) h
     go false t = t
 

@@ -49,5 +49,6 @@ key-step-in s x l h =
     let m = h .ms-in in
     let d = h .needed-in in
     either P (eqb (s .needed) 0) _ _
-    (either P (eqb x 0) _ _ ready-in (nth-in x _ l (either (λ (n : ℕ). n ≤ 40) (eqb x (s .key)) (s .ms + 1) 1 (omega arith) (omega arith))))
+    (either P (eqb x 0) _ _ ready-in
+    (nth-in x _ l (either (λ (n : ℕ). n ≤ 40) (eqb x (s .key)) (s .ms + 1) 1 (omega arith) (omega arith))))
     (needs-in _ (either (λ (n : ℕ). n ≤ 40) (eqb x 0) (s .needed - 1) 40 (omega arith) (omega arith)))

@@ -47,7 +47,8 @@ module _ (e : ℕ) (big : 2 ≤ e) where
   samples = baudotSamples e
 
   -- a ms of element j that is not its sample
-  off : (j i d x : ℕ) → i < e → (i ≡ e / 2 → ⊥) → 1 ≤ e * j + i → frameStep samples (inFrame (e * j + i) d) x ≡ gives (inFrame (e * j + i + 1) d) Nothing
+  off : (j i d x : ℕ) → i < e → (i ≡ e / 2 → ⊥) → 1 ≤ e * j + i
+      → frameStep samples (inFrame (e * j + i) d) x ≡ gives (inFrame (e * j + i + 1) d) Nothing
   unfolding sampled
   off j i d x h n p =
       let q : (k : ℕ) → e * j + i ≡ baudotPlace e k → ⊥ =
@@ -56,8 +57,11 @@ module _ (e : ℕ) (big : 2 ≤ e) where
       no-sample samples (e * j + i) d p x (baudot-off e (omega arith) (e * j + i) q)
 
   -- the sample of element j
-  on : (j d x : ℕ) → 1 ≤ baudotPlace e j → frameStep samples (inFrame (baudotPlace e j) d) x ≡ sampled (getD baudotKinds j None) (baudotPlace e j) d x
-  on j d x p = in-frame samples (baudotPlace e j) d x p ∙ ap (λ (k : Sample). sampled k (baudotPlace e j) d x) (baudot-on e (omega arith) j)
+  on : (j d x : ℕ) → 1 ≤ baudotPlace e j
+      → frameStep samples (inFrame (baudotPlace e j) d) x ≡ sampled (getD baudotKinds j None) (baudotPlace e j) d x
+  on j d x p =
+      in-frame samples (baudotPlace e j) d x p
+      ∙ ap (λ (k : Sample). sampled k (baudotPlace e j) d x) (baudot-on e (omega arith) j)
 
   -- ms of element j between samples
   skip : (n i j d x : ℕ) → i + n ≤ e → 1 ≤ e * j + i → ((p : ℕ) → i ≤ p → p < i + n → p ≡ e / 2 → ⊥)
@@ -67,17 +71,21 @@ module _ (e : ℕ) (big : 2 ≤ e) where
       let s : e * j + i + 1 ≡ e * j + suc i = omega arith in
       let t : i + suc n ≡ suc i + n = omega arith in
       let u = skip n (suc i) j d x (omega arith) (omega arith) (λ p a b. ok p (omega arith) (omega arith)) in
-      rw t (next samples (off j i d x (omega arith) (ok i (omega arith) (omega arith)) z ∙ ap (λ (m : ℕ). gives (inFrame m d) Nothing) s) u)
+      rw t
+      (next samples
+      (off j i d x (omega arith) (ok i (omega arith) (omega arith)) z ∙ ap (λ (m : ℕ). gives (inFrame m d) Nothing) s) u)
 
   -- the ms of element j behind its sample
-  rest : (j d x : ℕ) → Hears samples (inFrame (baudotPlace e j + 1) d) (replicate (e - e / 2 - 1) x) (silent (e - e / 2 - 1)) (inFrame (e * suc j + 0) d)
+  rest : (j d x : ℕ)
+      → Hears samples (inFrame (baudotPlace e j + 1) d) (replicate (e - e / 2 - 1) x) (silent (e - e / 2 - 1)) (inFrame (e * suc j + 0) d)
   rest j d x =
       let w : e * j + (suc (e / 2) + (e - e / 2 - 1)) ≡ e * suc j + 0 = omega arith in
       let v : e * j + suc (e / 2) ≡ baudotPlace e j + 1 = omega arith in
       rw (w, v) at (skip (e - e / 2 - 1) (suc (e / 2)) j d x (omega arith) (omega arith) (λ p a b. omega arith))
 
   -- a whole element of a frame, behind the start, whose sample leads on
-  element : (j d x q : ℕ) → sampled (getD baudotKinds (suc j) None) (baudotPlace e (suc j)) d x ≡ goesOn (baudotPlace e (suc j)) q
+  element : (j d x q : ℕ)
+      → sampled (getD baudotKinds (suc j) None) (baudotPlace e (suc j)) d x ≡ goesOn (baudotPlace e (suc j)) q
       → Hears samples (inFrame (e * suc j + 0) d) (replicate e x) (silent e) (inFrame (e * suc (suc j) + 0) q)
   element j d x q l =
       let t : e ≡ e / 2 + suc (e - e / 2 - 1) = omega arith in
@@ -95,7 +103,8 @@ module _ (e : ℕ) (big : 2 ≤ e) where
   digit : (j d b : ℕ) → b < 2 → getD baudotKinds (suc j) None ≡ Digit 16
       → Hears samples (inFrame (e * suc j + 0) d) (replicate e (levelOf b)) (silent e) (inFrame (e * suc (suc j) + 0) (d / 2 + 16 * b))
   digit j d b h k =
-      element j d (levelOf b) (d / 2 + 16 * b) (ap (λ (s : Sample). sampled s (baudotPlace e (suc j)) d (levelOf b)) k ∙ leads (baudotPlace e (suc j)) d b h)
+      element j d (levelOf b) (d / 2 + 16 * b)
+      (ap (λ (s : Sample). sampled s (baudotPlace e (suc j)) d (levelOf b)) k ∙ leads (baudotPlace e (suc j)) d b h)
 
   -- hunting, a space is ms 0 of a frame
   start : Hears samples hunting (replicate e 2) (silent e) (inFrame (e * 1 + 0) 0)
@@ -106,7 +115,8 @@ module _ (e : ℕ) (big : 2 ≤ e) where
       let z : e * 0 + 1 ≡ 1 = omega arith in
       let o : e * 0 + (1 + (e / 2 - 1)) ≡ baudotPlace e 0 = omega arith in
       let xs : replicate {A = ℕ} e 2 ≡ 2 ∷ (replicate (e / 2 - 1) 2 ++ (2 ∷ replicate (e - e / 2 - 1) 2)) =
-      ap (λ (k : ℕ). replicate {A = ℕ} k 2) s ∙ ap (λ (l : List ℕ). 2 ∷ l) (split (e - 1) (e / 2 - 1) (e - e / 2 - 1) 2 t) in
+      ap (λ (k : ℕ). replicate {A = ℕ} k 2) s
+      ∙ ap (λ (l : List ℕ). 2 ∷ l) (split (e - 1) (e / 2 - 1) (e - e / 2 - 1) 2 t) in
       let os : silent e ≡ Nothing ∷ (silent (e / 2 - 1) ++ (Nothing ∷ silent (e - e / 2 - 1))) =
       ap silent s ∙ ap (λ (l : List Found). Nothing ∷ l) (split (e - 1) (e / 2 - 1) (e - e / 2 - 1) Nothing t) in
       rw (xs, os)
@@ -121,7 +131,8 @@ module _ (e : ℕ) (big : 2 ≤ e) where
   hunts-on (suc n) x h = next samples (hunting-other samples x h) (hunts-on n x h)
 
   -- the stop: the code at its sample, and then hunting
-  stop : (d : ℕ) → Hears samples (inFrame (e * 6 + 0) d) (replicate (3 * e / 2) 1) (silent (e / 2) ++ (Code (record { 0 = d }) ∷ silent (3 * e / 2 - e / 2 - 1))) hunting
+  stop : (d : ℕ)
+      → Hears samples (inFrame (e * 6 + 0) d) (replicate (3 * e / 2) 1) (silent (e / 2) ++ (Code (record { 0 = d }) ∷ silent (3 * e / 2 - e / 2 - 1))) hunting
   unfolding sampled baudotKinds
   stop d =
       rw (split {A = ℕ} (3 * e / 2) (e / 2) (3 * e / 2 - e / 2 - 1) 1 (omega arith))
@@ -129,15 +140,24 @@ module _ (e : ℕ) (big : 2 ≤ e) where
       (next samples (on 6 d 1 (omega arith)) (hunts-on (3 * e / 2 - e / 2 - 1) 1 (λ q. omega arith))))
 
   -- six elements that end in nothing, and what is ahead of the stop's sample
-  quiet-ahead : (os : List Found) → (silent e ++ (silent e ++ (silent e ++ (silent e ++ (silent e ++ (silent e ++ [])))))) ++ (silent (e / 2) ++ os) ≡ silent (baudotPlace e 6) ++ os
+  quiet-ahead : (os : List Found)
+      → (silent e ++ (silent e ++ (silent e ++ (silent e ++ (silent e ++ (silent e ++ [])))))) ++ (silent (e / 2) ++ os) ≡ silent (baudotPlace e 6) ++ os
   quiet-ahead os =
       let six : silent e ++ (silent e ++ (silent e ++ (silent e ++ (silent e ++ (silent e ++ []))))) ≡ silent (e * 6) =
-      rw (append-nil (silent e), replicate-append-replicate e e Nothing, replicate-append-replicate e (e + e) Nothing, replicate-append-replicate e (e + (e + e)) Nothing, replicate-append-replicate e (e + (e + (e + e))) Nothing, replicate-append-replicate e (e + (e + (e + (e + e)))) Nothing)
+      rw (
+        append-nil (silent e),
+        replicate-append-replicate e e Nothing,
+        replicate-append-replicate e (e + e) Nothing,
+        replicate-append-replicate e (e + (e + e)) Nothing,
+        replicate-append-replicate e (e + (e + (e + e))) Nothing,
+        replicate-append-replicate e (e + (e + (e + (e + e)))) Nothing,
+      )
       (ap silent (sixfold e)) in
       ap (λ (l : List Found). l ++ (silent (e / 2) ++ os)) six ∙ sym (append-assoc (silent (e * 6)) (silent (e / 2)) os)
       ∙ ap (λ (l : List Found). l ++ os) (replicate-append-replicate (e * 6) (e / 2) Nothing)
 
-  pub reads-code : (k : ℕ) → k < 32 → Hears samples hunting (baudotSignal e k) (silent (baudotPlace e 6) ++ (Code (record { 0 = k }) ∷ silent (3 * e / 2 - e / 2 - 1))) hunting
+  pub reads-code : (k : ℕ) → k < 32
+      → Hears samples hunting (baudotSignal e k) (silent (baudotPlace e 6) ++ (Code (record { 0 = k }) ∷ silent (3 * e / 2 - e / 2 - 1))) hunting
   unfolding baudotSignal held digits baudotKinds
   reads-code k h =
       let w = digits-back k h in

@@ -47,14 +47,18 @@ baudot-word s k =
 -- the codes that are sent have five bits
 shift-codes : (w : ℕ) → allAtMost 31 (shiftCodes w) ≡ true
 unfolding allAtMost
-shift-codes w = either (λ (l : List ℕ). allAtMost 31 l ≡ true) (eqb w 0) [] (shiftCode w ∷ []) refl (either (λ (n : ℕ). allAtMost 31 (n ∷ []) ≡ true) (eqb w 2) 0b11011 0b11111 refl refl)
+shift-codes w =
+    either (λ (l : List ℕ). allAtMost 31 l ≡ true) (eqb w 0) [] (shiftCode w ∷ []) refl
+    (either (λ (n : ℕ). allAtMost 31 (n ∷ []) ≡ true) (eqb w 2) 0b11011 0b11111 refl refl)
 
 codes-for : (s : Sender) (c : ℕ) → c < 128 → (x : Sends) → sends Baudot c ≡ x → allAtMost 31 (codesFor s x) ≡ true
 unfolding codesFor allAtMost
 codes-for s c h Nothing e = refl
 codes-for s c h (Code own k) e =
     let b = rule-of Baudot c h own k e .code-in in
-    at-most-append 31 (codesAhead s own) (k .0 ∷ []) (at-most-append 31 (shiftCodes (wanted s own)) (shiftCodes (wanted (opened s own) own)) (shift-codes (wanted s own)) (shift-codes (wanted (opened s own) own)))
+    at-most-append 31 (codesAhead s own) (k .0 ∷ [])
+    (at-most-append 31 (shiftCodes (wanted s own)) (shiftCodes (wanted (opened s own) own)) (shift-codes (wanted s own))
+    (shift-codes (wanted (opened s own) own)))
     (rw (le-leb (k .0) 31 (omega arith)) refl)
 
 pub five-bits : (s : Sender) (cs : List ℕ) → allChars cs ≡ true → allAtMost 31 (codesOf s cs) ≡ true
@@ -62,11 +66,15 @@ unfolding codesOf allAtMost
 five-bits s [] t = refl
 five-bits s (c ∷ cs) t =
     let h = at-most-head 0x7f c cs t in
-    at-most-append 31 (codesFor s (sends Baudot c)) (codesOf (senderFor s (sends Baudot c)) cs) (codes-for s c (omega arith) (sends Baudot c) refl) (five-bits (senderFor s (sends Baudot c)) cs (at-most-tail 0x7f c cs t))
+    at-most-append 31 (codesFor s (sends Baudot c)) (codesOf (senderFor s (sends Baudot c)) cs)
+    (codes-for s c (omega arith) (sends Baudot c) refl)
+    (five-bits (senderFor s (sends Baudot c)) cs (at-most-tail 0x7f c cs t))
 
 -- a mode of Baudot, with what its codes are read as
-module _ (mode : Mode) (code : (k : Keys) (s p c : ℕ) → c < 32 → Gives mode (reader hunting k s p) (signal mode c) (wordOf (eventOf (reads Baudot s c))) (reader hunting k (shiftBy s (reads Baudot s c)) p)) where
-  pub codes-read : (k : Keys) (s p : ℕ) (ks : List ℕ) → allAtMost 31 ks ≡ true → Gives mode (reader hunting k s p) (signals mode ks) (textOf s ks) (reader hunting k (shiftAfter s ks) p)
+module _ (mode : Mode)
+    (code : (k : Keys) (s p c : ℕ) → c < 32 → Gives mode (reader hunting k s p) (signal mode c) (wordOf (eventOf (reads Baudot s c))) (reader hunting k (shiftBy s (reads Baudot s c)) p)) where
+  pub codes-read : (k : Keys) (s p : ℕ) (ks : List ℕ) → allAtMost 31 ks ≡ true
+      → Gives mode (reader hunting k s p) (signals mode ks) (textOf s ks) (reader hunting k (shiftAfter s ks) p)
   unfolding signals textOf shiftAfter reads
   codes-read k s p [] h = none mode (reader hunting k s p)
   codes-read k s p (c ∷ ks) h =
@@ -76,14 +84,17 @@ module _ (mode : Mode) (code : (k : Keys) (s p c : ℕ) → c < 32 → Gives mod
       let first : Gives mode (reader hunting k s p) (signal mode c) (charsOf (readBaudot s c)) (reader hunting k (shiftBy s (readBaudot s c)) p) = record { after = g .after; heard = g .heard ∙ w } in
       chain mode first (codes-read k (shiftBy s (readBaudot s c)) p ks (at-most-tail 31 c ks h))
 
-pub code-45 : (k : Keys) (s p c : ℕ) → c < 32 → Gives Baudot45 (reader hunting k s p) (signal Baudot45 c) (wordOf (eventOf (reads Baudot s c))) (reader hunting k (shiftBy s (reads Baudot s c)) p)
+pub code-45 : (k : Keys) (s p c : ℕ) → c < 32
+    → Gives Baudot45 (reader hunting k s p) (signal Baudot45 c) (wordOf (eventOf (reads Baudot s c))) (reader hunting k (shiftBy s (reads Baudot s c)) p)
 unfolding hear signal samplesOf
-code-45 k s p c h = code-read Baudot45 (λ r x. refl) k s p _ 143 21 c (reads-code 22 (omega arith) c h)
+code-45 k s p c h = code-read Baudot45 tt k s p _ 143 21 c (reads-code 22 (omega arith) c h)
 
-pub code-50 : (k : Keys) (s p c : ℕ) → c < 32 → Gives Baudot50 (reader hunting k s p) (signal Baudot50 c) (wordOf (eventOf (reads Baudot s c))) (reader hunting k (shiftBy s (reads Baudot s c)) p)
+pub code-50 : (k : Keys) (s p c : ℕ) → c < 32
+    → Gives Baudot50 (reader hunting k s p) (signal Baudot50 c) (wordOf (eventOf (reads Baudot s c))) (reader hunting k (shiftBy s (reads Baudot s c)) p)
 unfolding hear signal samplesOf
-code-50 k s p c h = code-read Baudot50 (λ r x. refl) k s p _ 130 19 c (reads-code 20 (omega arith) c h)
+code-50 k s p c h = code-read Baudot50 tt k s p _ 130 19 c (reads-code 20 (omega arith) c h)
 
-pub code-edt : (k : Keys) (s p c : ℕ) → c < 128 → Gives Edt (reader hunting k s p) (signal Edt c) (c ∷ []) (reader hunting k s p)
+pub code-edt : (k : Keys) (s p c : ℕ) → c < 128
+    → Gives Edt (reader hunting k s p) (signal Edt c) (c ∷ []) (reader hunting k s p)
 unfolding hear signal samplesOf reads
-code-edt k s p c h = code-read Edt (λ r x. refl) k s p _ 95 4 c (reads-edt c h)
+code-edt k s p c h = code-read Edt tt k s p _ 95 4 c (reads-edt c h)

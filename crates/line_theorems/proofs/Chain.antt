@@ -23,13 +23,15 @@ use Rattle.reader.specs.declared.Event.the-variants.{Character, Fault, Nothing}
 use Rattle.reader.specs.declared.Reader.{Reader}
 use Rattle.reader.specs.declared.Reading.{Reading}
 use Rattle.lists.specs.Steps.{stateAfter, outputs}
+use Rattle.lists.specs.code.Passing.{kept}
 use Rattle.frames.specs.Samples.{Placed, samplesOf}
-use Rattle.frames.specs.Frames.{hunting, frameStep, frameNext, frameFound, frameAfter, founds}
-use Rattle.keys.specs.Keys.{ready, keyStep, keyNext, keyCounts, keysAfter, keysHeard}
-use Rattle.reader.specs.Reader.{reader, eventOf, foundEvent, foundShift, keyEvent, prefixAfter, hearFrame, hearKey, hear}
+use Rattle.frames.specs.Frames.{hunting, frameStep}
+use Rattle.frames.specs.code.Bounds.{Framed, isFound}
+use Rattle.reader.specs.Reader.{reader, eventOf, hearFrame, hear}
 use Rattle.reader.specs.Words.{wordOf, wordsOf, readerNext, readerEvent, readerAfter, events, words}
 use Rattle.lists.proofs.Steps as steps
 use Rattle.lists.proofs.Steps.{Takes}
+use Rattle.reader.proofs.Parts.{foundsEvents, foundsShift, frames-after, frames-events, kept-shift, kept-words}
 use Rattle.reader.proofs.WordLists.{words-append}
 use Rattle.line_theorems.proofs.FrameRules.{Hears}
 
@@ -42,76 +44,57 @@ pub none : (mode : Mode) (r : Reader) → Gives mode r [] [] r
 unfolding stateAfter outputs wordsOf
 none mode r = record { after = refl; heard = refl }
 
-pub chain : (mode : Mode) {r q p : Reader} {xs ys vs ws : List ℕ} → Gives mode r xs vs q → Gives mode q ys ws p → Gives mode r (xs ++ ys) (vs ++ ws) p
+pub chain : (mode : Mode) {r q p : Reader} {xs ys vs ws : List ℕ} → Gives mode r xs vs q → Gives mode q ys ws p
+    → Gives mode r (xs ++ ys) (vs ++ ws) p
 chain mode {r} {q} {p} {xs} {ys} {vs} {ws} a b =
     let e = steps.outputs-append (readerNext mode) (readerEvent mode) r xs ys in
     record {
       after = rw (steps.after-append (readerNext mode) (readerEvent mode), a .after) (b .after);
-      heard = ap wordsOf e ∙ words-append (events mode r xs) (events mode (readerAfter mode r xs) ys) ∙ (rw (a .after) (λ i. a .heard i ++ b .heard i));
+      heard =
+          ap wordsOf e
+          ∙ words-append (events mode r xs) (events mode (readerAfter mode r xs) ys)
+          ∙ (rw (a .after) (λ i. a .heard i ++ b .heard i));
     }
 
--- nothing, n times
-silent-words : (n : ℕ) → wordsOf (replicate n Nothing) ≡ []
-unfolding wordsOf
-silent-words zero = refl
-silent-words (suc n) = silent-words n
-
-pub one-word : (n m : ℕ) (e : Event) → wordsOf (replicate n Nothing ++ (e ∷ replicate m Nothing)) ≡ wordOf e
-unfolding wordsOf
-one-word n m e =
-    words-append (replicate n Nothing) (e ∷ replicate m Nothing) ∙ (λ i. silent-words n i ++ (wordOf e ++ silent-words m i)) ∙ append-nil (wordOf e)
-
--- what the ms of frames end in, in a shift that they may change
-foundsEvents : Alphabet → ℕ → List Found → List Event
-foundsEvents a s [] = []
-foundsEvents a s (o ∷ os) = foundEvent a s o ∷ foundsEvents a (foundShift a s o) os
-
-foundsShift : Alphabet → ℕ → List Found → ℕ
-foundsShift a s [] = s
-foundsShift a s (o ∷ os) = foundsShift a (foundShift a s o) os
-
--- one code among nothing
-silent-shift : (a : Alphabet) (s n : ℕ) (os : List Found) → foundsShift a s (replicate n nothing ++ os) ≡ foundsShift a s os
-unfolding foundsShift
-silent-shift a s zero os = refl
-silent-shift a s (suc n) os = silent-shift a s n os
-
-silent-events : (a : Alphabet) (s n : ℕ) (os : List Found) → foundsEvents a s (replicate n nothing ++ os) ≡ replicate n Nothing ++ foundsEvents a s os
-unfolding foundsEvents
-silent-events a s zero os = refl
-silent-events a s (suc n) os = ap (λ (l : List Event). Nothing ∷ l) (silent-events a s n os)
+-- something among nothing
+pub kept-one : {O : Type 0} (some : O → Bool) (o p : O) → some o ≡ false → some p ≡ true → (n m : ℕ)
+    → kept some (replicate n o ++ (p ∷ replicate m o)) ≡ p ∷ []
+unfolding kept
+kept-one some o p e f zero m = rw f (ap (λ l. p ∷ l) (none-kept m))
+  where
+    none-kept : (m : ℕ) → kept some (replicate m o) ≡ []
+    none-kept zero = refl
+    none-kept (suc m) = rw e (none-kept m)
+kept-one some o p e f (suc n) m = rw e (kept-one some o p e f n m)
 
 -- a mode that reads frames
-module _ (mode : Mode) (law : (r : Reader) (x : ℕ) → hear mode r x ≡ hearFrame mode r x) where
+module _ (mode : Mode) (framed : Framed mode) where
   abbrev samples : List Placed
   samples = samplesOf mode
 
   abbrev a : Alphabet
   a = alphabetOf mode
 
-  frames-after : (r : Reader) (xs : List ℕ) → readerAfter mode r xs ≡ reader (frameAfter samples (r .frame) xs) (r .keys) (foundsShift a (r .shift) (founds samples (r .frame) xs)) (r .prefix)
-  unfolding stateAfter outputs foundsShift
-  frames-after r [] = refl
-  frames-after r (x ∷ xs) = ap (λ (d : Reading). readerAfter mode (d .reader) xs) (law r x) ∙ frames-after (hearFrame mode r x .reader) xs
-
-  frames-events : (r : Reader) (xs : List ℕ) → events mode r xs ≡ foundsEvents a (r .shift) (founds samples (r .frame) xs)
-  unfolding stateAfter outputs foundsEvents
-  frames-events r [] = refl
-  frames-events r (x ∷ xs) =
-      ap (λ (d : Reading). d .event ∷ events mode (d .reader) xs) (law r x) ∙ ap (λ (l : List Event). hearFrame mode r x .event ∷ l) (frames-events (hearFrame mode r x .reader) xs)
-
   -- ms that find one code
-  pub code-read : (k : Keys) (s p : ℕ) (xs : List ℕ) (n m c : ℕ) → Hears samples hunting xs (replicate n nothing ++ (Code (record { 0 = c }) ∷ replicate m nothing)) hunting
-      → Gives mode (reader hunting k s p) xs (wordOf (eventOf (reads a s c))) (reader hunting k (shiftBy s (reads a s c)) p)
-  unfolding foundsShift foundsEvents
+  pub code-read : (k : Keys) (s p : ℕ) (xs : List ℕ) (n m c : ℕ)
+      → Hears samples hunting xs (replicate n nothing ++ (Code (record { 0 = c }) ∷ replicate m nothing)) hunting
+      → Gives mode (reader hunting k s p) xs (wordOf (eventOf (reads a s c)))
+      (reader hunting k (shiftBy s (reads a s c)) p)
+  unfolding foundsShift foundsEvents wordsOf
   code-read k s p xs n m c h =
       let os = replicate n nothing ++ (Code (record { 0 = c }) ∷ replicate m nothing) in
-      let t = shiftBy s (reads a s c) in
-      let u : foundsShift a t (replicate m nothing) ≡ t = ap (foundsShift a t) (sym (append-nil (replicate m nothing))) ∙ silent-shift a t m [] in
-      let v : foundsEvents a t (replicate m nothing) ≡ replicate m Nothing = ap (foundsEvents a t) (sym (append-nil (replicate m nothing))) ∙ silent-events a t m [] ∙ append-nil (replicate m Nothing) in
+      let one = kept-one isFound nothing (Code (record { 0 = c })) refl refl n m in
       record {
-        after = frames-after (reader hunting k s p) xs ∙ (rw (h .after, h .found, silent-shift a s n (Code (record { 0 = c }) ∷ replicate m nothing), u) refl);
-        heard = ap wordsOf (frames-events (reader hunting k s p) xs ∙ ap (foundsEvents a s) (h .found) ∙ silent-events a s n (Code (record { 0 = c }) ∷ replicate m nothing) ∙ ap (λ (l : List Event). replicate n Nothing ++ (eventOf (reads a s c) ∷ l)) v) ∙ one-word n m (eventOf (reads a s c));
+        after =
+            frames-after mode framed (reader hunting k s p) xs
+            ∙ (λ j. reader (h .after j) k (foundsShift a s (h .found j)) p)
+            ∙ ap (λ (t : ℕ). reader hunting k t p) (sym (kept-shift a s os) ∙ ap (foundsShift a s) one);
+        heard =
+            ap wordsOf (frames-events mode framed (reader hunting k s p) xs)
+            ∙ ap (λ (l : List Found). wordsOf (foundsEvents a s l)) (h .found)
+            ∙ sym (kept-words a s os)
+            ∙ ap (λ (l : List Found). wordsOf (foundsEvents a s l)) one
+            ∙ append-nil (wordOf (eventOf (reads a s c)));
       }
 
 -- preamble: marks are passed over

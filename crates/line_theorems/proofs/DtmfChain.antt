@@ -31,58 +31,40 @@ use Rattle.reader.specs.declared.Reader.{Reader}
 use Rattle.lists.specs.Steps.{stateAfter, outputs}
 use Rattle.signal.specs.Signal.{heldKeys, keysSignal, signal}
 use Rattle.keys.specs.Keys.{ready, keyStep, keysAfter, keysHeard}
+use Rattle.keys.specs.code.Bounds.{isKey}
 use Rattle.reader.specs.Reader.{reader, eventOf, keyEvent, prefixAfter, hear}
 use Rattle.reader.specs.Words.{wordOf, wordsOf, readerAfter, events}
+use Rattle.reader.proofs.Parts.{keysEvents, keysPrefix, keys-after, keys-events, kept-prefix, kept-keys}
 use Rattle.reader.proofs.Outcomes.{digit-outcome, mark-outcome, other-outcome}
 use Rattle.line_theorems.proofs.KeyRules.{KeysTake, key-counts}
-use Rattle.line_theorems.proofs.Chain.{Gives, none, chain, one-word}
-
--- what keys that count end in, behind a prefix that they change
-keysEvents : ℕ → List ℕ → List Event
-keysEvents p [] = []
-keysEvents p (k ∷ ks) = keyEvent p k ∷ keysEvents (prefixAfter p k) ks
-
-keysPrefix : ℕ → List ℕ → ℕ
-keysPrefix p [] = p
-keysPrefix p (k ∷ ks) = keysPrefix (prefixAfter p k) ks
-
-keys-after : (r : Reader) (xs : List ℕ) → readerAfter Dtmf r xs ≡ reader (r .frame) (keysAfter (r .keys) xs) (r .shift) (keysPrefix (r .prefix) (keysHeard (r .keys) xs))
-unfolding stateAfter outputs keysPrefix hear
-keys-after r [] = refl
-keys-after r (x ∷ xs) = keys-after (hear Dtmf r x .reader) xs
-
-keys-events : (r : Reader) (xs : List ℕ) → events Dtmf r xs ≡ keysEvents (r .prefix) (keysHeard (r .keys) xs)
-unfolding stateAfter outputs keysEvents hear
-keys-events r [] = refl
-keys-events r (x ∷ xs) = ap (λ (l : List Event). hear Dtmf r x .event ∷ l) (keys-events (hear Dtmf r x .reader) xs)
-
--- ms in which no key counts
-silent-prefix : (p n : ℕ) (ks : List ℕ) → keysPrefix p (replicate n 0 ++ ks) ≡ keysPrefix p ks
-unfolding keysPrefix prefixAfter
-silent-prefix p zero ks = refl
-silent-prefix p (suc n) ks = silent-prefix p n ks
-
-silent-events : (p n : ℕ) (ks : List ℕ) → keysEvents p (replicate n 0 ++ ks) ≡ replicate n Nothing ++ keysEvents p ks
-unfolding keysEvents keyEvent prefixAfter
-silent-events p zero ks = refl
-silent-events p (suc n) ks = ap (λ (l : List Event). Nothing ∷ l) (silent-events p n ks)
+use Rattle.line_theorems.proofs.Chain.{Gives, none, chain, kept-one}
 
 -- ms in which one key counts
-key-read : (f : Frame) (s p k : ℕ) (xs : List ℕ) (n m : ℕ) → KeysTake ready xs (replicate n 0 ++ (k ∷ replicate m 0)) ready
+key-read : (f : Frame) (s p k : ℕ) (xs : List ℕ) (n m : ℕ) → (k ≡ 0 → ⊥)
+    → KeysTake ready xs (replicate n 0 ++ (k ∷ replicate m 0)) ready
     → Gives Dtmf (reader f ready s p) xs (wordOf (keyEvent p k)) (reader f ready s (prefixAfter p k))
-unfolding keysPrefix keysEvents
-key-read f s p k xs n m h =
-    let q = prefixAfter p k in
-    let u : keysPrefix q (replicate m 0) ≡ q = ap (keysPrefix q) (sym (append-nil (replicate m 0))) ∙ silent-prefix q m [] in
-    let v : keysEvents q (replicate m 0) ≡ replicate m Nothing = ap (keysEvents q) (sym (append-nil (replicate m 0))) ∙ silent-events q m [] ∙ append-nil (replicate m Nothing) in
+unfolding keysPrefix keysEvents wordsOf
+key-read f s p k xs n m z h =
+    let ks = replicate n 0 ++ (k ∷ replicate m 0) in
+    let one = kept-one isKey 0 k refl (ap not (ne-eqb k 0 z)) n m in
     record {
-      after = keys-after (reader f ready s p) xs ∙ (rw (h .after, h .found, silent-prefix p n (k ∷ replicate m 0), u) refl);
-      heard = ap wordsOf (keys-events (reader f ready s p) xs ∙ ap (keysEvents p) (h .found) ∙ silent-events p n (k ∷ replicate m 0) ∙ ap (λ (l : List Event). replicate n Nothing ++ (keyEvent p k ∷ l)) v) ∙ one-word n m (keyEvent p k);
+      after =
+          keys-after (reader f ready s p) xs
+          ∙ (λ j. reader f (h .after j) s (keysPrefix p (h .found j)))
+          ∙ ap (reader f ready s) (sym (kept-prefix p ks) ∙ ap (keysPrefix p) one);
+      heard =
+          ap wordsOf (keys-events (reader f ready s p) xs)
+          ∙ ap (λ (l : List ℕ). wordsOf (keysEvents p l)) (h .found)
+          ∙ sym (kept-keys p ks)
+          ∙ ap (λ (l : List ℕ). wordsOf (keysEvents p l)) one
+          ∙ append-nil (wordOf (keyEvent p k));
     }
 
 -- a key, 70 ms and 50 quiet
-pub key-given : (f : Frame) (s p k : ℕ) → (k ≡ 0 → ⊥) → Gives Dtmf (reader f ready s p) (replicate 70 k ++ replicate 50 0) (wordOf (keyEvent p k)) (reader f ready s (prefixAfter p k))
-key-given f s p k z = key-read f s p k _ 39 80 (key-counts k 30 10 z)
+pub key-given : (f : Frame) (s p k : ℕ) → (k ≡ 0 → ⊥)
+    → Gives Dtmf (reader f ready s p) (replicate 70 k ++ replicate 50 0) (wordOf (keyEvent p k))
+    (reader f ready s (prefixAfter p k))
+key-given f s p k z = key-read f s p k _ 39 80 z (key-counts k 30 10 z)
 
 -- the tests on a key, taken apart
 digit-bounds : (k : ℕ) → isDigit k ≡ true → (1 ≤ k) × (k ≤ 10)
@@ -103,12 +85,16 @@ pub digit-event : (p k : ℕ) → isDigit k ≡ true → keyEvent p k ≡ eventO
 unfolding reads
 digit-event p k t =
     let b = digit-bounds k t in
-    sym (ap (λ (o : Outcome). o .event) (digit-outcome p k (record { 0 = dtmfCode p k }) _ _ (λ e. omega arith) (b .1) refl refl refl))
+    sym
+    (ap (λ (o : Outcome). o .event)
+    (digit-outcome p k (record { 0 = dtmfCode p k }) _ _ (λ e. omega arith) (b .1) refl refl refl))
 
 pub digit-empties : (p k : ℕ) → isDigit k ≡ true → prefixAfter p k ≡ 0
 digit-empties p k t =
     let b = digit-bounds k t in
-    sym (ap (λ (o : Outcome). o .next) (digit-outcome p k (record { 0 = dtmfCode p k }) _ _ (λ e. omega arith) (b .1) refl refl refl))
+    sym
+    (ap (λ (o : Outcome). o .next)
+    (digit-outcome p k (record { 0 = dtmfCode p k }) _ _ (λ e. omega arith) (b .1) refl refl refl))
 
 -- a mark gives nothing, and is one more of the prefix
 pub mark-event : (p k : ℕ) → isMark k ≡ true → keyEvent p k ≡ Nothing
@@ -139,7 +125,8 @@ no-true e = subst (λ (b : Bool). T (not b)) e tt
 -- marks and a digit, behind any prefix: the character or the fault of the whole code
 module _ (f : Frame) (s : ℕ) where
   abbrev Given : ℕ → List ℕ → Type 0
-  Given p ks = Gives Dtmf (reader f ready s p) (keysSignal ks) (wordOf (eventOf (readDtmf (codeFrom p ks)))) (reader f ready s 0)
+  Given p ks =
+      Gives Dtmf (reader f ready s p) (keysSignal ks) (wordOf (eventOf (readDtmf (codeFrom p ks)))) (reader f ready s 0)
 
   apart : (k : ℕ) (xs : List ℕ) → (replicate 70 k ++ replicate 50 0) ++ xs ≡ replicate 70 k ++ (replicate 50 0 ++ xs)
   apart k xs = append-assoc (replicate 70 k) (replicate 50 0) xs
@@ -151,7 +138,8 @@ module _ (f : Frame) (s : ℕ) where
       let g = key-given f s p k (λ e. omega arith) in
       let w : wordOf (keyEvent p k) ≡ wordOf (eventOf (readDtmf (dtmfCode p k))) = ap wordOf (digit-event p k t) in
       let q : reader f ready s (prefixAfter p k) ≡ reader f ready s 0 = ap (reader f ready s) (digit-empties p k t) in
-      rw (not-mark k (b .1), append-nil (replicate {A = ℕ} 50 0)) (record { after = g .after ∙ q; heard = g .heard ∙ w })
+      rw (not-mark k (b .1), append-nil (replicate {A = ℕ} 50 0))
+      (record { after = g .after ∙ q; heard = g .heard ∙ w })
 
   one-mark : (p k : ℕ) (ks : List ℕ) → isMark k ≡ true → Given (withMark p k) ks → Given p (k ∷ ks)
   unfolding heldKeys codeFrom
@@ -159,9 +147,14 @@ module _ (f : Frame) (s : ℕ) where
       let b = mark-bounds k t in
       let g = key-given f s p k (λ e. omega arith) in
       let w : wordOf (keyEvent p k) ≡ [] = ap wordOf (mark-event p k t) in
-      let q : reader f ready s (prefixAfter p k) ≡ reader f ready s (withMark p k) = ap (reader f ready s) (mark-prefix p k t) in
+      let q : reader f ready s (prefixAfter p k) ≡ reader f ready s (withMark p k) = ap (reader f ready s)
+      (mark-prefix p k t) in
       let first : Gives Dtmf (reader f ready s p) (replicate 70 k ++ replicate 50 0) [] (reader f ready s (withMark p k)) = record { after = g .after ∙ q; heard = g .heard ∙ w } in
-      rw t (subst (λ (l : List ℕ). Gives Dtmf (reader f ready s p) l (wordOf (eventOf (readDtmf (codeFrom (withMark p k) ks)))) (reader f ready s 0)) (apart k (keysSignal ks)) (chain Dtmf first i))
+      rw t
+      (subst
+      (λ (l : List ℕ).
+      Gives Dtmf (reader f ready s p) l (wordOf (eventOf (readDtmf (codeFrom (withMark p k) ks)))) (reader f ready s 0))
+      (apart k (keysSignal ks)) (chain Dtmf first i))
 
   pub keys-given : (p : ℕ) (ks : List ℕ) → marksThenDigit ks ≡ true → Given p ks
   unfolding marksThenDigit
@@ -173,9 +166,12 @@ module _ (f : Frame) (s : ℕ) where
       go false e u = absurd (no-true (and-right (isMark k) false u))
   keys-given p (k ∷ (j ∷ js)) t = go (isDigit k) t (λ u. keys-given (withMark p k) (j ∷ js) u)
     where
-      go : (b : Bool) → cond b false (isMark k && marksThenDigit (j ∷ js)) ≡ true → (marksThenDigit (j ∷ js) ≡ true → Given (withMark p k) (j ∷ js)) → Given p (k ∷ (j ∷ js))
+      go : (b : Bool) → cond b false (isMark k && marksThenDigit (j ∷ js)) ≡ true
+          → (marksThenDigit (j ∷ js) ≡ true → Given (withMark p k) (j ∷ js)) → Given p (k ∷ (j ∷ js))
       go true u i = absurd (no-true u)
-      go false u i = one-mark p k (j ∷ js) (and-left (isMark k) (marksThenDigit (j ∷ js)) u) (i (and-right (isMark k) (marksThenDigit (j ∷ js)) u))
+      go false u i =
+          one-mark p k (j ∷ js) (and-left (isMark k) (marksThenDigit (j ∷ js)) u)
+          (i (and-right (isMark k) (marksThenDigit (j ∷ js)) u))
 
 -- a code of at most three marks and a digit
 pub record Shape (n : ℕ) : Type 0 where
@@ -193,13 +189,17 @@ shape-test = tt
 
 pub shape-keys : (n : ℕ) → Shape n → marksThenDigit (keysOf n) ≡ true
 shape-keys n h =
-    is-true _ (simp (lt-ltb (n / 16) 15 (h .marks-in), le-leb 1 (n % 16) (h .digit-low), le-leb (n % 16) 10 (h .digit-high)) at (passes-at shaped 256 shape-test n (h .in-byte)))
+    is-true _
+    (simp (lt-ltb (n / 16) 15 (h .marks-in), le-leb 1 (n % 16) (h .digit-low), le-leb (n % 16) 10 (h .digit-high)) at
+    (passes-at shaped 256 shape-test n (h .in-byte)))
 
 -- its signal is read as that code, from ready to ready
-pub code-dtmf : (f : Frame) (s n : ℕ) → Shape n → Gives Dtmf (reader f ready s 0) (signal Dtmf n) (wordOf (eventOf (readDtmf n))) (reader f ready s 0)
+pub code-dtmf : (f : Frame) (s n : ℕ) → Shape n
+    → Gives Dtmf (reader f ready s 0) (signal Dtmf n) (wordOf (eventOf (readDtmf n))) (reader f ready s 0)
 unfolding signal
 code-dtmf f s n h =
-    rw (keys-number n (h .in-byte) (h .marks-in) (h .digit-low) (h .digit-high)) at (keys-given f s 0 (keysOf n) (shape-keys n h))
+    rw (keys-number n (h .in-byte) (h .marks-in) (h .digit-low) (h .digit-high)) at
+    (keys-given f s 0 (keysOf n) (shape-keys n h))
 
 -- a code that has a row is of that shape
 record RowCode (n : ℕ) : Type 0 where
@@ -212,16 +212,23 @@ isCharacter (Character c) = true
 isCharacter (Shift s) = false
 isCharacter NoRow = false
 
-row-code : (n : ℕ) (rs : List Row) (earlier : List String) → isCharacter (readIn n (notStruck earlier rs)) ≡ true → RowCode n
+row-code : (n : ℕ) (rs : List Row) (earlier : List String) → isCharacter (readIn n (notStruck earlier rs)) ≡ true
+    → RowCode n
 unfolding notStruck readIn isCharacter
 row-code n [] earlier t = absurd (no-true t)
 row-code n (r ∷ rs) earlier t =
-    go (isCode (keys (r .from)) && not (among (r .from) earlier)) refl (eqb (codeOfKeys (keys (r .from))) n) refl t (λ u. row-code n rs (r .from ∷ earlier) u)
+    go (isCode (keys (r .from)) && not (among (r .from) earlier)) refl (eqb (codeOfKeys (keys (r .from))) n) refl t
+    (λ u. row-code n rs (r .from ∷ earlier) u)
   where
-    go : (b : Bool) → (isCode (keys (r .from)) && not (among (r .from) earlier)) ≡ b → (a : Bool) → eqb (codeOfKeys (keys (r .from))) n ≡ a
+    go : (b : Bool) → (isCode (keys (r .from)) && not (among (r .from) earlier)) ≡ b → (a : Bool)
+        → eqb (codeOfKeys (keys (r .from))) n ≡ a
         → isCharacter (readIn n (cond b (r ∷ notStruck (r .from ∷ earlier) rs) (notStruck (r .from ∷ earlier) rs))) ≡ true
         → (isCharacter (readIn n (notStruck (r .from ∷ earlier) rs)) ≡ true → RowCode n) → RowCode n
-    go true e true f u i = record { row = keys (r .from); is-code = and-left (isCode (keys (r .from))) (not (among (r .from) earlier)) e; number-is = eqb-true _ n f }
+    go true e true f u i = record {
+      row = keys (r .from);
+      is-code = and-left (isCode (keys (r .from))) (not (among (r .from) earlier)) e;
+      number-is = eqb-true _ n f;
+    }
     go true e false f u i = i (rw f at u)
     go false e a f u i = i u
 
@@ -247,21 +254,29 @@ most-14 (suc (suc zero)) = omega arith
 most-14 (suc (suc (suc n))) = omega arith
 
 closed : (p k : ℕ) → p ≤ 14 → 1 ≤ k → k ≤ 10 → Shape (dtmfCode p k)
-closed p k h l u = record { in-byte = omega arith; marks-in = omega arith; digit-low = omega arith; digit-high = omega arith }
+closed p k h l u = record {
+  in-byte = omega arith;
+  marks-in = omega arith;
+  digit-low = omega arith;
+  digit-high = omega arith;
+}
 
-shape-from : (n p : ℕ) (ks : List ℕ) → n ≤ 3 → p ≤ most n → length ks ≤ n + 1 → marksThenDigit ks ≡ true → Shape (codeFrom p ks)
+shape-from : (n p : ℕ) (ks : List ℕ) → n ≤ 3 → p ≤ most n → length ks ≤ n + 1 → marksThenDigit ks ≡ true
+    → Shape (codeFrom p ks)
 unfolding marksThenDigit codeFrom
 shape-from n p [] l h m t = absurd (no-true t)
 shape-from n p (k ∷ []) l h m t = go (isDigit k) refl t
   where
-    go : (b : Bool) → isDigit k ≡ b → cond b true (isMark k && false) ≡ true → Shape (cond (isMark k) (codeFrom (withMark p k) []) (dtmfCode p k))
+    go : (b : Bool) → isDigit k ≡ b → cond b true (isMark k && false) ≡ true
+        → Shape (cond (isMark k) (codeFrom (withMark p k) []) (dtmfCode p k))
     go true e u =
         let b = digit-bounds k e in
         let q = most-14 n in
         rw (not-mark k (b .1)) (closed p k (omega arith) (b .0) (b .1))
     go false e u = absurd (no-true (and-right (isMark k) false u))
 shape-from zero p (k ∷ (j ∷ js)) l h m t = absurd (omega arith)
-shape-from (suc n) p (k ∷ (j ∷ js)) l h m t = go (isDigit k) t (λ a u. shape-from n (withMark p k) (j ∷ js) (omega arith) a (omega arith) u)
+shape-from (suc n) p (k ∷ (j ∷ js)) l h m t =
+    go (isDigit k) t (λ a u. shape-from n (withMark p k) (j ∷ js) (omega arith) a (omega arith) u)
   where
     go : (b : Bool) → cond b false (isMark k && marksThenDigit (j ∷ js)) ≡ true
         → (withMark p k ≤ most n → marksThenDigit (j ∷ js) ≡ true → Shape (codeFrom (withMark p k) (j ∷ js)))
@@ -269,7 +284,8 @@ shape-from (suc n) p (k ∷ (j ∷ js)) l h m t = go (isDigit k) t (λ a u. shap
     go true u i = absurd (no-true u)
     go false u i =
         let e = and-left (isMark k) (marksThenDigit (j ∷ js)) u in
-        rw e (i (with-mark-most n p k (omega arith) h (mark-bounds k e .1)) (and-right (isMark k) (marksThenDigit (j ∷ js)) u))
+        rw e
+        (i (with-mark-most n p k (omega arith) h (mark-bounds k e .1)) (and-right (isMark k) (marksThenDigit (j ∷ js)) u))
 
 row-shaped : (n : ℕ) → isCharacter (readDtmf n) ≡ true → Shape n
 unfolding readDtmf remaining most
@@ -277,14 +293,16 @@ row-shaped n t =
     let r = row-code n (rows b1) [] t in
     let fits = leb (length (r .row)) 4 in
     let m = leb-true (length (r .row)) 4 (and-left fits (marksThenDigit (r .row)) (r .is-code)) in
-    subst Shape (r .number-is) (shape-from 3 0 (r .row) (omega arith) (omega arith) m (and-right fits (marksThenDigit (r .row)) (r .is-code)))
+    subst Shape (r .number-is)
+    (shape-from 3 0 (r .row) (omega arith) (omega arith) m (and-right fits (marksThenDigit (r .row)) (r .is-code)))
 
 pub row-shape : (n : ℕ) (c : Char) → readDtmf n ≡ Character c → Shape n
 unfolding isCharacter
 row-shape n c e = row-shaped n (ap isCharacter e)
 
 -- every code that has a row is read as its character
-pub row-read : (f : Frame) (s n : ℕ) (c : Char) → readDtmf n ≡ Character c → Gives Dtmf (reader f ready s 0) (signal Dtmf n) (c .0 ∷ []) (reader f ready s 0)
+pub row-read : (f : Frame) (s n : ℕ) (c : Char) → readDtmf n ≡ Character c
+    → Gives Dtmf (reader f ready s 0) (signal Dtmf n) (c .0 ∷ []) (reader f ready s 0)
 row-read f s n c e =
     let g = code-dtmf f s n (row-shape n c e) in
     record { after = g .after; heard = g .heard ∙ ap (λ (r : Reads). wordOf (eventOf r)) e }
@@ -295,7 +313,8 @@ unfolding readIn isCharacter
 read-in n [] t = refl
 read-in n (r ∷ rs) t = go (eqb (codeOfKeys (keys (r .from))) n) t (λ u. read-in n rs u)
   where
-    go : (b : Bool) → isCharacter (cond b (Character (record { 0 = drawn (r .sign) })) (readIn n rs)) ≡ false → (isCharacter (readIn n rs) ≡ false → readIn n rs ≡ NoRow)
+    go : (b : Bool) → isCharacter (cond b (Character (record { 0 = drawn (r .sign) })) (readIn n rs)) ≡ false
+        → (isCharacter (readIn n rs) ≡ false → readIn n rs ≡ NoRow)
         → cond b (Character (record { 0 = drawn (r .sign) })) (readIn n rs) ≡ NoRow
     go true u i = absurd (no-true (sym u))
     go false u i = i u

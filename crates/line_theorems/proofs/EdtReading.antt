@@ -46,7 +46,8 @@ same-founds [] [] t = refl
 same-founds [] (g ∷ gs) t = absurd t
 same-founds (f ∷ fs) [] t = absurd t
 same-founds (f ∷ fs) (g ∷ gs) t =
-    let p : f ≡ g = sym (back f) ∙ ap numbered (eqb→eq (number f) (number g) (both-left (eqb (number f) (number g)) (sameFounds fs gs) t)) ∙ back g in
+    let p : f ≡ g = sym (back f)
+    ∙ ap numbered (eqb→eq (number f) (number g) (both-left (eqb (number f) (number g)) (sameFounds fs gs) t)) ∙ back g in
     let q = same-founds fs gs (both-right (eqb (number f) (number g)) (sameFounds fs gs) t) in
     λ i. p i ∷ q i
 
@@ -64,7 +65,9 @@ abbrev pub oneCode : ℕ → List Found
 oneCode c = replicate 95 Nothing ++ (Code (record { 0 = c }) ∷ replicate 4 Nothing)
 
 abbrev good : ℕ → Bool
-good c = sameFounds (founds edtSamples hunting (edtSignal c)) (oneCode c) && isHunting (frameAfter edtSamples hunting (edtSignal c))
+good c =
+    sameFounds (founds edtSamples hunting (edtSignal c)) (oneCode c) && isHunting
+    (frameAfter edtSamples hunting (edtSignal c))
 
 edt-test : T (passes good 128 0)
 unfolding passes stateAfter outputs frameStep sampled sampleAt placed edtKinds edtSignal edtElements digits sum tabulate

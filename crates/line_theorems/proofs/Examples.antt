@@ -12,5 +12,16 @@ use Rattle.line_theorems.specs.Examples.{chars, examples, Hold}
 
 pub worked-examples : Hold examples
 unfolding chars examples wanted codesFor senderFor codesOf textOf sends sendBaudot readBaudot printedAt leftRows rightRows rows bits bitsFrom a1 a2 edtElements digits sum
-worked-examples =
-    ((refl, refl), ((refl, refl), ((refl, refl), ((refl, refl), ((refl, refl), ((refl, refl), ((refl, refl), ((refl, refl), ((refl, refl), ((refl, refl), (refl, tt)))))))))))
+worked-examples = (
+  (refl, refl),
+  (
+    (refl, refl),
+    (
+      (refl, refl),
+      (
+        (refl, refl),
+        ((refl, refl), ((refl, refl), ((refl, refl), ((refl, refl), ((refl, refl), ((refl, refl), (refl, tt))))))),
+      ),
+    ),
+  ),
+)

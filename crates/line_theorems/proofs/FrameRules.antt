@@ -26,11 +26,15 @@ module _ (samples : List Placed) where
   pub none : (f : Frame) → Hears samples f [] [] f
   none f = steps.none (frameNext samples) (frameFound samples) f
 
-  pub chain : {f g h : Frame} {xs ys : List ℕ} {os ps : List Found} → Hears samples f xs os g → Hears samples g ys ps h → Hears samples f (xs ++ ys) (os ++ ps) h
+  pub chain : {f g h : Frame} {xs ys : List ℕ} {os ps : List Found} → Hears samples f xs os g → Hears samples g ys ps h
+      → Hears samples f (xs ++ ys) (os ++ ps) h
   chain a b = steps.chain (frameNext samples) (frameFound samples) a b
 
-  pub next : {f g h : Frame} {x : ℕ} {o : Found} {xs : List ℕ} {os : List Found} → frameStep samples f x ≡ gives g o → Hears samples g xs os h → Hears samples f (x ∷ xs) (o ∷ os) h
-  next e b = steps.next (frameNext samples) (frameFound samples) (ap (λ (d : FrameRead). d .frame) e) (ap (λ (d : FrameRead). d .found) e) b
+  pub next : {f g h : Frame} {x : ℕ} {o : Found} {xs : List ℕ} {os : List Found} → frameStep samples f x ≡ gives g o
+      → Hears samples g xs os h → Hears samples f (x ∷ xs) (o ∷ os) h
+  next e b =
+      steps.next (frameNext samples) (frameFound samples) (ap (λ (d : FrameRead). d .frame) e)
+      (ap (λ (d : FrameRead). d .found) e) b
 
   -- hunting, a space ms is ms 0 of a frame; any other is passed over
   pub hunting-space : frameStep samples hunting 2 ≡ gives (inFrame 1 0) Nothing
@@ -67,7 +71,8 @@ module _ (samples : List Placed) where
     no-sample x e = by None x e
 
     -- a start sample that is not space ends the frame without a word
-    pub start-other : (x : ℕ) → sampleAt samples m ≡ Start → (x ≡ 2 → ⊥) → frameStep samples (inFrame m d) x ≡ gives hunting Nothing
+    pub start-other : (x : ℕ) → sampleAt samples m ≡ Start → (x ≡ 2 → ⊥)
+        → frameStep samples (inFrame m d) x ≡ gives hunting Nothing
     unfolding sampled
     start-other x e h = by Start x e ∙ (rw (ne-eqb x 2 h) refl)
 
@@ -85,16 +90,19 @@ module _ (samples : List Placed) where
     parity-quiet e = by Parity 0 e
 
     -- a digit: 1 as mark
-    pub digit-mark : (top : ℕ) → sampleAt samples m ≡ Digit top → frameStep samples (inFrame m d) 1 ≡ goesOn m (d / 2 + top)
+    pub digit-mark : (top : ℕ) → sampleAt samples m ≡ Digit top
+        → frameStep samples (inFrame m d) 1 ≡ goesOn m (d / 2 + top)
     unfolding sampled
     digit-mark top e = by (Digit top) 1 e
 
-    pub digit-space : (top : ℕ) → sampleAt samples m ≡ Digit top → frameStep samples (inFrame m d) 2 ≡ goesOn m (d / 2 + 0)
+    pub digit-space : (top : ℕ) → sampleAt samples m ≡ Digit top
+        → frameStep samples (inFrame m d) 2 ≡ goesOn m (d / 2 + 0)
     unfolding sampled
     digit-space top e = by (Digit top) 2 e
 
     -- odd parity gives a fault at its own sample; even parity goes on
-    pub parity-odd : (x : ℕ) → sampleAt samples m ≡ Parity → (parityOf d ≡ parityHeard x → ⊥) → frameStep samples (inFrame m d) x ≡ faulty
+    pub parity-odd : (x : ℕ) → sampleAt samples m ≡ Parity → (parityOf d ≡ parityHeard x → ⊥)
+        → frameStep samples (inFrame m d) x ≡ faulty
     unfolding sampled
     parity-odd x e h = by Parity x e ∙ go (eqb x 0)
       where
@@ -102,7 +110,8 @@ module _ (samples : List Placed) where
         go true = refl
         go false = rw (ne-eqb (parityOf d) (parityHeard x) h) refl
 
-    pub parity-even : (x : ℕ) → sampleAt samples m ≡ Parity → (x ≡ 0 → ⊥) → parityOf d ≡ parityHeard x → frameStep samples (inFrame m d) x ≡ goesOn m d
+    pub parity-even : (x : ℕ) → sampleAt samples m ≡ Parity → (x ≡ 0 → ⊥) → parityOf d ≡ parityHeard x
+        → frameStep samples (inFrame m d) x ≡ goesOn m d
     unfolding sampled
     parity-even x e n h = by Parity x e ∙ (rw (ne-eqb x 0 n, eq-eqb (parityOf d) (parityHeard x) h) refl)
 
@@ -120,6 +129,7 @@ module _ (samples : List Placed) where
     last-other x e h = by Last x e ∙ (rw (ne-eqb x 1 h) refl)
 
     -- after the last good sample the reader hunts again
-    pub last-mark : sampleAt samples m ≡ Last → frameStep samples (inFrame m d) 1 ≡ gives hunting (Code (record { 0 = d }))
+    pub last-mark : sampleAt samples m ≡ Last
+        → frameStep samples (inFrame m d) 1 ≡ gives hunting (Code (record { 0 = d }))
     unfolding sampled
     last-mark e = by Last 1 e

@@ -19,10 +19,12 @@ KeysTake s xs ks t = Takes keyNext keyCounts s xs ks t
 none : (s : Keys) → KeysTake s [] [] s
 none s = steps.none keyNext keyCounts s
 
-pub chain : {s t u : Keys} {xs ys ks js : List ℕ} → KeysTake s xs ks t → KeysTake t ys js u → KeysTake s (xs ++ ys) (ks ++ js) u
+pub chain : {s t u : Keys} {xs ys ks js : List ℕ} → KeysTake s xs ks t → KeysTake t ys js u
+    → KeysTake s (xs ++ ys) (ks ++ js) u
 chain a b = steps.chain keyNext keyCounts a b
 
-next : {s t u : Keys} {x k : ℕ} {xs ks : List ℕ} → keyStep s x ≡ counts t k → KeysTake t xs ks u → KeysTake s (x ∷ xs) (k ∷ ks) u
+next : {s t u : Keys} {x k : ℕ} {xs ks : List ℕ} → keyStep s x ≡ counts t k → KeysTake t xs ks u
+    → KeysTake s (x ∷ xs) (k ∷ ks) u
 next e b = steps.next keyNext keyCounts (ap (λ (d : KeyRead). d .keys) e) (ap (λ (d : KeyRead). d .key) e) b
 
 -- quiet ends a key that has not counted
@@ -58,7 +60,8 @@ quiet-ms n =
     rw (ne-eqb (suc n) 0 (λ e. omega arith), p) refl
 
 -- a key that goes on
-held-on : (n k m : ℕ) → (k ≡ 0 → ⊥) → m + n ≤ 39 → KeysTake (keysAt k m 0) (replicate n k) (replicate n 0) (keysAt k (m + n) 0)
+held-on : (n k m : ℕ) → (k ≡ 0 → ⊥) → m + n ≤ 39
+    → KeysTake (keysAt k m 0) (replicate n k) (replicate n 0) (keysAt k (m + n) 0)
 held-on zero k m z h = rw (add-zero m) (none (keysAt k m 0))
 held-on (suc n) k m z h =
     let p : m + suc n ≡ m + 1 + n = omega arith in
@@ -68,7 +71,8 @@ held-on (suc n) k m z h =
 first-ms : (k : ℕ) → (k ≡ 0 → ⊥) → keyStep ready k ≡ counts (keysAt k 1 0) 0
 first-ms k z = other-key 0 0 k z z
 
-pub too-short : (n k : ℕ) → (k ≡ 0 → ⊥) → suc n ≤ 39 → KeysTake ready (replicate (suc n) k) (replicate (suc n) 0) (keysAt k (suc n) 0)
+pub too-short : (n k : ℕ) → (k ≡ 0 → ⊥) → suc n ≤ 39
+    → KeysTake ready (replicate (suc n) k) (replicate (suc n) 0) (keysAt k (suc n) 0)
 too-short n k z h =
     let p : 1 + n ≡ suc n = omega arith in
     rw p at (next (first-ms k z) (held-on n k 1 z (omega arith)))
@@ -95,11 +99,17 @@ key-counts k on off z =
     let a = chain (too-short 38 k z (omega arith)) (next (fortieth k z) (still-held on k z)) in
     let b = chain (quiet-row 40 0) (stays-ready off) in
     let one : 39 + suc on ≡ 40 + on = omega arith in
-    let xs : replicate 39 k ++ (k ∷ replicate on k) ≡ replicate (40 + on) k = replicate-append-replicate 39 (suc on) k ∙ ap (λ (n : ℕ). replicate n k) one in
+    let xs : replicate 39 k ++ (k ∷ replicate on k) ≡ replicate (40 + on) k = replicate-append-replicate 39 (suc on) k
+    ∙ ap (λ (n : ℕ). replicate n k) one in
     let ys : replicate {A = ℕ} 40 0 ++ replicate off 0 ≡ replicate (40 + off) 0 = replicate-append-replicate 40 off 0 in
-    let zs : replicate {A = ℕ} on 0 ++ replicate (40 + off) 0 ≡ replicate (on + (40 + off)) 0 = replicate-append-replicate on (40 + off) 0 in
+    let zs : replicate {A = ℕ} on 0 ++ replicate (40 + off) 0 ≡ replicate (on + (40 + off)) 0 = replicate-append-replicate on
+    (40 + off) 0 in
     let os : (replicate 39 0 ++ (k ∷ replicate on 0)) ++ (replicate 40 0 ++ replicate off 0) ≡ replicate 39 0 ++ (k ∷ replicate (on + (40 + off)) 0) =
     append-assoc (replicate 39 0) (k ∷ replicate on 0) (replicate 40 0 ++ replicate off 0)
     ∙ ap (λ (l : List ℕ). replicate 39 0 ++ (k ∷ l)) (ap (λ (l : List ℕ). replicate on 0 ++ l) ys ∙ zs) in
-    subst (λ (l : List ℕ). KeysTake ready l (replicate 39 0 ++ (k ∷ replicate (on + (40 + off)) 0)) ready) (λ i. xs i ++ ys i)
-    (subst (λ (l : List ℕ). KeysTake ready ((replicate 39 k ++ (k ∷ replicate on k)) ++ (replicate 40 0 ++ replicate off 0)) l ready) os (chain a b))
+    subst (λ (l : List ℕ). KeysTake ready l (replicate 39 0 ++ (k ∷ replicate (on + (40 + off)) 0)) ready)
+    (λ i. xs i ++ ys i)
+    (subst
+    (λ (l : List ℕ).
+    KeysTake ready ((replicate 39 k ++ (k ∷ replicate on k)) ++ (replicate 40 0 ++ replicate off 0)) l ready) os
+    (chain a b))

@@ -43,7 +43,8 @@ module _ (samples : List Placed) where
   stays (false ∷ bs) = stays bs
 
   -- a mixture hunts already, or all of it was quiet
-  mixture : (f : Frame) (bs : List Bool) → (framesRest samples f bs ≡ hunting) ⊎ (framesRest samples f bs ≡ frameAfter samples f (replicate (length bs) 0))
+  mixture : (f : Frame) (bs : List Bool)
+      → (framesRest samples f bs ≡ hunting) ⊎ (framesRest samples f bs ≡ frameAfter samples f (replicate (length bs) 0))
   unfolding framesRest stateAfter
   mixture f [] = inr refl
   mixture f (true ∷ bs) = inl (stays bs)
@@ -52,10 +53,15 @@ module _ (samples : List Placed) where
   abbrev quietTest : ℕ → ℕ → Bool
   quietTest d p = isHunting (frameAfter samples (record { place = p; digits = d }) (replicate 40 0))
 
-  frames-settle : (n : ℕ) → ((d : ℕ) → T (passes (quietTest d) n 0)) → (f : Frame) → f .place < n → (bs : List Bool) → length bs ≡ 40 → framesRest samples f bs ≡ hunting
+  frames-settle : (n : ℕ) → ((d : ℕ) → T (passes (quietTest d) n 0)) → (f : Frame) → f .place < n → (bs : List Bool)
+      → length bs ≡ 40 → framesRest samples f bs ≡ hunting
   frames-settle n all f h bs e =
       ⊎-elim (λ p. p)
-      (λ p. p ∙ ap (λ (k : ℕ). frameAfter samples f (replicate k 0)) e ∙ is-hunting _ (passes-at (quietTest (f .digits)) n (all (f .digits)) (f .place) h)) (mixture f bs)
+      (λ p.
+      p
+      ∙ ap (λ (k : ℕ). frameAfter samples f (replicate k 0)) e
+      ∙ is-hunting _ (passes-at (quietTest (f .digits)) n (all (f .digits)) (f .place) h))
+      (mixture f bs)
 
 -- every place of a frame, quiet for 40 ms
 test-45 : (d : ℕ) → T (passes (quietTest (samplesOf Baudot45) d) 145 0)
@@ -101,7 +107,8 @@ frame-rests : (mode : Mode) → ((r : Reader) → hear mode r 0 .reader .frame �
 unfolding restsAll framesRest inhibited
 frame-rests mode law r [] = refl
 frame-rests mode law r (true ∷ bs) = frame-rests mode law (inhibited r) bs
-frame-rests mode law r (false ∷ bs) = frame-rests mode law (hear mode r 0 .reader) bs ∙ ap (λ (f : Frame). framesRest (samplesOf mode) f bs) (law r)
+frame-rests mode law r (false ∷ bs) =
+    frame-rests mode law (hear mode r 0 .reader) bs ∙ ap (λ (f : Frame). framesRest (samplesOf mode) f bs) (law r)
 
 keys-rest : (r : Reader) (bs : List Bool) → restsAll Dtmf r bs .keys ≡ keysAfter (r .keys) (replicate (length bs) 0)
 unfolding restsAll inhibited hear stateAfter
@@ -109,7 +116,8 @@ keys-rest r [] = refl
 keys-rest r (true ∷ bs) = keys-rest (inhibited r) bs
 keys-rest r (false ∷ bs) = keys-rest (hear Dtmf r 0 .reader) bs
 
-pub settles : (mode : Mode) (r : Reader) → ReaderIn mode r → (bs : List Bool) → length bs ≡ 40 → Settled mode (restsAll mode r bs)
+pub settles : (mode : Mode) (r : Reader) → ReaderIn mode r → (bs : List Bool) → length bs ≡ 40
+    → Settled mode (restsAll mode r bs)
 unfolding hear lastMs samplesOf placed baudotKinds edtKinds
 settles Baudot45 r h bs e =
     let p = h .frame-in .place-in in

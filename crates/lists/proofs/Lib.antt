@@ -1,3 +1,6 @@
 pub mod Tables
 pub mod Lists
 pub mod Steps
+pub mod Passing
+pub mod Searching
+pub mod Alikes

@@ -16,20 +16,19 @@ use Rattle.alphabet.specs.Baudot.{readBaudot}
 use Rattle.alphabet.specs.Dtmf.{withMark}
 use Rattle.alphabet.specs.Normal.{reads}
 use Rattle.baudot.specs.Reading.{shiftBy}
-use Rattle.frames.specs.declared.Frame.{Frame}
 use Rattle.frames.specs.declared.Found.{Found}
 use Rattle.frames.specs.declared.Found.the-variants.{Nothing, Fault, Code}
 use Rattle.frames.specs.Samples.{samplesOf}
 use Rattle.frames.specs.Frames.{frameStep}
 use Rattle.alphabet.specs.Modes.{frameCodes}
-use Rattle.frames.specs.code.Bounds.{FrameOf}
+use Rattle.frames.specs.code.Bounds.{Framed}
 use Rattle.frames.specs.Range.{frameIn}
-use Rattle.frames.proofs.Range.{frame-in, frame-is, frame-45, frame-50, frame-edt}
+use Rattle.frames.proofs.Range.{frame-in, frame-is, next-in}
 use Rattle.keys.specs.Keys.{keyStep}
 use Rattle.keys.specs.Range.{keysIn}
 use Rattle.keys.proofs.Range.{keys-in, keys-are, ready-in, key-step-in}
 use Rattle.reader.specs.declared.Reader.{Reader}
-use Rattle.reader.specs.Reader.{reader, fresh, foundShift, prefixAfter, hear, inhibited}
+use Rattle.reader.specs.Reader.{fresh, foundShift, prefixAfter, afterFrame, hear, inhibited}
 use Rattle.reader.specs.code.Bounds.{ReaderIn}
 use Rattle.reader.specs.Range.{readerIn}
 
@@ -74,13 +73,15 @@ baudot-shift : (shift n : ℕ) → ShiftIn shift → ShiftIn (shiftBy shift (rea
 unfolding reads readBaudot
 baudot-shift shift n h =
     let P : Reads → Type 0 = λ (r : Reads). ShiftIn (shiftBy shift r) in
-    either P (eqb n 0b11111) (Shift 1) _ (omega arith, omega arith) (either P (eqb n 0b11011) (Shift 2) _ (omega arith, omega arith) h)
+    either P (eqb n 0b11111) (Shift 1) _ (omega arith, omega arith)
+    (either P (eqb n 0b11011) (Shift 2) _ (omega arith, omega arith) h)
 
 edt-shift : (shift n : ℕ) → ShiftIn shift → ShiftIn (shiftBy shift (reads edt shift n))
 unfolding reads
 edt-shift shift n h = h
 
-found-shift : (a : Alphabet) → ((shift n : ℕ) → ShiftIn shift → ShiftIn (shiftBy shift (reads a shift n))) → (shift : ℕ) (f : Found) → ShiftIn shift → ShiftIn (foundShift a shift f)
+found-shift : (a : Alphabet) → ((shift n : ℕ) → ShiftIn shift → ShiftIn (shiftBy shift (reads a shift n)))
+    → (shift : ℕ) (f : Found) → ShiftIn shift → ShiftIn (foundShift a shift f)
 found-shift a law shift Nothing h = h
 found-shift a law shift Fault h = h
 found-shift a law shift (Code k) h = law shift (k .0) h
@@ -125,16 +126,25 @@ fresh-in mode = record {
     some Edt = omega arith
 
 -- a reader of frames after a ms
-framed : (mode : Mode) (r : Reader) (f : Frame) (s : ℕ) → ReaderIn mode r → FrameOf mode f → ShiftIn s → ReaderIn mode (reader f (r .keys) s (r .prefix))
-framed mode r f s h g t = record { frame-in = g; keys-in = h .keys-in; shift-low = t .0; shift-in = t .1; prefix-in = h .prefix-in }
+framed : (mode : Mode) → Framed mode → (a : Alphabet)
+    → ((shift n : ℕ) → ShiftIn shift → ShiftIn (shiftBy shift (reads a shift n)))
+    → (r : Reader) (x : ℕ) → ReaderIn mode r
+    → ReaderIn mode (afterFrame a r (frameStep (samplesOf mode) (r .frame) x) .reader)
+framed mode t a law r x h =
+    let s = found-shift a law (r .shift) (frameStep (samplesOf mode) (r .frame) x .found) (h .shift-low, h .shift-in) in
+    record {
+      frame-in = next-in mode t (r .frame) x (h .frame-in);
+      keys-in = h .keys-in;
+      shift-low = s .0;
+      shift-in = s .1;
+      prefix-in = h .prefix-in;
+    }
 
 -- every ms keeps a reader in range
 pub hear-in : (mode : Mode) (r : Reader) (x : ℕ) → x ≤ 16 → ReaderIn mode r → ReaderIn mode (hear mode r x .reader)
 unfolding hear
-hear-in Baudot45 r x l h =
-    framed Baudot45 r _ _ h (frame-45 (r .frame) x (h .frame-in)) (found-shift Baudot baudot-shift (r .shift) (frameStep (samplesOf Baudot45) (r .frame) x .found) (h .shift-low, h .shift-in))
-hear-in Baudot50 r x l h =
-    framed Baudot50 r _ _ h (frame-50 (r .frame) x (h .frame-in)) (found-shift Baudot baudot-shift (r .shift) (frameStep (samplesOf Baudot50) (r .frame) x .found) (h .shift-low, h .shift-in))
+hear-in Baudot45 r x l h = framed Baudot45 tt Baudot baudot-shift r x h
+hear-in Baudot50 r x l h = framed Baudot50 tt Baudot baudot-shift r x h
 hear-in Dtmf r x l h = record {
   frame-in = h .frame-in;
   keys-in = key-step-in (r .keys) x l (h .keys-in);
@@ -142,8 +152,7 @@ hear-in Dtmf r x l h = record {
   shift-in = h .shift-in;
   prefix-in = prefix-step-in (r .prefix) (keyStep (r .keys) x .key) (h .prefix-in);
 }
-hear-in Edt r x l h =
-    framed Edt r _ _ h (frame-edt (r .frame) x (h .frame-in)) (found-shift edt edt-shift (r .shift) (frameStep (samplesOf Edt) (r .frame) x .found) (h .shift-low, h .shift-in))
+hear-in Edt r x l h = framed Edt tt edt edt-shift r x h
 
 pub inhibited-in : (mode : Mode) (r : Reader) → ReaderIn mode r → ReaderIn mode (inhibited r)
 unfolding inhibited

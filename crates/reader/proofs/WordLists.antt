@@ -18,4 +18,5 @@ one-word Nothing = omega arith
 pub words-append : (es fs : List Event) → wordsOf (es ++ fs) ≡ wordsOf es ++ wordsOf fs
 unfolding wordsOf
 words-append [] fs = refl
-words-append (e ∷ es) fs = ap (λ (l : List ℕ). wordOf e ++ l) (words-append es fs) ∙ sym (append-assoc (wordOf e) (wordsOf es) (wordsOf fs))
+words-append (e ∷ es) fs =
+    ap (λ (l : List ℕ). wordOf e ++ l) (words-append es fs) ∙ sym (append-assoc (wordOf e) (wordsOf es) (wordsOf fs))

@@ -32,6 +32,19 @@ use Rattle.keys.specs.Keys.{ready, keyStep}
 abbrev pub reader : Frame → Keys → ℕ → ℕ → Reader
 reader f k shift prefix = record { frame = f; keys = k; shift = shift; prefix = prefix }
 
+-- A reader with another frame, with other keys, another shift, another prefix.
+abbrev pub withFrame : Reader → Frame → Reader
+withFrame r f = reader f (r .keys) (r .shift) (r .prefix)
+
+abbrev pub withKeys : Reader → Keys → Reader
+withKeys r k = reader (r .frame) k (r .shift) (r .prefix)
+
+abbrev pub withShift : Reader → ℕ → Reader
+withShift r shift = reader (r .frame) (r .keys) shift (r .prefix)
+
+abbrev pub withPrefix : Reader → ℕ → Reader
+withPrefix r prefix = reader (r .frame) (r .keys) (r .shift) prefix
+
 -- A fresh reader is in letters.
 abbrev pub fresh : Reader
 fresh = reader hunting ready letters 0
@@ -66,20 +79,20 @@ unfoldable pub prefixAfter : ℕ → ℕ → ℕ
 prefixAfter prefix key = cond (eqb key 0) prefix (cond (isMark key) (withMark prefix key) 0)
 
 -- One ms of reading Baudot or EDT: the frame and the shift.
-abbrev pub withFrame : Alphabet → Reader → FrameRead → Reading
-withFrame a r s =
-    ends (reader (s .frame) (r .keys) (foundShift a (r .shift) (s .found)) (r .prefix)) (foundEvent a (r .shift) (s .found))
+abbrev pub afterFrame : Alphabet → Reader → FrameRead → Reading
+afterFrame a r s =
+    ends (withShift (withFrame r (s .frame)) (foundShift a (r .shift) (s .found))) (foundEvent a (r .shift) (s .found))
 
 abbrev pub hearFrame : Mode → Reader → ℕ → Reading
-hearFrame mode r heard = withFrame (alphabetOf mode) r (frameStep (samplesOf mode) (r .frame) heard)
+hearFrame mode r heard = afterFrame (alphabetOf mode) r (frameStep (samplesOf mode) (r .frame) heard)
 
 -- One ms of reading DTMF: the keys and the prefix.
-abbrev pub withKey : Reader → KeyRead → Reading
-withKey r s =
-    ends (reader (r .frame) (s .keys) (r .shift) (prefixAfter (r .prefix) (s .key))) (keyEvent (r .prefix) (s .key))
+abbrev pub afterKey : Reader → KeyRead → Reading
+afterKey r s =
+    ends (withPrefix (withKeys r (s .keys)) (prefixAfter (r .prefix) (s .key))) (keyEvent (r .prefix) (s .key))
 
 abbrev pub hearKey : Reader → ℕ → Reading
-hearKey r heard = withKey r (keyStep (r .keys) heard)
+hearKey r heard = afterKey r (keyStep (r .keys) heard)
 
 -- One ms of reading.
 unfoldable pub hear : Mode → Reader → ℕ → Reading
@@ -91,4 +104,4 @@ hear Edt r heard = hearFrame Edt r heard
 -- An inhibited ms drops a frame, ends the wait after a fault, so that the reader hunts, and is quiet to DTMF. Shift and
 -- prefix stay.
 unfoldable pub inhibited : Reader → Reader
-inhibited r = reader hunting (keyStep (r .keys) quiet .keys) (r .shift) (r .prefix)
+inhibited r = withKeys (withFrame r hunting) (keyStep (r .keys) quiet .keys)

@@ -12,7 +12,8 @@ ghost use Rattle.alphabet.specs.Modes.{alphabetOf, frameCodes};
 ghost use Rattle.baudot.specs.Reading.{shiftBy};
 ghost use Rattle.frames.specs.code.Bounds.{FrameOf, FoundIn};
 ghost use Rattle.reader.specs.code.Outcomes.{outcome};
-ghost use Rattle.reader.specs.Reader.{fresh, eventOf, foundEvent, foundShift, keyEvent, prefixAfter, hearFrame, hearKey, hear, inhibited};
+ghost use Rattle.reader.specs.Reader.{eventOf, foundEvent, foundShift, keyEvent, prefixAfter};
+ghost use Rattle.reader.specs.Reader.{fresh, hearFrame, hearKey, hear, inhibited};
 ghost use Rattle.keys.specs.code.Bounds.{KeysIn};
 ghost use Rattle.reader.specs.code.Bounds.{ReaderIn};
 ghost use Rattle.reader.specs.Range.{readerIn};
@@ -152,13 +153,11 @@ fn hear_frame(mode: Mode, r: Reader, heard: u8) -> Reading
     let o = found_outcome(mode, r.shift, found);
     let event = o.event;
     let frame = f.frame;
-    let keys = r.keys;
     Reading {
         reader: Reader {
             frame,
-            keys,
             shift: o.next,
-            prefix: r.prefix,
+            ..r
         },
         event,
     }
@@ -174,14 +173,12 @@ fn hear_key(r: Reader, heard: u8) -> Reading
     let k = keys::key_step(before, heard);
     let o = key_outcome(r.prefix, k.key);
     let event = o.event;
-    let frame = r.frame;
     let keys = k.keys;
     Reading {
         reader: Reader {
-            frame,
             keys,
-            shift: r.shift,
             prefix: o.next,
+            ..r
         },
         event,
     }
@@ -212,8 +209,7 @@ pub fn inhibited(r: Reader) -> Reader
             digits: 0,
         },
         keys,
-        shift: r.shift,
-        prefix: r.prefix,
+        ..r
     }
 }
 

@@ -21,12 +21,14 @@ use Rattle.reader_runs.specs.code.Skipping.{Skips}
 
 module _ (mode : Mode) (r : Reader) (heard : List ℕ) (i : ℕ) where
   -- a ms, and then the others
-  pub reader-next : i < length heard → readerAfter mode r (drop i heard) ≡ readerAfter mode (hear mode r (getD heard i 0) .reader) (drop (i + 1) heard)
+  pub reader-next : i < length heard
+      → readerAfter mode r (drop i heard) ≡ readerAfter mode (hear mode r (getD heard i 0) .reader) (drop (i + 1) heard)
   unfolding stateAfter
   reader-next h = rw (add-one, drop-cons heard i 0 h) refl
 
   pub words-next : i < length heard
-      → words mode r (drop i heard) ≡ wordOf (hear mode r (getD heard i 0) .event) ++ words mode (hear mode r (getD heard i 0) .reader) (drop (i + 1) heard)
+      → words mode r (drop i heard)
+      ≡ wordOf (hear mode r (getD heard i 0) .event) ++ words mode (hear mode r (getD heard i 0) .reader) (drop (i + 1) heard)
   unfolding outputs wordsOf
   words-next h = rw (add-one, drop-cons heard i 0 h) refl
 
@@ -39,7 +41,8 @@ module _ (mode : Mode) (r : Reader) (heard : List ℕ) (i : ℕ) where
   words-end h = rw (drop-of-length-le heard h) refl
 
 -- From the reader r₀ and the place i₀ on, words go to the slice out₀ from n₀ on; at the place i this is left.
-pub record Left (mode : Mode) (heard out₀ : List ℕ) (r₀ : Reader) (i₀ n₀ : ℕ) (out : List ℕ) (r : Reader) (i n : ℕ) : Type 0 where
+pub record Left (mode : Mode) (heard out₀ : List ℕ) (r₀ : Reader) (i₀ n₀ : ℕ) (out : List ℕ) (r : Reader)
+    (i n : ℕ) : Type 0 where
   pub size : length out ≡ length out₀
   pub within : i ≤ length heard
   pub room : n + length heard ≤ length out + i
@@ -49,8 +52,17 @@ pub record Left (mode : Mode) (heard out₀ : List ℕ) (r₀ : Reader) (i₀ n�
   pub slice : sets out n (words mode r (drop i heard)) ≡ sets out₀ n₀ (words mode r₀ (drop i₀ heard))
 
 module _ (mode : Mode) (heard out₀ : List ℕ) (r₀ : Reader) (i₀ n₀ : ℕ) where
-  pub left-start : ReaderIn mode r₀ → i₀ ≤ length heard → n₀ + length heard ≤ length out₀ + i₀ → Left mode heard out₀ r₀ i₀ n₀ out₀ r₀ i₀ n₀
-  left-start q w f = record { size = refl; within = w; room = f; in-range = q; reader = refl; place = refl; slice = refl }
+  pub left-start : ReaderIn mode r₀ → i₀ ≤ length heard → n₀ + length heard ≤ length out₀ + i₀
+      → Left mode heard out₀ r₀ i₀ n₀ out₀ r₀ i₀ n₀
+  left-start q w f = record {
+    size = refl;
+    within = w;
+    room = f;
+    in-range = q;
+    reader = refl;
+    place = refl;
+    slice = refl;
+  }
 
   module _ (out : List ℕ) (r : Reader) (i n : ℕ) (l : Left mode heard out₀ r₀ i₀ n₀ out r i n) where
     -- ms that are skipped
@@ -86,7 +98,10 @@ module _ (mode : Mode) (heard out₀ : List ℕ) (r₀ : Reader) (i₀ n₀ : �
           within = omega arith;
           room = omega arith;
           in-range = j;
-          reader = ap (λ (p : Reading). readerAfter mode (p .reader) (drop (i + 1) heard)) e ∙ sym (reader-next mode r heard i h) ∙ l .reader;
+          reader =
+              ap (λ (p : Reading). readerAfter mode (p .reader) (drop (i + 1) heard)) e
+              ∙ sym (reader-next mode r heard i h)
+              ∙ l .reader;
           place = rw (en, add-assoc, ← length-append w ws, x) (l .place);
           slice = rw (eo, en, ← sets-append out n w ws, x) (l .slice);
         }

@@ -1,9 +1,2 @@
+pub mod Skipping
 pub mod Fold
-pub mod Searching
-pub mod Alikes
-pub mod Numbered
-pub mod Passing
-pub mod Framing
-pub mod Rows
-pub mod Keying
-pub mod Holding

@@ -1,4 +1,4 @@
--- `baudot_sample` meets its contract: the rest of the ms in its element tells whether it is sampled, the element which sample.
+-- `baudot_sample` meets its contract: the rest of the ms in its element tells whether it is sampled, the element which.
 use mathlib.Core.Path.{_∙_, sym, ap}
 use Prim.Native.Nat.{ℕ}
 use native.Mathlib.Omega.{arith}
@@ -23,25 +23,33 @@ returns-2 : tie.Need-returns-2
 unfolding baudotKinds
 returns-2 c =
     let b = c .before in
-    sym (baudot-half (b .before .args .element) (b .before .pre) (b .before .args .place) (b .if1 .left) ∙ ap (λ (j : ℕ). getD baudotKinds j None) (c .if2 .taken))
+    sym
+    (baudot-half (b .before .args .element) (b .before .pre) (b .before .args .place) (b .if1 .left)
+    ∙ ap (λ (j : ℕ). getD baudotKinds j None) (c .if2 .taken))
 
 returns-3 : tie.Need-returns-3
 returns-3 c =
     let b = c .before .before in
-    sym (baudot-half (b .before .args .element) (b .before .pre) (b .before .args .place) (b .if1 .left) ∙ kind-digit _ (c .before .if2 .left) (c .if3 .taken))
+    sym
+    (baudot-half (b .before .args .element) (b .before .pre) (b .before .args .place) (b .if1 .left)
+    ∙ kind-digit _ (c .before .if2 .left) (c .if3 .taken))
 
 returns-4 : tie.Need-returns-4
 unfolding baudotKinds
 returns-4 c =
     let b = c .before .before .before in
-    sym (baudot-half (b .before .args .element) (b .before .pre) (b .before .args .place) (b .if1 .left) ∙ ap (λ (j : ℕ). getD baudotKinds j None) (c .if4 .taken))
+    sym
+    (baudot-half (b .before .args .element) (b .before .pre) (b .before .args .place) (b .if1 .left)
+    ∙ ap (λ (j : ℕ). getD baudotKinds j None) (c .if4 .taken))
 
 returns-5 : tie.Need-returns-5
 returns-5 c =
     let b = c .before .before .before in
     let l = c .before .if3 .left in
     let n = c .if4 .left in
-    sym (baudot-half (b .before .args .element) (b .before .pre) (b .before .args .place) (b .if1 .left) ∙ kind-none _ (omega arith))
+    sym
+    (baudot-half (b .before .args .element) (b .before .pre) (b .before .args .place) (b .if1 .left)
+    ∙ kind-none _ (omega arith))
 
 pub baudot-sample-spec : {M : Type 1} → statement M
 baudot-sample-spec = tie.close (tie.spec rem-if1 returns div-j returns-2 returns-3 returns-4 returns-5)

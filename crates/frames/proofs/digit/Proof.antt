@@ -30,7 +30,9 @@ returns-2 c = simp (c .next .ensures, c .before .match .keys2)
 
 returns-3 : tie.Need-returns-3
 unfolding sampled
-returns-3 c = simp (c .next2 .ensures, add-zero, ne-eqb _ _ (c .before .match .rest .1), ne-eqb _ _ (c .before .match .rest .0 .1))
+returns-3 c =
+    simp
+    (c .next2 .ensures, add-zero, ne-eqb _ _ (c .before .match .rest .1), ne-eqb _ _ (c .before .match .rest .0 .1))
 
 pub digit-spec : {M : Type 1} → statement M
 digit-spec =

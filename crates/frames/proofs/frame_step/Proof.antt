@@ -54,7 +54,13 @@ sampled-requires c κs =
 
 returns-5 : tie.Need-returns-5
 unfolding frameStep
-returns-5 c = simp (c .sampled .ensures, c .before .sample-on .ensures, ne-eqb _ _ (c .before .before .before .before .before .if1 .left), ne-eqb _ _ (c .before .before .before .if3 .left))
+returns-5 c =
+    simp (
+      c .sampled .ensures,
+      c .before .sample-on .ensures,
+      ne-eqb _ _ (c .before .before .before .before .before .if1 .left),
+      ne-eqb _ _ (c .before .before .before .if3 .left),
+    )
 
 pub frame-step-spec : {M : Type 1} → statement M
 frame-step-spec =

@@ -20,7 +20,9 @@ at-requires c κs = search needs
 returns : tie.Need-returns
 returns c =
     let s = c .before .before in
-    c .at .ensures ∙ ap (λ (p : ℕ). gives (record { place = p; digits = s .args .digits }) Nothing) (place-on (s .args .f .place) (s .pre .at-least))
+    c .at .ensures
+    ∙ ap (λ (p : ℕ). gives (record { place = p; digits = s .args .digits }) Nothing)
+    (place-on (s .args .f .place) (s .pre .at-least))
 
 pub next-spec : {M : Type 1} → statement M
 next-spec = tie.close (tie.spec add-at at-requires returns)

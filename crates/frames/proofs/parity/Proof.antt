@@ -30,7 +30,13 @@ returns-2 c = simp (c .goes-on .ensures, c .before .before .parity .ensures, c .
 
 returns-3 : tie.Need-returns-3
 unfolding sampled
-returns-3 c = simp (c .goes-on2 .ensures, c .before .before .parity .ensures, ne-eqb _ _ (c .before .match .rest .1), ne-eqb _ _ (c .before .match .rest .0 .1))
+returns-3 c =
+    simp (
+      c .goes-on2 .ensures,
+      c .before .before .parity .ensures,
+      ne-eqb _ _ (c .before .match .rest .1),
+      ne-eqb _ _ (c .before .match .rest .0 .1),
+    )
 
 pub parity-spec : {M : Type 1} → statement M
 parity-spec =

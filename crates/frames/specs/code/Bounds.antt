@@ -1,8 +1,9 @@
 -- The bounds that the functions of this crate ask for.
 use Prim.Native.Nat.{ℕ, _+_, _≤_, _<_}
-use mathlib.Core.Bool.{Bool, true}
+use mathlib.Core.Bool.{Bool, true, false}
 use lib.Dec.{leb}
 use Rattle.alphabet.specs.declared.Mode.{Mode}
+use Rattle.alphabet.specs.declared.Mode.the-variants.{Baudot45, Baudot50, Dtmf, Edt}
 use Rattle.alphabet.specs.Modes.{frameCodes}
 use Rattle.frames.specs.declared.Sample.{Sample}
 use Rattle.frames.specs.declared.Sample.the-variants.{None, Start, Digit, Parity, Stop, Last}
@@ -19,6 +20,13 @@ pub record FrameIn (last n : ℕ) (f : Frame) : Type 0 where
 
 abbrev pub FrameOf : Mode → Frame → Type 0
 FrameOf mode f = FrameIn (lastMs (samplesOf mode)) (frameCodes mode) f
+
+-- a mode that has frames
+abbrev pub Framed : Mode → Type 0
+Framed Baudot45 = Unit {0}
+Framed Baudot50 = Unit {0}
+Framed Dtmf = ⊥
+Framed Edt = Unit {0}
 
 -- in a frame, with a place to come
 pub record InFrame (f : Frame) : Type 0 where
@@ -39,3 +47,9 @@ abbrev pub FoundIn : ℕ → Found → Type 0
 FoundIn n Nothing = Unit {0}
 FoundIn n Fault = Unit {0}
 FoundIn n (Code k) = k .0 < n
+
+-- something was found
+abbrev pub isFound : Found → Bool
+isFound Nothing = false
+isFound Fault = true
+isFound (Code k) = true

@@ -34,11 +34,24 @@ needs-requires-3 c κs = search needs
 
 returns-3 : tie.Need-returns-3
 unfolding keyStep
-returns-3 c = simp (c .needs3 .ensures, sym (c .before .before .ms-after .ensures), c .before .before .before .before .if1 .left, ne-eqb _ _ (c .before .before .before .if2 .left), c .before .if3 .taken)
+returns-3 c =
+    simp (
+      c .needs3 .ensures,
+      sym (c .before .before .ms-after .ensures),
+      c .before .before .before .before .if1 .left,
+      ne-eqb _ _ (c .before .before .before .if2 .left),
+      c .before .if3 .taken,
+    )
 
 returns-4 : tie.Need-returns-4
 unfolding keyStep
-returns-4 c = simp (sym (c .before .ms-after .ensures), c .before .before .before .if1 .left, ne-eqb _ _ (c .before .before .if2 .left), ne-eqb _ _ (c .if3 .left))
+returns-4 c =
+    simp (
+      sym (c .before .ms-after .ensures),
+      c .before .before .before .if1 .left,
+      ne-eqb _ _ (c .before .before .if2 .left),
+      ne-eqb _ _ (c .if3 .left),
+    )
 
 pub key-step-spec : {M : Type 1} → statement M
 key-step-spec =

@@ -1,5 +1,7 @@
 -- The bounds that the functions of this crate ask for.
-use Prim.Native.Nat.{_≤_, _<_}
+use Prim.Native.Nat.{ℕ, _≤_, _<_}
+use mathlib.Core.Bool.{Bool, not}
+use lib.Dec.{eqb}
 use Rattle.alphabet.specs.declared.Mode.the-variants.{Dtmf}
 use Rattle.alphabet.specs.Modes.{highestLevel}
 use Rattle.keys.specs.declared.Keys.{Keys}
@@ -10,3 +12,7 @@ pub record KeysIn (k : Keys) : Type 0 where
   pub key-in : k .key ≤ highestLevel Dtmf
   pub ms-in : k .ms < keyMs
   pub needed-in : k .needed ≤ quietMs
+
+-- a key counts
+abbrev pub isKey : ℕ → Bool
+isKey k = not (eqb k 0)

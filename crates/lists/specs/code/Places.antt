@@ -1,6 +1,8 @@
 -- Places of a list.
 use Prim.Native.Nat.{ℕ, _+_, _≤_, _<_}
 use mathlib.Core.Path.{_≡_}
+use mathlib.Core.List.{List}
+use lib.ListN.{length, getD}
 
 -- So many places on, at most up to the end.
 pub record UpTo (i most len to : ℕ) : Type 0 where
@@ -9,3 +11,25 @@ pub record UpTo (i most len to : ℕ) : Type 0 where
   pub few : to ≤ i + most
   pub full : to < len → to ≡ i + most
   pub on : 1 ≤ most → i < len → i < to
+
+-- All are alike.
+pub record Alike (xs : List ℕ) : Type 0 where
+  pub same : (j k : ℕ) → j < length xs → k < length xs → getD xs j 0 ≡ getD xs k 0
+
+-- Up to a place, a number does not stand; up to a place, no other does.
+pub record Until (xs : List ℕ) (from end x to : ℕ) : Type 0 where
+  pub low : from ≤ to
+  pub high : to ≤ end
+  pub others : (k : ℕ) → from ≤ k → k < to → getD xs k 0 ≡ x → ⊥
+
+pub record Through (xs : List ℕ) (from end x to : ℕ) : Type 0 where
+  pub low : from ≤ to
+  pub high : to ≤ end
+  pub same : (k : ℕ) → from ≤ k → k < to → getD xs k 0 ≡ x
+
+-- From a place on, no other number stands; before it, one does.
+pub record Back (xs : List ℕ) (from end x to : ℕ) : Type 0 where
+  pub low : from ≤ to
+  pub high : to ≤ end
+  pub same : (k : ℕ) → to ≤ k → k < end → getD xs k 0 ≡ x
+  pub other : (k : ℕ) → from ≤ k → k + 1 ≡ to → getD xs k 0 ≡ x → ⊥

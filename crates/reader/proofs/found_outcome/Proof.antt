@@ -21,7 +21,9 @@ alphabet-requires : tie.Need-alphabet-requires
 alphabet-requires c κs = search needs
 
 reads-requires : tie.Need-reads-requires
-reads-requires c κs = found-code (c .before .before .before .before .args .mode) _ _ _ (c .before .before .before .before .pre) (c .before .before .found .given .1) (c .alphabet .ensures)
+reads-requires c κs =
+    found-code (c .before .before .before .before .args .mode) _ _ _ (c .before .before .before .before .pre)
+    (c .before .before .found .given .1) (c .alphabet .ensures)
 
 shift-by-requires : tie.Need-shift-by-requires
 shift-by-requires c κs = search needs
@@ -36,7 +38,14 @@ returns-2 : tie.Need-returns-2
 returns-2 c = simp (c .enum-told2 .given .1)
 
 returns-3 : tie.Need-returns-3
-returns-3 c = simp (c .event-of .ensures, c .before .shift-by .ensures, c .before .before .reads .ensures, c .before .before .before .alphabet .ensures, c .before .before .before .before .before .found .given .1)
+returns-3 c =
+    simp (
+      c .event-of .ensures,
+      c .before .shift-by .ensures,
+      c .before .before .reads .ensures,
+      c .before .before .before .alphabet .ensures,
+      c .before .before .before .before .before .found .given .1,
+    )
 
 pub found-outcome-spec : {M : Type 1} → statement M
 found-outcome-spec =

@@ -9,10 +9,13 @@ use Rattle.frames.proofs.frame_step.Reads as frame-step-reads
 use Rattle.reader.proofs.found_outcome.Reads as found-outcome-reads
 
 frame-step-requires : tie.Need-frame-step-requires
-frame-step-requires c κs = (place-255 (c .before .args .mode) _ (c .before .pre), digits-128 (c .before .args .mode) _ (c .before .pre))
+frame-step-requires c κs =
+    (place-255 (c .before .args .mode) _ (c .before .pre), digits-128 (c .before .args .mode) _ (c .before .pre))
 
 found-outcome-requires : tie.Need-found-outcome-requires
-found-outcome-requires c κs = subst (FoundIn _) (sym (ap (λ (r : FrameRead). r .found) (c .frame-step .ensures))) (found-in _ _ _ _ (c .before .before .pre .digits-in))
+found-outcome-requires c κs =
+    subst (FoundIn _) (sym (ap (λ (r : FrameRead). r .found) (c .frame-step .ensures)))
+    (found-in _ _ _ _ (c .before .before .pre .digits-in))
 
 returns : tie.Need-returns
 returns c = simp (c .before .before .found-outcome .ensures, c .before .before .before .frame-step .ensures)

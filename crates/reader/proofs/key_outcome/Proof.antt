@@ -1,6 +1,7 @@
 -- `key_outcome` meets its contract: no key, a digit, a mark, a key from A to D.
 use Rattle.reader.specs.Reader.{keyEvent, prefixAfter}
-use Rattle.reader.proofs.Outcomes.{dtmf-not-baudot, digit-outcome, mark-outcome, other-outcome}
+use Rattle.alphabet.specs.declared.Alphabet.the-variants.{Dtmf}
+use Rattle.reader.proofs.Outcomes.{is-baudot, digit-outcome, mark-outcome, other-outcome}
 use borrow.Author.Needs.{needs}
 use Rattle.reader.proofs.key_outcome.Statement.{statement}
 use Rattle.reader.proofs.key_outcome.Tie as tie
@@ -17,13 +18,15 @@ code-requires : tie.Need-code-requires
 code-requires c κs = search needs
 
 reads-requires : tie.Need-reads-requires
-reads-requires c κs = λ e. absurd (dtmf-not-baudot e)
+reads-requires c κs = λ e. absurd (is-baudot Dtmf e)
 
 event-of-requires : tie.Need-event-of-requires
 event-of-requires c κs = search needs
 
 returns-2 : tie.Need-returns-2
-returns-2 c = digit-outcome _ _ _ _ _ (c .before .before .before .before .if1 .left) (c .before .before .before .if2 .taken) (c .before .before .code .ensures) (c .before .reads .ensures) (c .event-of .ensures)
+returns-2 c =
+    digit-outcome _ _ _ _ _ (c .before .before .before .before .if1 .left) (c .before .before .before .if2 .taken)
+    (c .before .before .code .ensures) (c .before .reads .ensures) (c .event-of .ensures)
 
 with-mark-requires : tie.Need-with-mark-requires
 with-mark-requires c κs = search needs

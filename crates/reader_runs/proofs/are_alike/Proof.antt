@@ -3,14 +3,17 @@ use mathlib.Core.Path.{_≡_, _∙_, sym, ap}
 use Prim.Native.Nat.{ℕ}
 use native.Mathlib.Omega.{arith}
 use Rattle.lists.specs.Lists.{allAtMost}
-use Rattle.reader_runs.proofs.Alikes.{alike-quiet, alike-at}
+use Rattle.lists.proofs.Alikes.{alike-zeros, alike-at}
 use borrow.Author.Needs.{needs}
 use Rattle.reader_runs.proofs.are_alike.Statement.{statement}
 use Rattle.reader_runs.proofs.are_alike.Tie as tie
 use Rattle.lists.proofs.checks.all_at_least.Reads as all-at-least-reads
 
 returns : tie.Need-returns
-returns c = λ e. alike-quiet _ (ap (λ (m : ℕ). allAtMost m (c .before .before .args .heard .now)) (sym (c .if1 .taken)) ∙ c .before .before .pre)
+returns c =
+    λ e.
+    alike-zeros _
+    (ap (λ (m : ℕ). allAtMost m (c .before .before .args .heard .now)) (sym (c .if1 .taken)) ∙ c .before .before .pre)
 
 enum-told : tie.Need-enum-told
 enum-told c = search needs

@@ -18,7 +18,8 @@ use Rattle.reader_runs.proofs.hear_all.Tie as tie
 use Rattle.reader_runs.proofs.are_alike.Reads as are-alike-reads
 
 abbrev Inv-loop : tie.InvT-loop
-Inv-loop mode heard bound words₀ at alike reader₀ i₀ n₀ words reader i n = Left mode heard words₀ reader₀ i₀ n₀ words reader i n
+Inv-loop mode heard bound words₀ at alike reader₀ i₀ n₀ words reader i n =
+    Left mode heard words₀ reader₀ i₀ n₀ words reader i n
 
 abbrev μ-loop : tie.MeasureT-loop
 μ-loop mode heard bound words₀ at alike reader₀ i₀ n₀ words reader i n = length heard + 1 - i
@@ -33,10 +34,18 @@ levels : (c : tie.Start Inv-loop μ-loop) → allAtMost 16 (c .args .heard .now)
 levels c = at-most-more (c .args .bound) 16 (c .args .heard .now) (c .pre .1 .1 .0) (c .pre .1 .0)
 
 skip-requires : tie.Need-skip-requires Inv-loop μ-loop
-skip-requires c κs = let l = c .loop .inv in (l .in-range, (c .before .are-alike .ensures, (levels (c .before .before .before .before), l .within)))
+skip-requires c κs =
+    let l = c .loop .inv in
+    (l .in-range, (c .before .are-alike .ensures, (levels (c .before .before .before .before), l .within)))
+
+-- the start, from the ms that are skipped
+abbrev start : tie.After-skip Inv-loop μ-loop → tie.Start Inv-loop μ-loop
+start c = c .before .before .before .before .before
 
 -- after the ms that are skipped
-skipped : (c : tie.After-skip Inv-loop μ-loop) → Left (c .before .before .before .before .before .args .mode) (c .before .before .before .before .before .args .heard .now) (c .before .before .before .before .before .args .words .now) (c .before .before .before .before .before .args .r) 0 (c .before .before .before .before .before .args .at) (c .before .loop .words) (c .skip .result .reader) (c .skip .result .to) (c .before .loop .n)
+skipped : (c : tie.After-skip Inv-loop μ-loop)
+    → Left (start c .args .mode) (start c .args .heard .now) (start c .args .words .now) (start c .args .r) 0
+    (start c .args .at) (c .before .loop .words) (c .skip .result .reader) (c .skip .result .to) (c .before .loop .n)
 skipped c = left-skip _ _ _ _ _ _ _ _ _ _ (c .before .loop .inv) (c .skip .result) (c .skip .ensures)
 
 same-length : tie.Need-same-length Inv-loop μ-loop
@@ -45,21 +54,26 @@ same-length c = c .before .before .before .loop .inv .size
 returns : tie.Need-returns Inv-loop μ-loop
 returns c =
     let l = skipped (c .before .before) in
-    let e = c .if1 .taken in
-    (left-reader _ _ _ _ _ _ _ _ _ _ l (omega arith), (left-place _ _ _ _ _ _ _ _ _ _ l (omega arith), left-slice _ _ _ _ _ _ _ _ _ _ l (omega arith)))
+    let e = c .if1 .taken in (
+      left-reader _ _ _ _ _ _ _ _ _ _ l (omega arith),
+      (left-place _ _ _ _ _ _ _ _ _ _ l (omega arith), left-slice _ _ _ _ _ _ _ _ _ _ l (omega arith)),
+    )
 
 anew-requires : tie.Need-anew-requires Inv-loop μ-loop
 anew-requires c κs = search needs
 
 -- not all are
-more : (c : tie.Else1 Inv-loop μ-loop) → c .before .before .skip .result .to < length (c .before .before .before .before .before .before .before .args .heard .now)
+more : (c : tie.Else1 Inv-loop μ-loop)
+    → c .before .before .skip .result .to < length (start (c .before .before) .args .heard .now)
 more c = let w = skipped (c .before .before) .within in omega (arith, c .if1 .left)
 
 shared-slice-read-hear : tie.Need-shared-slice-read-hear Inv-loop μ-loop
 shared-slice-read-hear c = more (c .before .before)
 
 hear-requires : tie.Need-hear-requires Inv-loop μ-loop
-hear-requires c κs = subst (ReaderIn (c .before .before .before .before .before .before .before .before .before .args .mode)) (sym (c .before .anew .ensures)) (skipped (c .before .before .before .before) .in-range)
+hear-requires c κs =
+    subst (ReaderIn (c .before .before .before .before .before .before .before .before .before .args .mode))
+    (sym (c .before .anew .ensures)) (skipped (c .before .before .before .before) .in-range)
 
 put-word-requires : tie.Need-put-word-requires Inv-loop μ-loop
 put-word-requires c κs =
@@ -68,22 +82,33 @@ put-word-requires c κs =
     omega arith
 
 add-i : tie.Need-add-i Inv-loop μ-loop
-add-i c = let s = c .before .before .before .before .before .before .before .before .before .before .before .before .before .before .before in let h = more (c .before .before .before .before .before .before .before .before) in search (needs, h)
+add-i c =
+    let h = more (c .before .before .before .before .before .before .before .before) in
+    let s = start (c .before .before .before .before .before .before .before .before .before .before) in
+    search (needs, h)
 
 loop-less : tie.Need-loop-less Inv-loop μ-loop
-loop-less c = let h = more (c .before .before .before .before .before .before .before .before) in let k = c .before .before .before .before .before .before .before .before .before .before .skip .ensures .low in omega arith
+loop-less c =
+    let h = more (c .before .before .before .before .before .before .before .before) in
+    let k = c .before .before .before .before .before .before .before .before .before .before .skip .ensures .low in
+    omega arith
 
 loop-again : tie.Need-loop-again Inv-loop μ-loop
 loop-again c =
-    let s = c .before .before .before .before .before .before .before .before .before .before .before .before .before .before .before in
+    let k = c .before .before .before .before .before .before .before .before .before .before in
+    let s = start k in
     let h = more (c .before .before .before .before .before .before .before .before) in
-    let l = skipped (c .before .before .before .before .before .before .before .before .before .before) in
-    let to = c .before .before .before .before .before .before .before .before .before .before .skip .result .to in
+    let l = skipped k in
+    let to = k .skip .result .to in
     let x = at-most-at 16 (s .args .heard .now) (levels s) to h in
     let q = c .before .before .before .before .before .hear in
-    let e = q .ensures ∙ ap (λ (r : Reader). hear (s .args .mode) r (getD (s .args .heard .now) to 0)) (c .before .before .before .before .before .before .before .anew .ensures) in
-    let j = subst (λ (p : Reading). ReaderIn (s .args .mode) (p .reader)) (sym e) (hear-in (s .args .mode) _ _ x (l .in-range)) in
-    left-hear _ _ _ _ _ _ _ _ _ _ l h (q .result) e j _ (c .before .before .before .put-word .ensures .0) _ (c .before .before .before .put-word .ensures .1)
+    let e = q .ensures
+    ∙ ap (λ (r : Reader). hear (s .args .mode) r (getD (s .args .heard .now) to 0))
+    (c .before .before .before .before .before .before .before .anew .ensures) in
+    let j = subst (λ (p : Reading). ReaderIn (s .args .mode) (p .reader)) (sym e)
+    (hear-in (s .args .mode) _ _ x (l .in-range)) in
+    left-hear _ _ _ _ _ _ _ _ _ _ l h (q .result) e j _ (c .before .before .before .put-word .ensures .0) _
+    (c .before .before .before .put-word .ensures .1)
 
 pub hear-all-spec : {M : Type 1} → statement M
 hear-all-spec =

@@ -1,24 +1,20 @@
 -- `put_word` meets its contract: a character, a fault, nothing.
 use types.Run.{OneOf}
-use mathlib.Core.Path.{_≡_, refl, subst}
-use mathlib.Core.Bool.{not}
+use mathlib.Core.Path.{_≡_, refl}
 use mathlib.Core.Logic.{⊎-elim}
 use mathlib.Core.List.{List, [], _∷_}
 use Prim.Native.Nat.{ℕ}
 use native.Mathlib.Omega.{arith}
-use lib.Dec.{T, T-not, eqb, eqb-refl}
 use denote.Enum.Declared
 use Rattle.reader.specs.declared.Event.{Event}
 use Rattle.reader.specs.declared.Event.the-variants.{Character, Fault, Nothing}
 use Rattle.reader.specs.Words.{wordOf}
 use Rattle.reader.proofs.Event as declared
+use Rattle.reader.proofs.Tags.{never}
 use borrow.Author.Needs.{needs}
 use Rattle.reader.proofs.words.put_word.Statement.{statement}
 use Rattle.reader.proofs.words.put_word.Tie as tie
 use Rattle.reader.proofs.words.fault_word.Reads as fault-word-reads
-
-never : {A : Type 0} {m n : ℕ} → T (not (eqb m n)) → m ≡ n → A
-never {A} {m} {n} t e = absurd (T-not (eqb m n) t (subst (λ (k : ℕ). T (eqb m k)) e (eqb-refl m)))
 
 tag : Event → ℕ
 tag e = Declared.tagOf declared.the-type e

@@ -1,0 +1,63 @@
+-- `effect_of` meets its contract, by the mode.
+use Rattle.frames_runs.proofs.Numbered.{kind-45, kind-50, kind-edt, does-as}
+use borrow.Author.Needs.{needs}
+use Rattle.frames_runs.proofs.samples.effect_of.Statement.{statement}
+use Rattle.frames_runs.proofs.samples.effect_of.Tie as tie
+
+enum-told : tie.Need-enum-told
+enum-told c = search needs
+
+baudot-effect-requires : tie.Need-baudot-effect-requires
+baudot-effect-requires c κs = search needs
+
+enum-told-2 : tie.Need-enum-told-2
+enum-told-2 c = search needs
+
+baudot-effect-requires-2 : tie.Need-baudot-effect-requires-2
+baudot-effect-requires-2 c κs = search needs
+
+enum-told-3 : tie.Need-enum-told-3
+enum-told-3 c = search needs
+
+enum-told-4 : tie.Need-enum-told-4
+enum-told-4 c = search needs
+
+edt-effect-requires : tie.Need-edt-effect-requires
+edt-effect-requires c κs = search needs
+
+returns : tie.Need-returns
+returns c =
+    let s = c .before .before .before .args in
+    does-as _ _ (s .digits) (s .heard) (c .baudot-effect .result) (kind-45 _ _ (c .before .enum-told .given .1))
+    (c .baudot-effect .ensures)
+
+returns-2 : tie.Need-returns-2
+returns-2 c =
+    let s = c .before .before .before .args in
+    does-as _ _ (s .digits) (s .heard) (c .baudot-effect2 .result) (kind-50 _ _ (c .before .enum-told2 .given .1))
+    (c .baudot-effect2 .ensures)
+
+returns-3 : tie.Need-returns-3
+returns-3 c = search needs
+
+returns-4 : tie.Need-returns-4
+returns-4 c =
+    let s = c .before .before .before .args in
+    does-as _ _ (s .digits) (s .heard) (c .edt-effect .result)
+    (kind-edt _ _ (c .before .before .before .pre .0) (c .before .enum-told4 .given .1)) (c .edt-effect .ensures)
+
+pub effect-of-spec : {M : Type 1} → statement M
+effect-of-spec =
+    tie.close
+    (tie.spec
+    enum-told
+    baudot-effect-requires
+    enum-told-2
+    baudot-effect-requires-2
+    enum-told-3
+    enum-told-4
+    edt-effect-requires
+    returns
+    returns-2
+    returns-3
+    returns-4)
