@@ -13,7 +13,8 @@ use borrow.Author.Tests.{leb-true, le-leb}
 use Rattle.lists.specs.Lists.{allAtMost, allAtLeast}
 
 -- two runs of values, one behind the other
-pub sets-append : {A : Type 0} (l : List A) (i : ℕ) (xs ys : List A) → sets l i (xs ++ ys) ≡ sets (sets l i xs) (i + length xs) ys
+pub sets-append : {A : Type 0} (l : List A) (i : ℕ) (xs ys : List A)
+    → sets l i (xs ++ ys) ≡ sets (sets l i xs) (i + length xs) ys
 sets-append l i [] ys = rw add-zero
 sets-append l i (x ∷ xs) ys = sets-append (set l i x) (suc i) xs ys ∙ (simp (suc-add, add-suc))
 
@@ -25,6 +26,17 @@ sets-front l vs h = sets-eq vs l 0 (rw zero-add h) ∙ (rw zero-add)
 pub either : {A : Type 0} (P : A → Type 0) (b : Bool) (x y : A) → P x → P y → P (cond b x y)
 either P true x y p q = p
 either P false x y p q = q
+
+-- the same, with what the test says
+pub either-by : {A : Type 0} (P : A → Type 0) (b : Bool) {x y : A} → (b ≡ true → P x) → (b ≡ false → P y)
+    → P (cond b x y)
+either-by P true f g = f refl
+either-by P false f g = g refl
+
+-- a test is true or false
+pub by-test : {A : Type 0} (b : Bool) → (b ≡ true → A) → (b ≡ false → A) → A
+by-test true f g = f refl
+by-test false f g = g refl
 
 pub and-left : (a b : Bool) → (a && b) ≡ true → a ≡ true
 and-left true b e = refl
@@ -57,7 +69,8 @@ at-most-at m [] e i h = absurd (not-suc-le-zero h)
 at-most-at m (x ∷ xs) e zero h = at-most-head m x xs e
 at-most-at m (x ∷ xs) e (suc i) h = at-most-at m xs (at-most-tail m x xs e) i (le-of-suc-le-suc h)
 
-pub at-most-left : (m : ℕ) (xs : List ℕ) (i : ℕ) → i < length xs → allAtMost m (drop i xs) ≡ (leb (getD xs i 0) m && allAtMost m (drop (i + 1) xs))
+pub at-most-left : (m : ℕ) (xs : List ℕ) (i : ℕ) → i < length xs
+    → allAtMost m (drop i xs) ≡ (leb (getD xs i 0) m && allAtMost m (drop (i + 1) xs))
 unfolding allAtMost
 at-most-left m xs i h = rw (add-one, drop-cons xs i 0 h)
 
@@ -71,15 +84,18 @@ at-most-drop m [] (suc i) e = e
 at-most-drop m (x ∷ xs) (suc i) e = at-most-drop m xs i (at-most-tail m x xs e)
 
 -- of two lists, one behind the other
-pub at-most-append : (m : ℕ) (xs ys : List ℕ) → allAtMost m xs ≡ true → allAtMost m ys ≡ true → allAtMost m (xs ++ ys) ≡ true
+pub at-most-append : (m : ℕ) (xs ys : List ℕ) → allAtMost m xs ≡ true → allAtMost m ys ≡ true
+    → allAtMost m (xs ++ ys) ≡ true
 unfolding allAtMost
 at-most-append m [] ys p q = q
-at-most-append m (x ∷ xs) ys p q = rw (le-leb x m (at-most-head m x xs p)) (at-most-append m xs ys (at-most-tail m x xs p) q)
+at-most-append m (x ∷ xs) ys p q =
+    rw (le-leb x m (at-most-head m x xs p)) (at-most-append m xs ys (at-most-tail m x xs p) q)
 
 pub at-most-front : (m : ℕ) (xs ys : List ℕ) → allAtMost m (xs ++ ys) ≡ true → allAtMost m xs ≡ true
 unfolding allAtMost
 at-most-front m [] ys e = refl
-at-most-front m (x ∷ xs) ys e = rw (le-leb x m (at-most-head m x (xs ++ ys) e)) (at-most-front m xs ys (at-most-tail m x (xs ++ ys) e))
+at-most-front m (x ∷ xs) ys e =
+    rw (le-leb x m (at-most-head m x (xs ++ ys) e)) (at-most-front m xs ys (at-most-tail m x (xs ++ ys) e))
 
 pub at-most-behind : (m : ℕ) (xs ys : List ℕ) → allAtMost m (xs ++ ys) ≡ true → allAtMost m ys ≡ true
 at-most-behind m [] ys e = e
@@ -103,14 +119,17 @@ module _ (m : ℕ) (xs : List ℕ) (i largest : ℕ) (h : i < length xs) where
       and-implied (leb largest m) (leb x m) rest (λ e. let l = leb-true largest m e in le-leb x m (omega arith))
       ∙ ap (λ (b : Bool). leb largest m && b) (sym (at-most-left m xs i h))
 
-pub at-most-all : (m : ℕ) (xs : List ℕ) (i : ℕ) (ok : Bool) → length xs ≤ i → (ok && allAtMost m (drop i xs)) ≡ allAtMost m xs → ok ≡ allAtMost m xs
+pub at-most-all : (m : ℕ) (xs : List ℕ) (i : ℕ) (ok : Bool) → length xs ≤ i
+    → (ok && allAtMost m (drop i xs)) ≡ allAtMost m xs → ok ≡ allAtMost m xs
 at-most-all m xs i ok h e = sym (and-true ok) ∙ ap (λ (b : Bool). ok && b) (sym (at-most-end m xs i h)) ∙ e
 
 -- a larger bound
 pub at-most-more : (m n : ℕ) (xs : List ℕ) → m ≤ n → allAtMost m xs ≡ true → allAtMost n xs ≡ true
 unfolding allAtMost
 at-most-more m n [] h p = refl
-at-most-more m n (x ∷ xs) h p = let k = at-most-head m x xs p in rw (le-leb x n (omega arith)) (at-most-more m n xs h (at-most-tail m x xs p))
+at-most-more m n (x ∷ xs) h p =
+    let k = at-most-head m x xs p in
+    rw (le-leb x n (omega arith)) (at-most-more m n xs h (at-most-tail m x xs p))
 
 -- a list whose numbers are at least m, by its front, by a place, and from a place on
 pub at-least-head : (m x : ℕ) (xs : List ℕ) → allAtLeast m (x ∷ xs) ≡ true → m ≤ x
@@ -126,7 +145,8 @@ at-least-at m [] e i h = absurd (not-suc-le-zero h)
 at-least-at m (x ∷ xs) e zero h = at-least-head m x xs e
 at-least-at m (x ∷ xs) e (suc i) h = at-least-at m xs (at-least-tail m x xs e) i (le-of-suc-le-suc h)
 
-pub at-least-left : (m : ℕ) (xs : List ℕ) (i : ℕ) → i < length xs → allAtLeast m (drop i xs) ≡ (leb m (getD xs i 0) && allAtLeast m (drop (i + 1) xs))
+pub at-least-left : (m : ℕ) (xs : List ℕ) (i : ℕ) → i < length xs
+    → allAtLeast m (drop i xs) ≡ (leb m (getD xs i 0) && allAtLeast m (drop (i + 1) xs))
 unfolding allAtLeast
 at-least-left m xs i h = rw (add-one, drop-cons xs i 0 h)
 
@@ -152,5 +172,6 @@ module _ (m : ℕ) (xs : List ℕ) (i smallest : ℕ) (h : i < length xs) where
       and-implied (leb m smallest) (leb m y) others (λ e. let l = leb-true m smallest e in le-leb m y (omega arith))
       ∙ ap (λ (b : Bool). leb m smallest && b) (sym (at-least-left m xs i h))
 
-pub at-least-all : (m : ℕ) (xs : List ℕ) (i : ℕ) (ok : Bool) → length xs ≤ i → (ok && allAtLeast m (drop i xs)) ≡ allAtLeast m xs → ok ≡ allAtLeast m xs
+pub at-least-all : (m : ℕ) (xs : List ℕ) (i : ℕ) (ok : Bool) → length xs ≤ i
+    → (ok && allAtLeast m (drop i xs)) ≡ allAtLeast m xs → ok ≡ allAtLeast m xs
 at-least-all m xs i ok h e = sym (and-true ok) ∙ ap (λ (b : Bool). ok && b) (sym (at-least-end m xs i h)) ∙ e

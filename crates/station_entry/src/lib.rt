@@ -9,9 +9,6 @@ ghost use Rattle.station.specs.Range.{inRange};
 ghost use Rattle.alphabet.specs.Modes.{highestLevel};
 ghost use Rattle.station.specs.Entries.{ranOf, sentAfter, wordsAfter};
 
-// The most ms of one call.
-pub const LONGEST: usize = 4_096;
-
 // The highest level that is heard in a mode.
 fn highest_level(mode: Mode) -> u8
     ensures { λ r. ⌜ r ≡ highestLevel mode ⌝ }
@@ -65,7 +62,7 @@ pub fn run(c: Core, chars: &mut [u8; 256], heard: &[u8], sent: &mut [u8], words:
     if !in_range(c, chars) {
         return refused(c, 1);
     }
-    if LONGEST < heard.len() {
+    if lists::checks::MOST_MS < heard.len() {
         return refused(c, 5);
     }
     let highest = lists::checks::largest(heard);

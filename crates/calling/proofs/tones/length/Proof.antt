@@ -4,8 +4,8 @@ use mathlib.Core.Path.{_≡_, sym, ap}
 use Prim.Native.Nat.{ℕ, suc, _≤_, _<_}
 use native.Mathlib.Omega.{arith}
 use lib.Dec.{eqb}
+use Rattle.lists.proofs.Lists.{by-test}
 use Rattle.calling.specs.Tones.{lengths, lengthIn, lengthOf}
-use Rattle.calling.proofs.Choices.{by-test}
 use Rattle.calling.proofs.tones.length.Statement.{statement}
 use Rattle.calling.proofs.tones.length.Tie as tie
 
