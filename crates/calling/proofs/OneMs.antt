@@ -108,8 +108,8 @@ module _ (s : Calling) (h : ℕ) where
       simp (d .leaves, d .says)
 
   module _ (c : s .choice ≡ 0) where
-    pub step-tone : (l m k : ℕ) → (h ≡ none → ⊥) → l ≡ lengthOf h → m ≡ counted (s .tone) (s .ms) h l → k ≡ reached h m l
-        → stepped (calling h m 0 k) nothing ≡ whole
+    pub step-tone : (l m k : ℕ) → (h ≡ none → ⊥) → l ≡ lengthOf h → m ≡ counted (s .tone) (s .ms) h l
+        → k ≡ reached h m l → stepped (calling h m 0 k) nothing ≡ whole
     step-tone l m k t e f g =
         let d = does-tone s h c l m e f t in
         simp (g, d .leaves, d .says)

@@ -35,9 +35,10 @@ left-is s c = either-left s (c .tones) (answered s c) (eqb (answered s c) 0)
 says-is : (s : Calling) (c : Call) → says s c ≡ sentOf s (hears s c)
 unfolding sentAfter outputs
 says-is s c =
-    let n = length (c .tones) in
+    let ts = c .tones in
+    let n = length ts in
     by-test (eqb (answered s c) 0)
-    (λ e. simp e (take-at (sentOf s (c .tones)) (drop n (c .slice)) n (steps.outputs-length callingMs sentMs s (c .tones))))
+    (λ e. simp e (take-at (sentOf s ts) (drop n (c .slice)) n (steps.outputs-length callingMs sentMs s ts)))
     (λ e. simp e)
 
 -- Calls on the parts of a list equal one on the whole, refused calls among them: the state ..

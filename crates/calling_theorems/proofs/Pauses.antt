@@ -101,7 +101,8 @@ tone-sent s h hs t e =
     let later = waiting hs (callingMs s h) 0 (tone-none s h t) e in
     λ i. now i ∷ later i
 
--- A set in its pause: k ms of none in a row have passed, the timetable stands at its first place, and no choice is made.
+-- A set in its pause: k ms of none in a row have passed, the timetable stands at its first place, and no choice is
+-- made.
 record Pausing (s : Calling) (k : ℕ) : Type 0 where
   no-choice : s .choice ≡ 0
   none-is : noneMs s ≡ k
