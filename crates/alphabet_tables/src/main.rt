@@ -4,17 +4,11 @@ use alphabet::Char;
 use alphabet::LineCode;
 use alphabet::Reads;
 use alphabet::Sends;
-use libc::STDOUT_FILENO;
+use test_io::print;
+use test_io::print_byte;
+use test_io::print_five;
+use test_io::print_key;
 ghost use Prim.Native.Nat.{_≤_, _<_};
-
-fn print(s: &[u8]) {
-    io::write_all(STDOUT_FILENO, s);
-}
-
-fn print_byte(b: u8) {
-    let one = [b];
-    print(&one);
-}
 
 fn hex_digit(n: u8) -> u8
     requires { ⌜ n < 16 ⌝ }
@@ -27,39 +21,19 @@ fn print_hex(n: u8) {
     print_byte(hex_digit(n % 16));
 }
 
-fn print_five(n: u8) {
-    print_byte(48 + n / 16 % 2);
-    print_byte(48 + n / 8 % 2);
-    print_byte(48 + n / 4 % 2);
-    print_byte(48 + n / 2 % 2);
-    print_byte(48 + n % 2);
-}
-
 fn print_seven(n: u8) {
     print_byte(48 + n / 64 % 2);
     print_byte(48 + n / 32 % 2);
     print_five(n % 32);
 }
 
-// A key as printed: 10 is 0, 11 is *, 12 is #.
-fn print_key(k: u8) {
-    match k {
-        10 => print(b"0"),
-        11 => print(b"*"),
-        12 => print(b"#"),
-        _ => print_byte(48 + k % 10),
-    }
-}
-
-fn print_keys(code: LineCode) {
-    let mut j: u8 = 0;
-    while j < 4 {
-        let k = alphabet::dtmf::key(code, j);
-        if k != 0 {
-            print_key(k);
-        }
-        j += 1;
-    }
+fn print_code_keys(code: LineCode) {
+    test_io::print_keys(
+        alphabet::dtmf::key(code, 0),
+        alphabet::dtmf::key(code, 1),
+        alphabet::dtmf::key(code, 2),
+        alphabet::dtmf::key(code, 3),
+    );
 }
 
 fn print_reads(r: Reads) {
@@ -102,7 +76,7 @@ fn print_code(a: Alphabet, shift: u8, code: LineCode) {
             print_reads(alphabet::table::read_baudot(shift, LineCode(code.0 % 32)))
         }
         Alphabet::Dtmf => {
-            print_keys(code);
+            print_code_keys(code);
             print(b" reads ");
             print_reads(alphabet::table::read_dtmf(code))
         }

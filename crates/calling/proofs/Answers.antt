@@ -8,12 +8,13 @@ use borrow.Author.Tests.{ne-eqb, le-leb, lt-leb, leb-true}
 use lib.Dec.{leb}
 use lib.ListN.{length, drop}
 use lib.Seq.{sets}
+use Rattle.lists.specs.Lists.{mostMs}
 use Rattle.lists.proofs.Lists.{sets-front}
+use Rattle.lists.proofs.Steps.{outputs-length}
 use Rattle.calling.specs.declared.Calling.{Calling}
 use Rattle.calling.specs.Tones.{allTones}
-use Rattle.calling.specs.Set.{inRange, after, sentOf}
+use Rattle.calling.specs.Set.{inRange, callingMs, sentMs, after, sentOf}
 use Rattle.calling.specs.Entry.{answerTo, ran, ranOf, sentAfter}
-use Rattle.calling.proofs.Fold.{sent-length}
 
 -- the first no decides
 module _ (s : Calling) (ts : List ℕ) (room : ℕ) where
@@ -22,11 +23,11 @@ module _ (s : Calling) (ts : List ℕ) (room : ℕ) where
   answer-12 e = simp e
 
   module _ (e : inRange s ≡ true) where
-    pub answer-5 : 4096 < length ts → answerTo s ts room ≡ 5
+    pub answer-5 : mostMs < length ts → answerTo s ts room ≡ 5
     unfolding answerTo
     answer-5 h = simp (e, lt-leb _ _ h)
 
-    module _ (h : length ts ≤ 4096) where
+    module _ (h : length ts ≤ mostMs) where
       pub answer-11 : allTones ts ≡ false → answerTo s ts room ≡ 11
       unfolding answerTo
       answer-11 f = simp (e, le-leb _ _ h, f)
@@ -47,7 +48,7 @@ through false x k n e = absurd (n e)
 -- What a run has been given that succeeds.
 pub record Given (s : Calling) (ts : List ℕ) (room : ℕ) : Type 0 where
   pub range : inRange s ≡ true
-  pub short : length ts ≤ 4_096
+  pub short : length ts ≤ mostMs
   pub tones : allTones ts ≡ true
   pub fits : length ts ≤ room
 
@@ -55,7 +56,7 @@ pub succeeds : (s : Calling) (ts : List ℕ) (room : ℕ) → answerTo s ts room
 unfolding answerTo
 succeeds s ts room e =
     let a = through (inRange s) _ 12 (λ z. omega arith) e in
-    let b = through (leb (length ts) 4_096) _ 5 (λ z. omega arith) (a .1) in
+    let b = through (leb (length ts) mostMs) _ 5 (λ z. omega arith) (a .1) in
     let c = through (allTones ts) _ 11 (λ z. omega arith) (b .1) in
     let d = through (leb (length ts) room) _ 7 (λ z. omega arith) (c .1) in
     record { range = a .0; short = leb-true _ _ (b .0); tones = c .0; fits = leb-true _ _ (d .0) }
@@ -73,6 +74,6 @@ module _ (s : Calling) (ts slice : List ℕ) where
       → (ran t 0 ≡ ranOf s ts (length slice)) × (written ≡ sentAfter s ts slice)
   unfolding ranOf sentAfter
   accepted a h t written p q =
-      let n = sent-length s ts in
+      let n = outputs-length callingMs sentMs s ts in
       let w = q ∙ sets-front slice (sentOf s ts) (omega arith) ∙ ap (λ (k : ℕ). sentOf s ts ++ drop k slice) n in
       (simp (a, p), simp a w)

@@ -1,10 +1,3 @@
-pub mod Choices
 pub mod Places
 pub mod OneMs
-pub mod Fold
 pub mod Answers
-pub mod Range
-pub mod Cuts
-pub mod Periods
-pub mod Pauses
-pub mod Choosing

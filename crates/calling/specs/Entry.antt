@@ -5,6 +5,7 @@ use mathlib.Core.Bool.{cond}
 use mathlib.Core.List.{List, _++_}
 use lib.Dec.{eqb, leb}
 use lib.ListN.{length, drop}
+use Rattle.lists.specs.Lists.{mostMs}
 use Rattle.calling.specs.declared.Calling.{Calling}
 use Rattle.calling.specs.declared.Ran.{Ran}
 use Rattle.calling.specs.Tones.{allTones}
@@ -15,7 +16,7 @@ use Rattle.calling.specs.Set.{inRange, after, sentOf}
 unfoldable pub answerTo : Calling → List ℕ → ℕ → ℕ
 answerTo s tones room =
     cond (inRange s)
-    (cond (leb (length tones) 4_096)
+    (cond (leb (length tones) mostMs)
     (cond (allTones tones)
     (cond (leb (length tones) room) 0 7) 11) 5) 12
 

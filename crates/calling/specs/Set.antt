@@ -1,11 +1,12 @@
 -- Document 01, "The calling set (5.1)": one ms of a calling set, and any number of them.
 use Prim.Native.Nat.{ℕ}
 use mathlib.Core.Bool.{Bool, cond, _&&_}
-use mathlib.Core.List.{List, [], _∷_}
+use mathlib.Core.List.{List}
 use lib.Dec.{eqb, leb, ltb}
+use Rattle.lists.specs.Steps.{stateAfter, outputs}
 use Rattle.calling.specs.declared.Calling.{Calling}
 use Rattle.calling.specs.Timetable.{nothing, period, valueAt, placeAfter}
-use Rattle.calling.specs.Tones.{none, lengthOf}
+use Rattle.calling.specs.Tones.{none, lengthOf, longest, lastTone}
 use Rattle.calling.specs.Counting.{counted}
 
 -- A calling set's state (there: the chooser's): what was heard last and for how many ms in a row, the place in the
@@ -21,10 +22,11 @@ pause = 400
 unfoldable pub fresh : Calling
 fresh = calling none pause 0 0
 
--- State in range: the choice and the tone are 0 to 11, the ms in a row 1 to 1,700 (the longest that a tone must last), the
--- place one of the timetable's.
+-- Question 12, state in range: the choice and the tone are 0 to 11, the ms in a row 1 to 1,700 (the longest that a tone must
+-- last), the place one of the timetable's.
 unfoldable pub inRange : Calling → Bool
-inRange s = leb (s .choice) 11 && leb (s .tone) 11 && leb 1 (s .ms) && leb (s .ms) 1_700 && ltb (s .place) period
+inRange s =
+    leb (s .choice) lastTone && leb (s .tone) lastTone && leb 1 (s .ms) && leb (s .ms) longest && ltb (s .place) period
 
 -- No tone was heard for so long that the timetable runs.
 abbrev pub pauseOver : ℕ → ℕ → Bool
@@ -49,20 +51,18 @@ abbrev pub chosen : ℕ → ℕ → ℕ
 chosen heard ms = cond (eqb heard none) 0 (reached heard ms (lengthOf heard))
 
 -- One ms, by what is heard in it: what is sent, and the state after it. The choice is for good, and nothing is sent any more.
-unfoldable pub sentIn : Calling → ℕ → ℕ
-sentIn s heard = cond (eqb (s .choice) 0 && sends s heard) (valueAt (s .place)) nothing
+unfoldable pub sentMs : Calling → ℕ → ℕ
+sentMs s heard = cond (eqb (s .choice) 0 && sends s heard) (valueAt (s .place)) nothing
 
-unfoldable pub stateAfter : Calling → ℕ → Calling
-stateAfter s heard =
+unfoldable pub callingMs : Calling → ℕ → Calling
+callingMs s heard =
     cond (eqb (s .choice) 0)
     (calling heard (msAfter s heard) (cond (sends s heard) (placeAfter (s .place)) 0) (chosen heard (msAfter s heard)))
     s
 
 -- The ms of a list, one after the other: the state after them, and one sent ms for each.
-unfoldable pub after : Calling → List ℕ → Calling
-after s [] = s
-after s (h ∷ hs) = after (stateAfter s h) hs
+abbrev pub after : Calling → List ℕ → Calling
+after s heard = stateAfter callingMs s heard
 
-unfoldable pub sentOf : Calling → List ℕ → List ℕ
-sentOf s [] = []
-sentOf s (h ∷ hs) = sentIn s h ∷ sentOf (stateAfter s h) hs
+abbrev pub sentOf : Calling → List ℕ → List ℕ
+sentOf s heard = outputs callingMs sentMs s heard

@@ -37,6 +37,14 @@ lengthIn tone (l ∷ ls) =
 unfoldable pub lengthOf : ℕ → ℕ
 lengthOf tone = lengthIn tone lengths
 
+-- The longest of these: 1300 Hz.
+abbrev pub longest : ℕ
+longest = lengthOf 5
+
+-- The last of the tones: EDT.
+abbrev pub lastTone : ℕ
+lastTone = 11
+
 -- Question 11: every heard ms is 0 to 11.
 abbrev pub allTones : List ℕ → Bool
-allTones hs = allAtMost 11 hs
+allTones hs = allAtMost lastTone hs

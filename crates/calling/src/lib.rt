@@ -3,7 +3,7 @@ ghost use mathlib.Core.Path.{_≡_};
 ghost use Prim.Native.Nat.{_≤_};
 ghost use lib.ListN.{length};
 ghost use lib.Seq.{sets};
-ghost use Rattle.calling.specs.Set.{fresh, inRange, pauseOver, reached, sentIn, stateAfter, after, sentOf};
+ghost use Rattle.calling.specs.Set.{fresh, inRange, pauseOver, reached, callingMs, sentMs, after, sentOf};
 ghost use Rattle.calling.specs.Entry.{ranOf, sentAfter};
 
 pub mod counting;
@@ -12,12 +12,6 @@ pub mod tones;
 
 // The ms of none in a row after a tone that make the next ms the timetable's first.
 pub const PAUSE: u16 = 400;
-
-// The most ms of one call.
-pub const LONGEST: usize = 4_096;
-
-// The longest that a tone must last, in ms.
-pub const LONGEST_TONE: u16 = 1_700;
 
 // A calling set's state: the ms in a row of what was heard last, the place in the timetable, what was heard last, and the
 // choice, 0 until one is made.
@@ -76,7 +70,7 @@ fn reached(tone: u8, ms: u16, length: u16) -> u8
 
 // One ms.
 pub fn step(s: Calling, heard: u8) -> Stepped
-    ensures { λ r. ⌜ r ≡ record { state = stateAfter s heard; sent = sentIn s heard } ⌝ }
+    ensures { λ r. ⌜ r ≡ record { state = callingMs s heard; sent = sentMs s heard } ⌝ }
 {
     if s.choice != 0 {
         return Stepped {
@@ -103,23 +97,21 @@ pub fn step(s: Calling, heard: u8) -> Stepped
                 ms: counting::counted(s.tone, s.ms, tones::NONE, PAUSE),
                 place: 0,
                 tone: tones::NONE,
-                choice: 0,
+                ..s
             },
             sent: timetable::NOTHING,
         };
     }
     Stepped {
         state: Calling {
-            ms: s.ms,
             place: timetable::next(s.place),
-            tone: s.tone,
-            choice: 0,
+            ..s
         },
         sent: timetable::value(s.place),
     }
 }
 
-// Is the state in range?
+// Question 12: is the state in range?
 pub fn in_range(s: Calling) -> bool
     ensures { λ r. ⌜ r ≡ inRange s ⌝ }
 {
@@ -132,7 +124,7 @@ pub fn in_range(s: Calling) -> bool
     if s.ms < 1 {
         return false;
     }
-    if LONGEST_TONE < s.ms {
+    if tones::LONGEST < s.ms {
         return false;
     }
     s.place < timetable::PERIOD
@@ -166,7 +158,7 @@ pub fn run(s: Calling, tones: &[u8], sent: &mut [u8]) -> Ran
             answer: 12,
         };
     }
-    if LONGEST < tones.len() {
+    if lists::checks::MOST_MS < tones.len() {
         return Ran {
             state: s,
             answer: 5,

@@ -7,6 +7,9 @@ pub const NONE: u8 = 0;
 // The last of the tones.
 pub const LAST: u8 = 11;
 
+// The longest that a tone must last, in ms.
+pub const LONGEST: u16 = 1_700;
+
 // The ms that a tone must last in a row to be the choice. By halves, so that few tests decide.
 pub fn length(tone: u8) -> u16
     ensures { λ r. ⌜ r ≡ lengthOf tone ⌝ }
@@ -19,7 +22,7 @@ pub fn length(tone: u8) -> u16
     }
     if tone < 7 {
         if tone < 6 {
-            return 1_700;
+            return LONGEST;
         }
         return 700;
     }

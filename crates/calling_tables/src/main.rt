@@ -1,62 +1,17 @@
 // Prints what a calling set sends and chooses: the timetable, each tone around its length, tones that are interrupted, the
 // pause after a tone, and the refusals. The expected output is what the reference prints.
 use calling::Calling;
-use libc::STDOUT_FILENO;
+use test_io::Row;
+use test_io::print;
+use test_io::print_end;
+use test_io::print_number;
+use test_io::print_sent;
 ghost use mathlib.Core.Path.{_≡_};
 ghost use Prim.Native.Nat.{_≤_, _<_};
 ghost use lib.ListN.{length};
 
 // A slice for sent ms holds this before a call.
 const PATTERN: u8 = 9;
-
-// A value that was sent, and for how many ms in a row.
-struct Row {
-    value: u8,
-    ms: u64,
-}
-
-fn number(n: u64) {
-    io::write_all(STDOUT_FILENO, b" ");
-    io::print_decimal(STDOUT_FILENO, n);
-}
-
-fn end() {
-    io::write_all(STDOUT_FILENO, b"\n");
-}
-
-fn print_row(r: Row) {
-    if 0 < r.ms {
-        io::write_all(STDOUT_FILENO, b"sent");
-        number(r.value as u64);
-        number(r.ms);
-        end();
-    }
-}
-
-// One more ms; a row that another value ends is printed.
-fn with_ms(r: Row, value: u8) -> Row {
-    if r.value == value {
-        if r.ms < 1_000_000 {
-            return Row {
-                value,
-                ms: r.ms + 1,
-            };
-        }
-    }
-    print_row(r);
-    Row { value, ms: 1 }
-}
-
-// The sent ms of a call.
-fn with_all(r: Row, sent: &[u8]) -> Row {
-    let mut row = r;
-    let mut i: usize = 0;
-    while i < sent.len() {
-        row = with_ms(row, sent[i]);
-        i += 1;
-    }
-    row
-}
 
 // One value for one ms more than a call takes.
 fn filled(value: u8) -> [u8; 4097]
@@ -96,7 +51,7 @@ fn hear_call(x: Hearing, tones: &[u8], sent: &mut [u8], ms: usize) -> Hearing {
     let row = x.row;
     Hearing {
         state,
-        row: with_all(row, &sent[..ms]),
+        row: test_io::sent_all(row, &sent[..ms]),
     }
 }
 
@@ -113,10 +68,10 @@ fn hear_calls(x: Hearing, tones: &[u8], sent: &mut [u8], ms: usize) -> Hearing {
 
 // The set hears a tone for a number of ms.
 fn hear(s: Calling, tone: u8, ms: usize) -> Calling {
-    io::write_all(STDOUT_FILENO, b"heard");
-    number(tone as u64);
-    number(ms as u64);
-    end();
+    print(b"heard");
+    print_number(tone as u64);
+    print_number(ms as u64);
+    print_end();
     let none = Row {
         value: PATTERN,
         ms: 0,
@@ -133,16 +88,16 @@ fn hear(s: Calling, tone: u8, ms: usize) -> Calling {
         ms,
     );
     let row = x.row;
-    print_row(row);
-    io::write_all(STDOUT_FILENO, b"choice");
+    print_sent(row);
+    print(b"choice");
     let after = x.state;
-    number(after.choice as u64);
-    end();
+    print_number(after.choice as u64);
+    print_end();
     after
 }
 
 fn fresh() -> Calling {
-    io::write_all(STDOUT_FILENO, b"set\n");
+    print(b"set\n");
     Calling::fresh()
 }
 
@@ -175,8 +130,8 @@ fn with_one(n: u64, value: u8) -> u64 {
 }
 
 fn print_answer(answer: u8) {
-    io::write_all(STDOUT_FILENO, b" answer");
-    number(answer as u64);
+    print(b" answer");
+    print_number(answer as u64);
 }
 
 // Is a state taken?
@@ -187,16 +142,16 @@ fn state(tone: u8, ms: u16, place: u16, choice: u8) {
         tone,
         choice,
     };
-    io::write_all(STDOUT_FILENO, b"state");
-    number(tone as u64);
-    number(ms as u64);
-    number(place as u64);
-    number(choice as u64);
+    print(b"state");
+    print_number(tone as u64);
+    print_number(ms as u64);
+    print_number(place as u64);
+    print_number(choice as u64);
     let tones = [0u8; 1];
     let mut sent = [PATTERN; 1];
     let r = calling::run(s, &tones, &mut sent);
     print_answer(r.answer);
-    end();
+    print_end();
 }
 
 // A run on the front of the tones and of an area.
@@ -213,16 +168,16 @@ fn run_on(s: Calling, tones: &[u8], ms: usize, area: &mut [u8], room: usize) -> 
 
 // One call with a number of ms of one tone, and the front of an area as its slice: the answer, and how much of the area stays.
 fn call(s: Calling, tone: u8, ms: usize, room: usize) {
-    io::write_all(STDOUT_FILENO, b"call");
-    number(tone as u64);
-    number(ms as u64);
-    number(room as u64);
+    print(b"call");
+    print_number(tone as u64);
+    print_number(ms as u64);
+    print_number(room as u64);
     let tones = filled(tone);
     let mut area = filled(PATTERN);
     print_answer(run_on(s, &tones, ms, &mut area, room));
-    io::write_all(STDOUT_FILENO, b" kept");
-    number(kept(&area));
-    end();
+    print(b" kept");
+    print_number(kept(&area));
+    print_end();
 }
 
 fn tones() {

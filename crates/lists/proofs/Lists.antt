@@ -13,7 +13,8 @@ use borrow.Author.Tests.{leb-true, le-leb}
 use Rattle.lists.specs.Lists.{allAtMost, allAtLeast}
 
 -- two runs of values, one behind the other
-pub sets-append : {A : Type 0} (l : List A) (i : ℕ) (xs ys : List A) → sets l i (xs ++ ys) ≡ sets (sets l i xs) (i + length xs) ys
+pub sets-append : {A : Type 0} (l : List A) (i : ℕ) (xs ys : List A)
+    → sets l i (xs ++ ys) ≡ sets (sets l i xs) (i + length xs) ys
 sets-append l i [] ys = rw add-zero
 sets-append l i (x ∷ xs) ys = sets-append (set l i x) (suc i) xs ys ∙ (simp (suc-add, add-suc))
 
@@ -25,6 +26,17 @@ sets-front l vs h = sets-eq vs l 0 (rw zero-add h) ∙ (rw zero-add)
 pub either : {A : Type 0} (P : A → Type 0) (b : Bool) (x y : A) → P x → P y → P (cond b x y)
 either P true x y p q = p
 either P false x y p q = q
+
+-- the same, with what the test says
+pub either-by : {A : Type 0} (P : A → Type 0) (b : Bool) {x y : A} → (b ≡ true → P x) → (b ≡ false → P y)
+    → P (cond b x y)
+either-by P true f g = f refl
+either-by P false f g = g refl
+
+-- a test is true or false
+pub by-test : {A : Type 0} (b : Bool) → (b ≡ true → A) → (b ≡ false → A) → A
+by-test true f g = f refl
+by-test false f g = g refl
 
 pub and-left : (a b : Bool) → (a && b) ≡ true → a ≡ true
 and-left true b e = refl
@@ -50,27 +62,62 @@ and-implied : (a b rest : Bool) → (a ≡ true → b ≡ true) → (a && rest) 
 and-implied true b rest h = rw (h refl) refl
 and-implied false b rest h = refl
 
+-- A test of every number of a list, by its equations.
+record Every (test : ℕ → Bool) (all : List ℕ → Bool) : Type 0 where
+  none : all [] ≡ true
+  more : (x : ℕ) (xs : List ℕ) → all (x ∷ xs) ≡ (test x && all xs)
+
+module _ {test : ℕ → Bool} {all : List ℕ → Bool} (every : Every test all) where
+  every-head : (x : ℕ) (xs : List ℕ) → all (x ∷ xs) ≡ true → test x ≡ true
+  every-head x xs e = and-left (test x) (all xs) (sym (every .more x xs) ∙ e)
+
+  every-tail : (x : ℕ) (xs : List ℕ) → all (x ∷ xs) ≡ true → all xs ≡ true
+  every-tail x xs e = and-right (test x) (all xs) (sym (every .more x xs) ∙ e)
+
+  every-at : (xs : List ℕ) → all xs ≡ true → (i : ℕ) → i < length xs → test (getD xs i 0) ≡ true
+  every-at [] e i h = absurd (not-suc-le-zero h)
+  every-at (x ∷ xs) e zero h = every-head x xs e
+  every-at (x ∷ xs) e (suc i) h = every-at xs (every-tail x xs e) i (le-of-suc-le-suc h)
+
+  every-end : (xs : List ℕ) (i : ℕ) → length xs ≤ i → all (drop i xs) ≡ true
+  every-end xs i h = rw (drop-of-length-le xs h) (every .none)
+
+  -- a loop that looks at every number and keeps one of those passed, by whose test it answers: ..
+  module _ (xs : List ℕ) (i : ℕ) (kept : Bool) where
+    abbrev now : Bool
+    now = test (getD xs i 0)
+
+    abbrev rest : Bool
+    rest = all (drop (i + 1) xs)
+
+    every-left : i < length xs → all (drop i xs) ≡ (now && rest)
+    every-left h = rw (add-one, drop-cons xs i 0 h) (every .more (getD xs i 0) (drop (suc i) xs))
+
+    -- .. the number at the place is kept, ..
+    every-stricter : i < length xs → (now ≡ true → kept ≡ true) → (now && rest) ≡ (kept && all (drop i xs))
+    every-stricter h f = and-weaker now kept rest f ∙ ap (λ (b : Bool). kept && b) (sym (every-left h))
+
+    -- .. or passed, ..
+    every-looser : i < length xs → (kept ≡ true → now ≡ true) → (kept && rest) ≡ (kept && all (drop i xs))
+    every-looser h f = and-implied kept now rest f ∙ ap (λ (b : Bool). kept && b) (sym (every-left h))
+
+    -- .. and there is none left
+    every-all : length xs ≤ i → (kept && all (drop i xs)) ≡ all xs → kept ≡ all xs
+    every-all h e = sym (and-true kept) ∙ ap (λ (b : Bool). kept && b) (sym (every-end xs i h)) ∙ e
+
 -- a list whose numbers are at most m, by its front, by a place, and from a place on
-pub at-most-head : (m x : ℕ) (xs : List ℕ) → allAtMost m (x ∷ xs) ≡ true → x ≤ m
+every-most : (m : ℕ) → Every (λ x. leb x m) (allAtMost m)
 unfolding allAtMost
-at-most-head m x xs e = leb-true x m (and-left (leb x m) (allAtMost m xs) e)
+every-most m = record { none = refl; more = λ x xs. refl }
+
+pub at-most-head : (m x : ℕ) (xs : List ℕ) → allAtMost m (x ∷ xs) ≡ true → x ≤ m
+at-most-head m x xs e = leb-true x m (every-head (every-most m) x xs e)
 
 pub at-most-tail : (m x : ℕ) (xs : List ℕ) → allAtMost m (x ∷ xs) ≡ true → allAtMost m xs ≡ true
-unfolding allAtMost
-at-most-tail m x xs e = and-right (leb x m) (allAtMost m xs) e
+at-most-tail m x xs e = every-tail (every-most m) x xs e
 
 pub at-most-at : (m : ℕ) (xs : List ℕ) → allAtMost m xs ≡ true → (i : ℕ) → i < length xs → getD xs i 0 ≤ m
-at-most-at m [] e i h = absurd (not-suc-le-zero h)
-at-most-at m (x ∷ xs) e zero h = at-most-head m x xs e
-at-most-at m (x ∷ xs) e (suc i) h = at-most-at m xs (at-most-tail m x xs e) i (le-of-suc-le-suc h)
-
-pub at-most-left : (m : ℕ) (xs : List ℕ) (i : ℕ) → i < length xs → allAtMost m (drop i xs) ≡ (leb (getD xs i 0) m && allAtMost m (drop (i + 1) xs))
-unfolding allAtMost
-at-most-left m xs i h = rw (add-one, drop-cons xs i 0 h)
-
-pub at-most-end : (m : ℕ) (xs : List ℕ) (i : ℕ) → length xs ≤ i → allAtMost m (drop i xs) ≡ true
-unfolding allAtMost
-at-most-end m xs i h = rw (drop-of-length-le xs h)
+at-most-at m xs e i h = leb-true (getD xs i 0) m (every-at (every-most m) xs e i h)
 
 pub at-most-drop : (m : ℕ) (xs : List ℕ) (i : ℕ) → allAtMost m xs ≡ true → allAtMost m (drop i xs) ≡ true
 at-most-drop m xs zero e = e
@@ -78,15 +125,18 @@ at-most-drop m [] (suc i) e = e
 at-most-drop m (x ∷ xs) (suc i) e = at-most-drop m xs i (at-most-tail m x xs e)
 
 -- of two lists, one behind the other
-pub at-most-append : (m : ℕ) (xs ys : List ℕ) → allAtMost m xs ≡ true → allAtMost m ys ≡ true → allAtMost m (xs ++ ys) ≡ true
+pub at-most-append : (m : ℕ) (xs ys : List ℕ) → allAtMost m xs ≡ true → allAtMost m ys ≡ true
+    → allAtMost m (xs ++ ys) ≡ true
 unfolding allAtMost
 at-most-append m [] ys p q = q
-at-most-append m (x ∷ xs) ys p q = rw (le-leb x m (at-most-head m x xs p)) (at-most-append m xs ys (at-most-tail m x xs p) q)
+at-most-append m (x ∷ xs) ys p q =
+    rw (le-leb x m (at-most-head m x xs p)) (at-most-append m xs ys (at-most-tail m x xs p) q)
 
 pub at-most-front : (m : ℕ) (xs ys : List ℕ) → allAtMost m (xs ++ ys) ≡ true → allAtMost m xs ≡ true
 unfolding allAtMost
 at-most-front m [] ys e = refl
-at-most-front m (x ∷ xs) ys e = rw (le-leb x m (at-most-head m x (xs ++ ys) e)) (at-most-front m xs ys (at-most-tail m x (xs ++ ys) e))
+at-most-front m (x ∷ xs) ys e =
+    rw (le-leb x m (at-most-head m x (xs ++ ys) e)) (at-most-front m xs ys (at-most-tail m x (xs ++ ys) e))
 
 pub at-most-behind : (m : ℕ) (xs ys : List ℕ) → allAtMost m (xs ++ ys) ≡ true → allAtMost m ys ≡ true
 at-most-behind m [] ys e = e
@@ -97,67 +147,58 @@ module _ (m : ℕ) (xs : List ℕ) (i largest : ℕ) (h : i < length xs) where
   abbrev x : ℕ
   x = getD xs i 0
 
-  abbrev rest : Bool
-  rest = allAtMost m (drop (i + 1) xs)
-
-  pub at-most-larger : largest < x → (leb x m && rest) ≡ (leb largest m && allAtMost m (drop i xs))
+  pub at-most-larger : largest < x
+      → (leb x m && allAtMost m (drop (i + 1) xs)) ≡ (leb largest m && allAtMost m (drop i xs))
   at-most-larger g =
-      and-weaker (leb x m) (leb largest m) rest (λ e. let l = leb-true x m e in le-leb largest m (omega arith))
-      ∙ ap (λ (b : Bool). leb largest m && b) (sym (at-most-left m xs i h))
+      every-stricter (every-most m) xs i (leb largest m) h
+      (λ e. let l = leb-true x m e in le-leb largest m (omega arith))
 
-  pub at-most-others : x ≤ largest → (leb largest m && rest) ≡ (leb largest m && allAtMost m (drop i xs))
+  pub at-most-others : x ≤ largest
+      → (leb largest m && allAtMost m (drop (i + 1) xs)) ≡ (leb largest m && allAtMost m (drop i xs))
   at-most-others g =
-      and-implied (leb largest m) (leb x m) rest (λ e. let l = leb-true largest m e in le-leb x m (omega arith))
-      ∙ ap (λ (b : Bool). leb largest m && b) (sym (at-most-left m xs i h))
+      every-looser (every-most m) xs i (leb largest m) h
+      (λ e. let l = leb-true largest m e in le-leb x m (omega arith))
 
-pub at-most-all : (m : ℕ) (xs : List ℕ) (i : ℕ) (ok : Bool) → length xs ≤ i → (ok && allAtMost m (drop i xs)) ≡ allAtMost m xs → ok ≡ allAtMost m xs
-at-most-all m xs i ok h e = sym (and-true ok) ∙ ap (λ (b : Bool). ok && b) (sym (at-most-end m xs i h)) ∙ e
+pub at-most-all : (m : ℕ) (xs : List ℕ) (i : ℕ) (ok : Bool) → length xs ≤ i
+    → (ok && allAtMost m (drop i xs)) ≡ allAtMost m xs → ok ≡ allAtMost m xs
+at-most-all m xs i ok = every-all (every-most m) xs i ok
 
 -- a larger bound
 pub at-most-more : (m n : ℕ) (xs : List ℕ) → m ≤ n → allAtMost m xs ≡ true → allAtMost n xs ≡ true
 unfolding allAtMost
 at-most-more m n [] h p = refl
-at-most-more m n (x ∷ xs) h p = let k = at-most-head m x xs p in rw (le-leb x n (omega arith)) (at-most-more m n xs h (at-most-tail m x xs p))
+at-most-more m n (x ∷ xs) h p =
+    let k = at-most-head m x xs p in
+    rw (le-leb x n (omega arith)) (at-most-more m n xs h (at-most-tail m x xs p))
 
--- a list whose numbers are at least m, by its front, by a place, and from a place on
-pub at-least-head : (m x : ℕ) (xs : List ℕ) → allAtLeast m (x ∷ xs) ≡ true → m ≤ x
+-- a list whose numbers are at least m, by a place, and from a place on
+every-least : (m : ℕ) → Every (λ x. leb m x) (allAtLeast m)
 unfolding allAtLeast
-at-least-head m x xs e = leb-true m x (and-left (leb m x) (allAtLeast m xs) e)
-
-pub at-least-tail : (m x : ℕ) (xs : List ℕ) → allAtLeast m (x ∷ xs) ≡ true → allAtLeast m xs ≡ true
-unfolding allAtLeast
-at-least-tail m x xs e = and-right (leb m x) (allAtLeast m xs) e
+every-least m = record { none = refl; more = λ x xs. refl }
 
 pub at-least-at : (m : ℕ) (xs : List ℕ) → allAtLeast m xs ≡ true → (i : ℕ) → i < length xs → m ≤ getD xs i 0
-at-least-at m [] e i h = absurd (not-suc-le-zero h)
-at-least-at m (x ∷ xs) e zero h = at-least-head m x xs e
-at-least-at m (x ∷ xs) e (suc i) h = at-least-at m xs (at-least-tail m x xs e) i (le-of-suc-le-suc h)
-
-pub at-least-left : (m : ℕ) (xs : List ℕ) (i : ℕ) → i < length xs → allAtLeast m (drop i xs) ≡ (leb m (getD xs i 0) && allAtLeast m (drop (i + 1) xs))
-unfolding allAtLeast
-at-least-left m xs i h = rw (add-one, drop-cons xs i 0 h)
+at-least-at m xs e i h = leb-true m (getD xs i 0) (every-at (every-least m) xs e i h)
 
 pub at-least-end : (m : ℕ) (xs : List ℕ) (i : ℕ) → length xs ≤ i → allAtLeast m (drop i xs) ≡ true
-unfolding allAtLeast
-at-least-end m xs i h = rw (drop-of-length-le xs h)
+at-least-end m = every-end (every-least m)
 
 -- a loop that looks at every number: the smallest of those passed
 module _ (m : ℕ) (xs : List ℕ) (i smallest : ℕ) (h : i < length xs) where
   abbrev y : ℕ
   y = getD xs i 0
 
-  abbrev others : Bool
-  others = allAtLeast m (drop (i + 1) xs)
-
-  pub at-least-smaller : y < smallest → (leb m y && others) ≡ (leb m smallest && allAtLeast m (drop i xs))
+  pub at-least-smaller : y < smallest
+      → (leb m y && allAtLeast m (drop (i + 1) xs)) ≡ (leb m smallest && allAtLeast m (drop i xs))
   at-least-smaller g =
-      and-weaker (leb m y) (leb m smallest) others (λ e. let l = leb-true m y e in le-leb m smallest (omega arith))
-      ∙ ap (λ (b : Bool). leb m smallest && b) (sym (at-least-left m xs i h))
+      every-stricter (every-least m) xs i (leb m smallest) h
+      (λ e. let l = leb-true m y e in le-leb m smallest (omega arith))
 
-  pub at-least-others : smallest ≤ y → (leb m smallest && others) ≡ (leb m smallest && allAtLeast m (drop i xs))
+  pub at-least-others : smallest ≤ y
+      → (leb m smallest && allAtLeast m (drop (i + 1) xs)) ≡ (leb m smallest && allAtLeast m (drop i xs))
   at-least-others g =
-      and-implied (leb m smallest) (leb m y) others (λ e. let l = leb-true m smallest e in le-leb m y (omega arith))
-      ∙ ap (λ (b : Bool). leb m smallest && b) (sym (at-least-left m xs i h))
+      every-looser (every-least m) xs i (leb m smallest) h
+      (λ e. let l = leb-true m smallest e in le-leb m y (omega arith))
 
-pub at-least-all : (m : ℕ) (xs : List ℕ) (i : ℕ) (ok : Bool) → length xs ≤ i → (ok && allAtLeast m (drop i xs)) ≡ allAtLeast m xs → ok ≡ allAtLeast m xs
-at-least-all m xs i ok h e = sym (and-true ok) ∙ ap (λ (b : Bool). ok && b) (sym (at-least-end m xs i h)) ∙ e
+pub at-least-all : (m : ℕ) (xs : List ℕ) (i : ℕ) (ok : Bool) → length xs ≤ i
+    → (ok && allAtLeast m (drop i xs)) ≡ allAtLeast m xs → ok ≡ allAtLeast m xs
+at-least-all m xs i ok = every-all (every-least m) xs i ok

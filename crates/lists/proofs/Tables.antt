@@ -1,7 +1,7 @@
 -- A table's value at a place, and a rule that is computed once over all places and carried to each.
 use mathlib.Core.Path.{_≡_, _∙_, refl, sym, ap, subst}
 use mathlib.Core.Bool.{Bool, true, false, not, _&&_}
-use mathlib.Core.List.{List, [], _∷_}
+use mathlib.Core.List.{List, [], _∷_, _++_}
 use Prim.Native.Nat.{ℕ, zero, suc, _+_, _<_}
 use native.Mathlib.Nat.{add-zero, zero-add, add-suc, suc-add, le-of-suc-le-suc, not-suc-le-zero}
 use lib.Dec.{T}
@@ -35,7 +35,8 @@ tabulate-from : {A : Type 0} (f : ℕ → A) (d : A) (n i k : ℕ) → k < n →
 unfolding tabulate
 tabulate-from f d zero i k h = absurd (not-suc-le-zero h)
 tabulate-from f d (suc n) i zero h = rw add-zero refl
-tabulate-from f d (suc n) i (suc k) h = tabulate-from f d n (suc i) k (le-of-suc-le-suc h) ∙ ap f (suc-add i k ∙ sym (add-suc i k))
+tabulate-from f d (suc n) i (suc k) h =
+    tabulate-from f d n (suc i) k (le-of-suc-le-suc h) ∙ ap f (suc-add i k ∙ sym (add-suc i k))
 
 -- what a tabulated function holds at a place
 pub tabulate-at : {A : Type 0} (f : ℕ → A) (d : A) (n k : ℕ) → k < n → getD (tabulate f n 0) k d ≡ f k
@@ -45,6 +46,17 @@ pub tabulate-length : {A : Type 0} (f : ℕ → A) (n i : ℕ) → length (tabul
 unfolding tabulate
 tabulate-length f zero i = refl
 tabulate-length f (suc n) i = ap suc (tabulate-length f n (suc i))
+
+-- the first m values, and then the others
+pub tabulate-append : {A : Type 0} (f : ℕ → A) (m n i : ℕ)
+    → tabulate f (m + n) i ≡ tabulate f m i ++ tabulate f n (m + i)
+unfolding tabulate
+tabulate-append f zero n i = rw (zero-add n, zero-add i)
+tabulate-append {A} f (suc m) n i =
+    let e : m + suc i ≡ suc m + i = add-suc m i ∙ sym (suc-add m i) in
+    rw (suc-add m n)
+    (ap (λ (l : List A). f i ∷ l)
+    (tabulate-append f m n (suc i) ∙ ap (λ (k : ℕ). tabulate f m (suc i) ++ tabulate f n k) e))
 
 passes-from : (f : ℕ → Bool) (n i k : ℕ) → T (passes f n i) → k < n → T (f (i + k))
 unfolding passes

@@ -1,8 +1,11 @@
-// Tests over slices of bytes. Every byte is looked at, so that the loops are compiled to vector instructions.
+// Tests over slices of bytes, and the most ms of one call. Every byte is looked at, so that the loops are compiled to vector instructions.
 ghost use mathlib.Core.Path.{_≡_};
 ghost use Prim.Native.Nat.{ℕ, _≤_};
 ghost use lib.Dec.{leb};
 ghost use Rattle.lists.specs.Lists.{allAtMost, allAtLeast};
+
+// The most ms of one call: question 5, for a station and for a calling set.
+pub const MOST_MS: usize = 4_096;
 
 // The largest byte; 0 if there is none.
 pub fn largest(xs: &[u8]) -> u8

@@ -6,6 +6,11 @@ use libc::STDIN_FILENO;
 use libc::STDOUT_FILENO;
 use reader::Event;
 use reader::Reader;
+use test_io::count;
+use test_io::print;
+use test_io::print_byte;
+use test_io::print_end;
+use test_io::print_number;
 ghost use Prim.Native.Nat.{_≤_};
 ghost use Rattle.reader.specs.code.Bounds.{ReaderIn};
 
@@ -24,15 +29,10 @@ struct Input {
     first: u8,
 }
 
-fn print(s: &[u8]) {
-    io::write_all(STDOUT_FILENO, s);
-}
-
 fn print_line(ms: u64, word: u32) {
     io::print_decimal(STDOUT_FILENO, ms);
-    print(b" ");
-    io::print_decimal(STDOUT_FILENO, word as u64);
-    print(b"\n");
+    print_number(word as u64);
+    print_end();
 }
 
 // The word of what a ms ended in, if any.
@@ -59,9 +59,8 @@ fn begin(digit: u8) -> Listener
     ensures { λ r. ⌜ ReaderIn (r .mode) (r .reader) ⌝ }
 {
     print(b"mode ");
-    let one = [digit];
-    print(&one);
-    print(b"\n");
+    print_byte(digit);
+    print_end();
     fresh(Mode::of(digit - b'0'))
 }
 
@@ -123,14 +122,6 @@ fn inhibit_all(l: Listener, count: u8) -> Listener
         i += 1;
     }
     x
-}
-
-// The count of a byte; 0 for a byte that is none.
-fn count(b: u8) -> u8 {
-    match b {
-        b'!'..=b'~' => b - b' ',
-        _ => 0,
-    }
 }
 
 fn begin_or_keep(l: Listener, digit: u8) -> Listener

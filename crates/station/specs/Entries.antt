@@ -6,7 +6,7 @@ use mathlib.Core.Bool.{Bool, cond, _&&_}
 use mathlib.Core.List.{List}
 use lib.Dec.{eqb, leb}
 use lib.ListN.{length}
-use Rattle.lists.specs.Lists.{allAtMost, written}
+use Rattle.lists.specs.Lists.{allAtMost, mostMs, written}
 use Rattle.alphabet.specs.Modes.{highestLevel}
 use Rattle.alphabet.specs.Normal.{allChars}
 use Rattle.queue.specs.Queue.{room}
@@ -46,7 +46,7 @@ offerOf s text =
 unfoldable pub runAnswer : Station → List ℕ → ℕ → ℕ → ℕ
 runAnswer s heard sentRoom wordRoom =
     cond (inRange s)
-    (cond (leb (length heard) 4_096)
+    (cond (leb (length heard) mostMs)
     (cond (allAtMost (highestLevel (modeOfStation s)) heard)
     (cond (leb (length heard) sentRoom)
     (cond (leb (length heard) wordRoom) 0 8) 7) 6) 5) 1

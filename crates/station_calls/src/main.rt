@@ -5,9 +5,14 @@
 // sign says. A count is the byte less 32. The expected output is what the reference prints.
 use half_duplex::Core;
 use libc::STDIN_FILENO;
-use libc::STDOUT_FILENO;
 use station::Answered;
 use station_entry::Ran;
+use test_io::Row;
+use test_io::count;
+use test_io::print;
+use test_io::print_end;
+use test_io::print_number;
+use test_io::print_sent;
 ghost use mathlib.Core.Path.{_≡_};
 ghost use lib.ListN.{length};
 
@@ -17,12 +22,6 @@ const LF: u8 = b'\n';
 const PATTERN: u8 = 99;
 
 const WORD_PATTERN: u32 = 99_999_999;
-
-// A level that was sent, and for how many ms in a row.
-struct Row {
-    value: u8,
-    ms: u64,
-}
 
 // A core; how many ms are to be heard and characters to be offered; 16 times the high digit of the next character; the last
 // character; the first byte of a pair whose second is still to come, or LF.
@@ -35,64 +34,28 @@ struct Play {
     first: u8,
 }
 
-fn number(n: u64) {
-    io::write_all(STDOUT_FILENO, b" ");
-    io::print_decimal(STDOUT_FILENO, n);
-}
-
-fn end() {
-    io::write_all(STDOUT_FILENO, b"\n");
-}
-
 // A call's name and three numbers of it.
 fn print_call(name: &[u8], a: u64, b: u64, c: u64) {
-    io::write_all(STDOUT_FILENO, name);
-    number(a);
-    number(b);
-    number(c);
-    end();
+    print(name);
+    print_number(a);
+    print_number(b);
+    print_number(c);
+    print_end();
 }
 
-fn print_row(r: Row) {
-    if 0 < r.ms {
-        io::write_all(STDOUT_FILENO, b"sent");
-        number(r.value as u64);
-        number(r.ms);
-        end();
-    }
-}
-
-// One more ms; a row that another value ends is printed.
-fn with_ms(r: Row, value: u8) -> Row {
-    if r.value == value {
-        if r.ms < 1_000_000 {
-            return Row {
-                value,
-                ms: r.ms + 1,
-            };
-        }
-    }
-    print_row(r);
-    Row { value, ms: 1 }
-}
-
-fn print_sent(sent: &[u8]) {
-    let mut row = Row { value: 0, ms: 0 };
-    let mut i: usize = 0;
-    while i < sent.len() {
-        row = with_ms(row, sent[i]);
-        i += 1;
-    }
-    print_row(row);
+// The levels that were sent, in rows.
+fn print_levels(sent: &[u8]) {
+    let none = Row { value: 0, ms: 0 };
+    print_sent(test_io::sent_all(none, sent));
 }
 
 fn print_word(word: u32) {
     if word == WORD_PATTERN {
         return;
     }
-    io::write_all(STDOUT_FILENO, b"word");
-    number(word as u64);
-    end();
+    print(b"word");
+    print_number(word as u64);
+    print_end();
 }
 
 // Every word that was written.
@@ -117,9 +80,8 @@ fn fresh_words() -> [u32; 4100]
     [WORD_PATTERN; 4100]
 }
 
-fn fresh(chars: &mut [u8; 256]) -> Play {
-    let r = station::open(chars, 1);
-    let core = r.core;
+// A core with nothing to be heard or offered.
+fn opened(core: Core) -> Play {
     Play {
         core,
         heard: 0,
@@ -130,18 +92,17 @@ fn fresh(chars: &mut [u8; 256]) -> Play {
     }
 }
 
+fn fresh(chars: &mut [u8; 256]) -> Play {
+    let r = station::open(chars, 1);
+    let core = r.core;
+    opened(core)
+}
+
 fn open(chars: &mut [u8; 256], mode: u8) -> Play {
     let r = station::open(chars, mode);
     let core = r.core;
     print_call(b"open", mode as u64, r.answer as u64, core.mode as u64);
-    Play {
-        core,
-        heard: 0,
-        text: 0,
-        high: 0,
-        last: 0,
-        first: LF,
-    }
+    opened(core)
 }
 
 // A value put behind the first ones of a slice; how many there are then.
@@ -161,14 +122,6 @@ fn put(slice: &mut [u8], at: usize, value: u8, count: u8) -> usize {
         i += 1;
     }
     n
-}
-
-// The count of a byte; 0 for a byte that is none.
-fn count(b: u8) -> u8 {
-    match b {
-        b'!'..=b'~' => b - b' ',
-        _ => 0,
-    }
 }
 
 // The low digit of a character, that many behind 0, and 16 times the high one; 0 for a byte that is none.
@@ -202,11 +155,11 @@ fn offer(x: Play, chars: &mut [u8; 256], text: &[u8]) -> Play {
     print_call(b"offer", n as u64, r.answer as u64, core.waiting as u64);
     Play {
         core,
-        heard: x.heard,
         text: 0,
         high: 0,
         last: 0,
         first: LF,
+        ..x
     }
 }
 
@@ -234,10 +187,8 @@ fn run(x: Play, chars: &mut [u8; 256], heard: &[u8], sent: &mut [u8], words: &mu
     Play {
         core,
         heard: 0,
-        text: x.text,
-        high: x.high,
-        last: x.last,
         first: LF,
+        ..x
     }
 }
 
@@ -258,7 +209,7 @@ fn run_listed(
         return x;
     }
     let y = run(x, chars, heard, &mut sent[..n], &mut words[..k]);
-    print_sent(sent);
+    print_levels(sent);
     print_words(words);
     y
 }
@@ -291,63 +242,42 @@ fn run_sign(x: Play, chars: &mut [u8; 256], heard: &[u8], sign: u8) -> Play {
 // A character of two digits.
 fn character(x: Play, text: &mut [u8], low: u8) -> Play {
     let c = std::num::wrapping_add_u8(x.high, low);
-    let core = x.core;
     Play {
-        core,
-        heard: x.heard,
         text: put_one(text, x.text, c),
         high: 0,
         last: c,
         first: LF,
+        ..x
     }
 }
 
 fn again(x: Play, text: &mut [u8], count: u8) -> Play {
-    let core = x.core;
     Play {
-        core,
-        heard: x.heard,
         text: put(text, x.text, x.last, count),
         high: 0,
-        last: x.last,
         first: LF,
+        ..x
     }
 }
 
 fn with_high(x: Play, high: u8) -> Play {
-    let core = x.core;
     Play {
-        core,
-        heard: x.heard,
-        text: x.text,
         high,
-        last: x.last,
         first: LF,
+        ..x
     }
 }
 
 fn level(x: Play, heard: &mut [u8], level: u8, count: u8) -> Play {
-    let core = x.core;
     Play {
-        core,
         heard: put(heard, x.heard, level, count),
-        text: x.text,
-        high: x.high,
-        last: x.last,
         first: LF,
+        ..x
     }
 }
 
 fn with_first(x: Play, first: u8) -> Play {
-    let core = x.core;
-    Play {
-        core,
-        heard: x.heard,
-        text: x.text,
-        high: x.high,
-        last: x.last,
-        first,
-    }
+    Play { first, ..x }
 }
 
 // A mode's number is that many behind 0.

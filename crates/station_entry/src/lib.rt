@@ -8,9 +8,6 @@ ghost use Rattle.station.specs.Range.{inRange};
 ghost use Rattle.alphabet.specs.Modes.{highestLevel};
 ghost use Rattle.station.specs.Entries.{ranOf, sentAfter, wordsAfter};
 
-// The most ms of one call.
-pub const LONGEST: usize = 4_096;
-
 // A core after a run, 0 or the number of the refusal, and how many words were written.
 pub struct Ran {
     pub core: Core,
@@ -59,7 +56,7 @@ pub fn run(c: Core, chars: &mut [u8; 256], heard: &[u8], sent: &mut [u8], words:
     if !in_range(c, chars) {
         return refused(c, 1);
     }
-    if LONGEST < heard.len() {
+    if lists::checks::MOST_MS < heard.len() {
         return refused(c, 5);
     }
     let highest = lists::checks::largest(heard);

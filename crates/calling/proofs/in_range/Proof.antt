@@ -1,6 +1,7 @@
 -- `in_range` meets its contract: the first bound that fails decides.
 use borrow.Author.Tests.{le-leb, lt-leb}
 use Rattle.calling.specs.Timetable.{timetable, total, period}
+use Rattle.calling.specs.Tones.{lengths, lengthIn, lengthOf}
 use Rattle.calling.specs.Set.{inRange}
 use Rattle.calling.proofs.in_range.Statement.{statement}
 use Rattle.calling.proofs.in_range.Tie as tie
@@ -20,7 +21,7 @@ returns-3 c =
     simp (le-leb _ _ (b .before .before .if1 .left), le-leb _ _ (b .if2 .left), lt-leb 1 _ (c .if3 .taken))
 
 returns-4 : tie.Need-returns-4
-unfolding inRange
+unfolding lengths lengthIn lengthOf inRange
 returns-4 c =
     let b = c .before .before in
     simp (
@@ -31,7 +32,7 @@ returns-4 c =
     )
 
 returns-5 : tie.Need-returns-5
-unfolding timetable total period inRange
+unfolding timetable total period lengths lengthIn lengthOf inRange
 returns-5 c =
     let b = c .before .before .before in
     simp (

@@ -21,7 +21,8 @@ returns-2 : tie.Need-returns-2
 returns-2 c =
     let l = c .before .before in
     let t = l .before in
-    step-tone _ _ (t .before .if1 .left) _ _ _ (t .if2 .taken) (l .length .ensures) (c .before .counted .ensures) (c .reached .ensures)
+    step-tone _ _ (t .before .if1 .left) _ _ _ (t .if2 .taken)
+    (l .length .ensures) (c .before .counted .ensures) (c .reached .ensures)
 
 pause-over-requires : tie.Need-pause-over-requires
 pause-over-requires c κs = search needs
@@ -33,7 +34,8 @@ returns-3 : tie.Need-returns-3
 returns-3 c =
     let p = c .before .before in
     let n = p .before in
-    step-pause _ _ (n .before .if1 .left) (n .if2 .left) _ (p .pause-over .ensures) _ (not-true _ (c .before .if3 .taken)) (c .counted2 .ensures)
+    step-pause _ _ (n .before .if1 .left) (n .if2 .left) _ (p .pause-over .ensures) _
+    (not-true _ (c .before .if3 .taken)) (c .counted2 .ensures)
 
 next-requires : tie.Need-next-requires
 next-requires c κs = search needs

@@ -17,14 +17,14 @@ slice-aggregate-run c = sym (length-take-le _ _ (search needs))
 run-requires : tie.Need-run-requires
 run-requires c κs = search needs
 
-slice-reshare-prefix-with-all : tie.Need-slice-reshare-prefix-with-all
-slice-reshare-prefix-with-all c = search needs
+slice-reshare-prefix-sent-all : tie.Need-slice-reshare-prefix-sent-all
+slice-reshare-prefix-sent-all c = search needs
 
-slice-aggregate-with-all : tie.Need-slice-aggregate-with-all
-slice-aggregate-with-all c = sym (length-take-le _ _ (search needs))
+slice-aggregate-sent-all : tie.Need-slice-aggregate-sent-all
+slice-aggregate-sent-all c = sym (length-take-le _ _ (search needs))
 
-with-all-requires : tie.Need-with-all-requires
-with-all-requires c κs = search needs
+sent-all-requires : tie.Need-sent-all-requires
+sent-all-requires c κs = search needs
 
 same-length : tie.Need-same-length
 same-length c = search needs
@@ -40,8 +40,8 @@ hear-call-spec =
     returns-2
     slice-aggregate-run
     run-requires
-    slice-reshare-prefix-with-all
-    slice-aggregate-with-all
-    with-all-requires
+    slice-reshare-prefix-sent-all
+    slice-aggregate-sent-all
+    sent-all-requires
     same-length
     returns-3)

@@ -13,8 +13,8 @@ abbrev μ-loop : tie.MeasureT-loop
 loop-holds : tie.Need-loop-holds Inv-loop μ-loop
 loop-holds c = search needs
 
-print-row-requires : tie.Need-print-row-requires Inv-loop μ-loop
-print-row-requires c κs = search needs
+print-line-requires : tie.Need-print-line-requires Inv-loop μ-loop
+print-line-requires c κs = search needs
 
 add-k : tie.Need-add-k Inv-loop μ-loop
 add-k c = search needs
@@ -31,4 +31,4 @@ returns c = search needs
 pub print-below-spec : {M : Type 1} → statement M
 print-below-spec =
     tie.close
-    (tie.spec Inv-loop μ-loop loop-holds print-row-requires add-k loop-less loop-again returns)
+    (tie.spec Inv-loop μ-loop loop-holds print-line-requires add-k loop-less loop-again returns)

@@ -16,8 +16,8 @@ loop-holds c = search needs
 code-requires : tie.Need-code-requires Inv-loop μ-loop
 code-requires c κs = search needs
 
-print-row-requires : tie.Need-print-row-requires Inv-loop μ-loop
-print-row-requires c κs = search needs
+print-line-requires : tie.Need-print-line-requires Inv-loop μ-loop
+print-line-requires c κs = search needs
 
 add-digit : tie.Need-add-digit Inv-loop μ-loop
 add-digit c = search needs
@@ -39,7 +39,7 @@ print-digits-spec =
     μ-loop
     loop-holds
     code-requires
-    print-row-requires
+    print-line-requires
     add-digit
     loop-less
     loop-again

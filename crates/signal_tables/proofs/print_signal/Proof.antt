@@ -1,4 +1,4 @@
--- `print_signal` is safe and ends: a signal has at most the longest ms of its mode, and a run at most the ms that passed.
+-- `print_signal` is safe and ends: a signal has at most the longest ms of its mode.
 use Prim.Native.Nat.{_-_, _≤_}
 use native.Mathlib.Omega.{arith}
 use borrow.Author.Needs.{needs}
@@ -7,10 +7,10 @@ use Rattle.signal_tables.proofs.print_signal.Statement.{statement}
 use Rattle.signal_tables.proofs.print_signal.Tie as tie
 
 abbrev Inv-loop : tie.InvT-loop
-Inv-loop mode code ms run₀ at₀ run at = (at ≤ ms) × (run .ms ≤ at)
+Inv-loop mode code ms row₀ at₀ row at = at ≤ ms
 
 abbrev μ-loop : tie.MeasureT-loop
-μ-loop mode code ms run₀ at₀ run at = ms - at
+μ-loop mode code ms row₀ at₀ row at = ms - at
 
 duration-requires : tie.Need-duration-requires Inv-loop μ-loop
 duration-requires c κs = search needs
@@ -25,8 +25,8 @@ level-requires c κs =
     let m = within-longest (s .args .mode) (s .args .code .0) (search needs) in
     (s .pre, omega (arith, d .duration .ensures))
 
-with-ms-requires : tie.Need-with-ms-requires Inv-loop μ-loop
-with-ms-requires c κs = search needs
+with-level-requires : tie.Need-with-level-requires Inv-loop μ-loop
+with-level-requires c κs = search needs
 
 add-at : tie.Need-add-at Inv-loop μ-loop
 add-at c = search needs
@@ -37,8 +37,8 @@ loop-less c = search needs
 loop-again : tie.Need-loop-again Inv-loop μ-loop
 loop-again c = search needs
 
-print-run-requires : tie.Need-print-run-requires Inv-loop μ-loop
-print-run-requires c κs = search needs
+print-row-requires : tie.Need-print-row-requires Inv-loop μ-loop
+print-row-requires c κs = search needs
 
 returns : tie.Need-returns Inv-loop μ-loop
 returns c = search needs
@@ -52,9 +52,9 @@ print-signal-spec =
     duration-requires
     loop-holds
     level-requires
-    with-ms-requires
+    with-level-requires
     add-at
     loop-less
     loop-again
-    print-run-requires
+    print-row-requires
     returns)

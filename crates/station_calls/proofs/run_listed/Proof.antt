@@ -4,7 +4,7 @@ use lib.Seq.{length-take-le}
 use borrow.Author.Needs.{needs}
 use Rattle.station_calls.proofs.run_listed.Statement.{statement}
 use Rattle.station_calls.proofs.run_listed.Tie as tie
-use Rattle.station_calls.proofs.print_sent.Reads as print-sent-reads
+use Rattle.station_calls.proofs.print_levels.Reads as print-levels-reads
 use Rattle.station_calls.proofs.print_words.Reads as print-words-reads
 use Rattle.station_calls.proofs.run.Reads as run-reads
 
@@ -29,8 +29,8 @@ slice-aggregate-run-2 c = sym (length-take-le _ _ (search needs))
 run-requires : tie.Need-run-requires
 run-requires c κs = search needs
 
-print-sent-requires : tie.Need-print-sent-requires
-print-sent-requires c κs = search needs
+print-levels-requires : tie.Need-print-levels-requires
+print-levels-requires c κs = search needs
 
 print-words-requires : tie.Need-print-words-requires
 print-words-requires c κs = search needs
@@ -55,7 +55,7 @@ run-listed-spec =
     slice-relend-prefix-run-2
     slice-aggregate-run-2
     run-requires
-    print-sent-requires
+    print-levels-requires
     print-words-requires
     same-length
     same-length-2

@@ -4,8 +4,8 @@ use mathlib.Core.Path.{_≡_, sym, ap}
 use Prim.Native.Nat.{ℕ, suc, _≤_, _<_}
 use native.Mathlib.Omega.{arith}
 use lib.Dec.{eqb}
+use Rattle.lists.proofs.Lists.{by-test}
 use Rattle.calling.specs.Tones.{lengths, lengthIn, lengthOf}
-use Rattle.calling.proofs.Choices.{by-test}
 use Rattle.calling.proofs.tones.length.Statement.{statement}
 use Rattle.calling.proofs.tones.length.Tie as tie
 
@@ -28,7 +28,9 @@ one-row : (t k : ℕ) → k ≤ t → t < suc k → lengthOf t ≡ lengthOf k
 one-row t k l h = ap lengthOf (omega arith)
 
 returns : tie.Need-returns
-returns c = sym (others _ (λ e. omega arith) (λ e. omega arith) (λ e. omega arith) (λ e. omega arith) (λ e. omega arith))
+returns c =
+    sym
+    (others _ (λ e. omega arith) (λ e. omega arith) (λ e. omega arith) (λ e. omega arith) (λ e. omega arith))
 
 returns-2 : tie.Need-returns-2
 returns-2 c = sym (three-and-four _ (c .if2 .left) (c .before .if1 .taken))
@@ -46,7 +48,9 @@ unfolding lengths lengthIn lengthOf
 returns-5 c = sym (one-row _ 7 (c .before .if3 .left) (c .if5 .taken))
 
 returns-6 : tie.Need-returns-6
-returns-6 c = sym (others _ (λ e. omega arith) (λ e. omega arith) (λ e. omega arith) (λ e. omega arith) (λ e. omega arith))
+returns-6 c =
+    sym
+    (others _ (λ e. omega arith) (λ e. omega arith) (λ e. omega arith) (λ e. omega arith) (λ e. omega arith))
 
 pub length-spec : {M : Type 1} → statement M
 length-spec = tie.close (tie.spec returns returns-2 returns-3 returns-4 returns-5 returns-6)

@@ -1,11 +1,12 @@
 -- `checks::all_at_least` meets its contract.
-use mathlib.Core.Path.{_≡_, refl, sym}
-use mathlib.Core.Bool.{Bool, true, false}
-use Prim.Native.Nat.{_-_}
+use mathlib.Core.Path.{_≡_, sym}
+use mathlib.Core.Bool.{false}
+use mathlib.Core.List.{List}
+use Prim.Native.Nat.{ℕ, _-_, _<_}
 use native.Mathlib.Omega.{arith}
-use lib.ListN.{length}
+use lib.ListN.{length, getD}
 use Rattle.lists.specs.Lists.{allAtLeast}
-use Rattle.lists.proofs.Lists.{at-least-at, at-least-end}
+use Rattle.lists.proofs.Lists.{by-test, at-least-at, at-least-end}
 use borrow.Author.Needs.{needs}
 use Rattle.lists.proofs.checks.all_at_least.Statement.{statement}
 use Rattle.lists.proofs.checks.all_at_least.Tie as tie
@@ -22,17 +23,15 @@ sub-if2 c = search needs
 shared-slice-read-if2 : tie.Need-shared-slice-read-if2
 shared-slice-read-if2 c = let n = c .before .if1 .left in omega (arith, n)
 
+-- the last one is too small
+last-small : (m : ℕ) (xs : List ℕ) → (length xs ≡ 0 → ⊥) → getD xs (length xs - 1) 0 < m → false ≡ allAtLeast m xs
+last-small m xs some small =
+    by-test (allAtLeast m xs)
+    (λ e. let h = at-least-at m xs e (length xs - 1) (omega (arith, some)) in absurd (omega arith))
+    (λ e. sym e)
+
 returns-2 : tie.Need-returns-2
-returns-2 c = go (allAtLeast (c .before .before .before .before .args .m) (c .before .before .before .before .args .xs .now)) refl
-  where
-    go : (b : Bool) → allAtLeast (c .before .before .before .before .args .m) (c .before .before .before .before .args .xs .now) ≡ b → false ≡ b
-    go true e =
-        let xs = c .before .before .before .before .args .xs .now in
-        let n = c .before .before .if1 .left in
-        let t = c .if2 .taken in
-        let h = at-least-at _ xs e (length xs - 1) (omega (arith, n)) in
-        absurd (omega arith)
-    go false e = refl
+returns-2 c = last-small _ _ (c .before .before .if1 .left) (c .if2 .taken)
 
 smallest-requires : tie.Need-smallest-requires
 smallest-requires c κs = search needs

@@ -35,9 +35,11 @@ loop-again : tie.Need-loop-again Inv-loop μ-loop
 loop-again c =
     let l = c .before .before .before in
     let t = c .before .before .loop-test .taken in
-    let a = l .before .args in
-    ⊎-elim (λ w. rw (w .1) (λ (m : ℕ). at-most-larger m (a .xs .now) (l .loop .i) (l .loop .largest) t (w .0 .taken) ∙ l .loop .inv m))
-    (λ w. rw (w .1) (λ (m : ℕ). at-most-others m (a .xs .now) (l .loop .i) (l .loop .largest) t (w .0 .left) ∙ l .loop .inv m)) (c .if1 .came)
+    let xs = l .before .args .xs .now in
+    let at = l .loop .i in
+    let kept = l .loop .largest in
+    ⊎-elim (λ w. rw (w .1) (λ (m : ℕ). at-most-larger m xs at kept t (w .0 .taken) ∙ l .loop .inv m))
+    (λ w. rw (w .1) (λ (m : ℕ). at-most-others m xs at kept t (w .0 .left) ∙ l .loop .inv m)) (c .if1 .came)
 
 returns : tie.Need-returns Inv-loop μ-loop
 returns c =

@@ -13,7 +13,8 @@ use Rattle.lists.proofs.checks.smallest.Statement.{statement}
 use Rattle.lists.proofs.checks.smallest.Tie as tie
 
 abbrev Inv-loop : tie.InvT-loop
-Inv-loop xs smallest₀ i₀ smallest i = (m : ℕ) → m ≤ 255 → (leb m smallest && allAtLeast m (drop i xs)) ≡ allAtLeast m xs
+Inv-loop xs smallest₀ i₀ smallest i =
+    (m : ℕ) → m ≤ 255 → (leb m smallest && allAtLeast m (drop i xs)) ≡ allAtLeast m xs
 
 abbrev μ-loop : tie.MeasureT-loop
 μ-loop xs smallest₀ i₀ smallest i = length xs - i
@@ -34,9 +35,12 @@ loop-again : tie.Need-loop-again Inv-loop μ-loop
 loop-again c =
     let l = c .before .before .before in
     let t = c .before .before .loop-test .taken in
-    let a = l .before .args in
-    ⊎-elim (λ w. rw (w .1) (λ (m : ℕ) (h : m ≤ 255). at-least-smaller m (a .xs .now) (l .loop .i) (l .loop .smallest) t (w .0 .taken) ∙ l .loop .inv m h))
-    (λ w. rw (w .1) (λ (m : ℕ) (h : m ≤ 255). at-least-others m (a .xs .now) (l .loop .i) (l .loop .smallest) t (w .0 .left) ∙ l .loop .inv m h)) (c .if1 .came)
+    let xs = l .before .args .xs .now in
+    let at = l .loop .i in
+    let kept = l .loop .smallest in
+    ⊎-elim (λ w. rw (w .1) (λ (m : ℕ) (h : m ≤ 255). at-least-smaller m xs at kept t (w .0 .taken) ∙ l .loop .inv m h))
+    (λ w. rw (w .1) (λ (m : ℕ) (h : m ≤ 255). at-least-others m xs at kept t (w .0 .left) ∙ l .loop .inv m h))
+    (c .if1 .came)
 
 returns : tie.Need-returns Inv-loop μ-loop
 returns c =

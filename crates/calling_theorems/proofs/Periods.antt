@@ -7,19 +7,18 @@ use native.Mathlib.Omega.{arith}
 use borrow.Author.Tests.{ltb-true, ltb-false}
 use lib.Dec.{ltb}
 use lib.ListN.{replicate}
+use Rattle.lists.specs.Steps.{outputs}
 use Rattle.lists.specs.Tables.{tabulate}
+use Rattle.lists.proofs.Lists.{either-by}
 use Rattle.calling.specs.declared.Calling.{Calling}
 use Rattle.calling.specs.Timetable.{period, valueAt, placeAfter}
 use Rattle.calling.specs.Tones.{none}
-use Rattle.calling.specs.Set.{fresh, pauseOver, sentIn, stateAfter, sentOf}
-use Rattle.calling.proofs.Choices.{either-by}
+use Rattle.calling.specs.Set.{fresh, pauseOver, sentMs, callingMs, sentOf}
 use Rattle.calling.proofs.OneMs.{does-timetable}
-use Rattle.calling.proofs.Range.{period-is}
-use Rattle.calling.proofs.Cuts.{Call, heardBy, sentBy, calls-sent}
-
--- The first n ms of the timetable, over and over.
-abbrev pub periods : ℕ → List ℕ
-periods n = tabulate (λ k. valueAt (k % period)) n 0
+use Rattle.calling_theorems.specs.Calls.{Call, heardBy, sentBy}
+use Rattle.calling_theorems.specs.Periods.{periods}
+use Rattle.calling_theorems.proofs.Range.{period-is}
+use Rattle.calling_theorems.proofs.Cuts.{calls-sent}
 
 -- A set that runs the timetable and stands at a place of it.
 pub record Runs (s : Calling) (place : ℕ) : Type 0 where
@@ -28,12 +27,12 @@ pub record Runs (s : Calling) (place : ℕ) : Type 0 where
   pub place-is : s .place ≡ place
 
 -- one ms of none
-runs-on : (s : Calling) (place : ℕ) → Runs s place → Runs (stateAfter s none) (placeAfter place)
+runs-on : (s : Calling) (place : ℕ) → Runs s place → Runs (callingMs s none) (placeAfter place)
 runs-on s place r =
     let d = does-timetable s none (r .no-choice) refl (r .ready) in
     rw (d .leaves) (record { no-choice = refl; ready = r .ready; place-is = ap placeAfter (r .place-is) })
 
-runs-sends : (s : Calling) (place : ℕ) → Runs s place → sentIn s none ≡ valueAt place
+runs-sends : (s : Calling) (place : ℕ) → Runs s place → sentMs s none ≡ valueAt place
 runs-sends s place r = does-timetable s none (r .no-choice) refl (r .ready) .says ∙ ap valueAt (r .place-is)
 
 -- the place after the k-th
@@ -46,13 +45,14 @@ place-mod k =
     (λ e. let h : 11_200 ≤ k % 11_200 + 1 = ltb-false _ _ e in omega arith))
 
 -- a set that runs the timetable sends it from its place on
-pub runs-sent : (n k : ℕ) (s : Calling) → Runs s (k % period) → sentOf s (replicate n none) ≡ tabulate (λ j. valueAt (j % period)) n k
-unfolding sentOf tabulate
+pub runs-sent : (n k : ℕ) (s : Calling) → Runs s (k % period)
+    → sentOf s (replicate n none) ≡ tabulate (λ j. valueAt (j % period)) n k
+unfolding outputs tabulate
 runs-sent zero k s r = refl
 runs-sent (suc n) k s r =
     let place = k % period in
-    let next : Runs (stateAfter s none) (suc k % period) = rw place-mod at (runs-on s place r) in
-    let later = runs-sent n (suc k) (stateAfter s none) next in
+    let next : Runs (callingMs s none) (suc k % period) = rw place-mod at (runs-on s place r) in
+    let later = runs-sent n (suc k) (callingMs s none) next in
     let now = runs-sends s place r in
     λ i. now i ∷ later i
 

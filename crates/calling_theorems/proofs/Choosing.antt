@@ -7,41 +7,26 @@ use native.Mathlib.Omega.{arith}
 use borrow.Author.Tests.{eq-eqb, ne-eqb, lt-ltb, le-ltb, eqb-true, eqb-false, ltb-true, ltb-false}
 use lib.Dec.{eqb, ltb}
 use lib.ListN.{length, replicate}
-use Rattle.lists.proofs.Lists.{and-left, and-right}
+use Rattle.lists.specs.Steps.{stateAfter, outputs}
+use Rattle.lists.proofs.Lists.{by-test, and-left, and-right}
+use Rattle.lists.proofs.Steps.{Takes, stays}
 use Rattle.calling.specs.declared.Calling.{Calling}
 use Rattle.calling.specs.Timetable.{nothing}
 use Rattle.calling.specs.Tones.{none, lengthOf}
-use Rattle.calling.specs.Set.{fresh, pause, enough, msAfter, chosen, stateAfter, after, sentOf}
-use Rattle.calling.proofs.Choices.{by-test}
+use Rattle.calling.specs.Set.{fresh, pause, enough, msAfter, chosen, callingMs, sentMs, after, sentOf}
+use Rattle.calling_theorems.specs.Choosing.{inARow, tooShort, allShort}
 use Rattle.calling.proofs.OneMs.{counted-more, counted-most, counted-other, tone-after, ms-after, choice-after, does-chosen}
 
--- a choice is for good: every later ms leaves the state as it is ..
-pub for-good : (s : Calling) (hs : List ℕ) → (s .choice ≡ 0 → ⊥) → after s hs ≡ s
-unfolding after
-for-good s [] c = refl
-for-good s (h ∷ hs) c = ap (λ (t : Calling). after t hs) (does-chosen s h c .leaves) ∙ for-good s hs c
+-- a choice is for good: every later ms leaves the state as it is and sends nothing
+module _ (s : Calling) (hs : List ℕ) (c : s .choice ≡ 0 → ⊥) where
+  abbrev still : Takes callingMs sentMs s hs (replicate (length hs) nothing) s
+  still = stays callingMs sentMs s nothing (λ h. does-chosen s h c .leaves) (λ h. does-chosen s h c .says) hs
 
--- .. and sends nothing
-pub for-good-sent : (s : Calling) (hs : List ℕ) → (s .choice ≡ 0 → ⊥) → sentOf s hs ≡ replicate (length hs) nothing
-unfolding sentOf
-for-good-sent s [] c = refl
-for-good-sent s (h ∷ hs) c =
-    let now = does-chosen s h c .says in
-    let later = ap (λ (t : Calling). sentOf t hs) (does-chosen s h c .leaves) ∙ for-good-sent s hs c in
-    λ i. now i ∷ later i
+  pub for-good : after s hs ≡ s
+  for-good = still .after
 
--- The ms of h in a row with this one, where n ms of t in a row came before it. Nothing bounds it.
-abbrev pub inARow : ℕ → ℕ → ℕ → ℕ
-inARow t n h = cond (eqb h t) (n + 1) 1
-
--- This ms of h is not the one in which a tone reaches its length.
-abbrev pub tooShort : ℕ → ℕ → Bool
-tooShort h n = eqb h none || ltb n (lengthOf h)
-
--- In none of the ms of hs a tone reaches its length, where n ms of t in a row came before them.
-unfoldable pub allShort : ℕ → ℕ → List ℕ → Bool
-allShort t n [] = true
-allShort t n (h ∷ hs) = tooShort h (inARow t n h) && allShort h (inARow t n h) hs
+  pub for-good-sent : sentOf s hs ≡ replicate (length hs) nothing
+  for-good-sent = still .found
 
 neither-first : (a b : Bool) → a || b ≡ false → a ≡ false
 neither-first true b e = e
@@ -78,16 +63,18 @@ counted-on s t n h c =
     (λ f.
     let g : n < enough h = ltb-true _ _ f in
     let m = b .below g in
-    rw (counted-more (s .tone) (s .ms) h (enough h) q (rw m g)) (record { below = λ _. ap (λ (k : ℕ). k + 1) m; above = λ l. omega arith }))
+    rw (counted-more (s .tone) (s .ms) h (enough h) q (rw m g))
+    (record { below = λ _. ap (λ (k : ℕ). k + 1) m; above = λ l. omega arith }))
     (λ f.
     let g : enough h ≤ n = ltb-false _ _ f in
     let m = b .above g in
-    rw (counted-most (s .tone) (s .ms) h (enough h) q m) (record { below = λ l. absurd (omega arith); above = λ _. m }))))
+    rw (counted-most (s .tone) (s .ms) h (enough h) q m)
+    (record { below = λ l. absurd (omega arith); above = λ _. m }))))
     (λ e.
     let q = counted-other (s .tone) (s .ms) h (enough h) (λ z. eqb-false _ _ e (z ∙ c .tone-is)) in
     rw q (simp e (record { below = λ _. refl; above = λ l. l })))
 
-counts-on : (s : Calling) (t n h : ℕ) → s .choice ≡ 0 → Counts s t n → Counts (stateAfter s h) h (inARow t n h)
+counts-on : (s : Calling) (t n h : ℕ) → s .choice ≡ 0 → Counts s t n → Counts (callingMs s h) h (inARow t n h)
 counts-on s t n h z c =
     record { tone-is = tone-after s h z; ms-is = rw (ms-after s h z) (counted-on s t n h c) }
 
@@ -100,40 +87,42 @@ counts-chosen h ms n b =
     simp (e, l))
 
 -- until the choice is made, a ms makes it or not by the ms in a row
-choice-by : (s : Calling) (h t n : ℕ) → s .choice ≡ 0 → Counts s t n → stateAfter s h .choice ≡ cond (tooShort h (inARow t n h)) 0 h
+choice-by : (s : Calling) (h t n : ℕ) → s .choice ≡ 0 → Counts s t n
+    → callingMs s h .choice ≡ cond (tooShort h (inARow t n h)) 0 h
 choice-by s h t n c k = choice-after s h c ∙ counts-chosen h (msAfter s h) (inARow t n h) (counted-on s t n h k)
 
 -- a ms in which no tone reaches its length makes no choice, and the count goes on
 short-ms : (s : Calling) (h t n : ℕ) → s .choice ≡ 0 → Counts s t n → tooShort h (inARow t n h) ≡ true
-    → (stateAfter s h .choice ≡ 0) × Counts (stateAfter s h) h (inARow t n h)
+    → (callingMs s h .choice ≡ 0) × Counts (callingMs s h) h (inARow t n h)
 short-ms s h t n c k e = (choice-by s h t n c k ∙ simp e, counts-on s t n h c k)
 
 -- the ms in which one does makes it, for good
 long-ms : (s : Calling) (h t n : ℕ) (ys : List ℕ) → s .choice ≡ 0 → Counts s t n → tooShort h (inARow t n h) ≡ false
     → after s (h ∷ ys) .choice ≡ h
-unfolding after
+unfolding stateAfter
 long-ms s h t n ys c k e =
-    let d : stateAfter s h .choice ≡ h = choice-by s h t n c k ∙ simp e in
+    let d : callingMs s h .choice ≡ h = choice-by s h t n c k ∙ simp e in
     let z : h ≡ none → ⊥ = λ q. eqb-false h none (neither-first (eqb h none) (ltb (inARow t n h) (lengthOf h)) e) q in
-    ap (λ (r : Calling). r .choice) (for-good (stateAfter s h) ys (λ q. z (sym d ∙ q))) ∙ d
+    ap (λ (r : Calling). r .choice) (for-good (callingMs s h) ys (λ q. z (sym d ∙ q))) ∙ d
 
-none-made : (hs : List ℕ) (s : Calling) (t n : ℕ) → s .choice ≡ 0 → Counts s t n → allShort t n hs ≡ true → after s hs .choice ≡ 0
-unfolding after allShort
+none-made : (hs : List ℕ) (s : Calling) (t n : ℕ) → s .choice ≡ 0 → Counts s t n → allShort t n hs ≡ true
+    → after s hs .choice ≡ 0
+unfolding stateAfter allShort
 none-made [] s t n c k e = c
 none-made (h ∷ hs) s t n c k e =
     let m = inARow t n h in
     let d = short-ms s h t n c k (and-left (tooShort h m) (allShort h m hs) e) in
-    none-made hs (stateAfter s h) h m (d .0) (d .1) (and-right (tooShort h m) (allShort h m hs) e)
+    none-made hs (callingMs s h) h m (d .0) (d .1) (and-right (tooShort h m) (allShort h m hs) e)
 
 made : (hs : List ℕ) (h : ℕ) (ys : List ℕ) (s : Calling) (t n : ℕ) → s .choice ≡ 0 → Counts s t n
     → allShort t n hs ≡ true → allShort t n (hs ++ (h ∷ [])) ≡ false → after s (hs ++ (h ∷ ys)) .choice ≡ h
-unfolding after allShort
+unfolding stateAfter allShort
 made [] h ys s t n c k e f = long-ms s h t n ys c k (sym (and-true (tooShort h (inARow t n h))) ∙ f)
 made (x ∷ hs) h ys s t n c k e f =
     let m = inARow t n x in
     let b = and-left (tooShort x m) (allShort x m hs) e in
     let d = short-ms s x t n c k b in
-    made hs h ys (stateAfter s x) x m (d .0) (d .1) (and-right (tooShort x m) (allShort x m hs) e) (simp b at f)
+    made hs h ys (callingMs s x) x m (d .0) (d .1) (and-right (tooShort x m) (allShort x m hs) e) (simp b at f)
 
 counts-own : (s : Calling) → Counts s (s .tone) (s .ms)
 counts-own s = record { tone-is = refl; ms-is = record { below = λ _. refl; above = λ g. g } }
@@ -163,18 +152,22 @@ unfolding fresh
 fresh-no-choice hs e = no-choice fresh refl hs (none-count hs pause 0 ∙ e)
 
 -- .. or this was the first
-pub fresh-choice-made : (hs : List ℕ) (h : ℕ) (ys : List ℕ) → allShort none 0 hs ≡ true → allShort none 0 (hs ++ (h ∷ [])) ≡ false
-    → after fresh (hs ++ (h ∷ ys)) .choice ≡ h
+pub fresh-choice-made : (hs : List ℕ) (h : ℕ) (ys : List ℕ) → allShort none 0 hs ≡ true
+    → allShort none 0 (hs ++ (h ∷ [])) ≡ false → after fresh (hs ++ (h ∷ ys)) .choice ≡ h
 unfolding fresh
 fresh-choice-made hs h ys e f =
     choice-made fresh refl hs h ys (none-count hs pause 0 ∙ e) (none-count (hs ++ (h ∷ [])) pause 0 ∙ f)
+
+or-short : (b : Bool) → (b || true) && true ≡ true
+or-short b = and-true (b || true) ∙ or-true b
 
 -- k ms of a tone and n more of it are too short
 row-short : (n k t : ℕ) → k + n < lengthOf t → allShort t k (replicate n t) ≡ true
 unfolding allShort
 row-short zero k t h = refl
 row-short (suc n) k t h =
-    simp (eq-eqb t t refl, lt-ltb (k + 1) (lengthOf t) (omega arith), row-short n (k + 1) t (omega arith)) (and-true (eqb t none || true) ∙ or-true (eqb t none))
+    simp (eq-eqb t t refl, lt-ltb (k + 1) (lengthOf t) (omega arith), row-short n (k + 1) t (omega arith))
+    (or-short (eqb t none))
 
 -- and one ms more is not, if they reach its length
 row-long : (n k t : ℕ) → (t ≡ none → ⊥) → suc (k + n) ≡ lengthOf t → allShort t k (replicate n t ++ (t ∷ [])) ≡ false
@@ -188,9 +181,10 @@ first-short : (n u m t : ℕ) → (t ≡ u → ⊥) → n < lengthOf t → allSh
 unfolding allShort
 first-short zero u m t other h = refl
 first-short (suc n) u m t other h =
-    simp (ne-eqb t u other, lt-ltb 1 (lengthOf t) (omega arith), row-short n 1 t (omega arith)) (and-true (eqb t none || true) ∙ or-true (eqb t none))
+    simp (ne-eqb t u other, lt-ltb 1 (lengthOf t) (omega arith), row-short n 1 t (omega arith)) (or-short (eqb t none))
 
-first-long : (n u m t : ℕ) → (t ≡ u → ⊥) → (t ≡ none → ⊥) → suc n ≡ lengthOf t → allShort u m (replicate n t ++ (t ∷ [])) ≡ false
+first-long : (n u m t : ℕ) → (t ≡ u → ⊥) → (t ≡ none → ⊥) → suc n ≡ lengthOf t
+    → allShort u m (replicate n t ++ (t ∷ [])) ≡ false
 unfolding allShort
 first-long zero u m t other z h = simp (ne-eqb t none z, ne-eqb t u other, le-ltb 1 (lengthOf t) (omega arith))
 first-long (suc n) u m t other z h =
@@ -202,6 +196,7 @@ module _ (s : Calling) (t n : ℕ) (unmade : s .choice ≡ 0) (other : t ≡ s .
   tone-too-short h = no-choice s unmade (replicate n t) (first-short n _ _ t other h)
 
   -- one that reaches it is, in that ms, and for good
-  pub tone-reaches : (ys : List ℕ) → (t ≡ none → ⊥) → suc n ≡ lengthOf t → after s (replicate n t ++ (t ∷ ys)) .choice ≡ t
+  pub tone-reaches : (ys : List ℕ) → (t ≡ none → ⊥) → suc n ≡ lengthOf t
+      → after s (replicate n t ++ (t ∷ ys)) .choice ≡ t
   tone-reaches ys z h =
       choice-made s unmade (replicate n t) t ys (first-short n _ _ t other (omega arith)) (first-long n _ _ t other z h)

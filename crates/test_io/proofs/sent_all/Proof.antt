@@ -1,9 +1,9 @@
--- `with_all` is safe and ends.
+-- `sent_all` is safe and ends.
 use Prim.Native.Nat.{_-_, _≤_}
 use borrow.Author.Needs.{needs}
 use lib.ListN.{length}
-use Rattle.calling_tables.proofs.with_all.Statement.{statement}
-use Rattle.calling_tables.proofs.with_all.Tie as tie
+use Rattle.test_io.proofs.sent_all.Statement.{statement}
+use Rattle.test_io.proofs.sent_all.Tie as tie
 
 abbrev Inv-loop : tie.InvT-loop
 Inv-loop sent row₀ i₀ row i = i ≤ length sent
@@ -14,11 +14,11 @@ abbrev μ-loop : tie.MeasureT-loop
 loop-holds : tie.Need-loop-holds Inv-loop μ-loop
 loop-holds c = search needs
 
-shared-slice-read-with-ms : tie.Need-shared-slice-read-with-ms Inv-loop μ-loop
-shared-slice-read-with-ms c = search needs
+shared-slice-read-with-sent : tie.Need-shared-slice-read-with-sent Inv-loop μ-loop
+shared-slice-read-with-sent c = search needs
 
-with-ms-requires : tie.Need-with-ms-requires Inv-loop μ-loop
-with-ms-requires c κs = search needs
+with-sent-requires : tie.Need-with-sent-requires Inv-loop μ-loop
+with-sent-requires c κs = search needs
 
 add-i : tie.Need-add-i Inv-loop μ-loop
 add-i c = search needs
@@ -32,15 +32,15 @@ loop-again c = search needs
 returns : tie.Need-returns Inv-loop μ-loop
 returns c = search needs
 
-pub with-all-spec : {M : Type 1} → statement M
-with-all-spec =
+pub sent-all-spec : {M : Type 1} → statement M
+sent-all-spec =
     tie.close
     (tie.spec
     Inv-loop
     μ-loop
     loop-holds
-    shared-slice-read-with-ms
-    with-ms-requires
+    shared-slice-read-with-sent
+    with-sent-requires
     add-i
     loop-less
     loop-again

@@ -1,0 +1,4 @@
+pub mod Calls
+pub mod Periods
+pub mod Pauses
+pub mod Choosing

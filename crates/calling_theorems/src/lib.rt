@@ -1,0 +1,1 @@
+// What a calling set sends and chooses over any number of ms and calls: theorems. No function.
