@@ -11,10 +11,10 @@ use Rattle.baudot.specs.declared.Sender.{Sender}
 use Rattle.baudot.specs.Sending.{shiftCode}
 use Rattle.signal.specs.Signal.{signal}
 use Rattle.burst.specs.Rules.{shiftWanted, senderAfterOwn}
-use Rattle.demand3.specs.Model.{Part, OwnCode, OnLine, Idle, Sending, Model, Loaded, Did, Step, Offer, Ms, offered, load, oneGone, ended, did, msAfter, does, takenIn}
+use Rattle.demand3.specs.Model.{Part, OwnCode, OnLine, Idle, Sending, Model, Loaded, Did, Step, Offer, Ms, offered, load, oneGone, ended, endsIn, did, msAfter, does, takenIn}
 use Rattle.demand3.specs.Reading.{synchronizes, atOnce, endsSynchronizing, untilSynchronized}
 use Rattle.demand3.proofs.Laws.{SenderIn, Room, LawsOf}
-use Rattle.demand3.proofs.Views.{Opens, opens, goes-on, Begins, stays, shifts, owns, Closes, ends, keeps, closed-view, Fine, fine-offered, fine-ms, load-view}
+use Rattle.demand3.proofs.Views.{Opens, opens, goes-on, Begins, stays, shifts, owns, Closes, closes, keeps, closed-view, Fine, fine-offered, fine-ms, load-view}
 
 -- while a synchronizing code is on the line, ms of it are left; otherwise at most n characters more are taken before one
 abbrev RoomBy : Mode → Bool → Sender → ℕ → List ℕ → Type 0
@@ -44,7 +44,7 @@ gone-room mode (Sending part []) s n h z = h
 gone-room mode (Sending part (x ∷ ms)) s n h z = room-gone mode (synchronizes (alphabetOf mode) part) s n x part ms refl h z
 
 closes-room : (mode : Mode) {on on′ : OnLine} (s : Sender) (n : ℕ) → Closes on on′ → RoomOn mode on s n → RoomOn mode on′ s n
-closes-room mode s n (ends {part}) h = none-left mode (synchronizes (alphabetOf mode) part) s n h
+closes-room mode s n (closes {part}) h = none-left mode (synchronizes (alphabetOf mode) part) s n h
 closes-room mode s n keeps h = h
 
 module _ (mode : Mode) (L : LawsOf mode) (later : atOnce (alphabetOf mode) ≡ false) where
@@ -72,7 +72,7 @@ module _ (mode : Mode) (L : LawsOf mode) (later : atOnce (alphabetOf mode) ≡ f
       let v = load-view mode L m f in
       let l = load mode m in
       let b = begins-room n (v .2) (f .sender-in) (opens-room (m .sender) n (v .1) h) in
-      (b .0, b .1, λ z. closes-room mode (l .sender) (b .0) (closed-view (l .waiting) (oneGone (l .onLine))) (gone-room mode (l .onLine) (l .sender) (b .0) (b .2) z))
+      (b .0, b .1, λ z. closes-room mode (l .sender) (b .0) (closed-view (endsIn mode m) (oneGone (l .onLine))) (gone-room mode (l .onLine) (l .sender) (b .0) (b .2) z))
 
   pub bound : (steps : List Step) (m : Model) (n : ℕ) → Fine mode m → RoomOn mode (m .onLine) (m .sender) n
       → let ds = does mode m steps in

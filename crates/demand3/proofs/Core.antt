@@ -27,7 +27,7 @@ use Rattle.reader.specs.Reader.{hear, inhibited}
 use Rattle.reader.specs.Words.{wordsOf, events, words}
 use Rattle.line_theorems.specs.Resting.{restsAll, Settled}
 use Rattle.line_theorems.proofs.Resting.{settles}
-use Rattle.demand3.specs.Model.{OnLine, Idle, Sending, Model, Loaded, Did, Step, Offer, Ms, freshModel, offered, load, levelOn, inBurst, oneGone, closed, did, msAfter, modelAfter, does, sentIn, takenIn}
+use Rattle.demand3.specs.Model.{OnLine, Idle, Sending, Model, Loaded, Did, Step, Offer, Ms, freshModel, offered, load, levelOn, inBurst, oneGone, closed, endsIn, did, msAfter, modelAfter, does, sentIn, takenIn}
 use Rattle.demand3.specs.Reading.{atOnce, mostBefore, untilSynchronized, synchronizedAfter, NoBurst, EndsIdle, eventsInhibited, Reads, ReadsAfterIdle}
 use Rattle.demand3.proofs.Cuts.{sent-append, does-append}
 use Rattle.demand3.proofs.Laws.{SenderIn, LawsOf, laws}
@@ -44,7 +44,7 @@ idle-of (Sending part ms) e = absurd (true≢false e)
 module _ (mode : Mode) where
   ms-idle : (m : Model) (x : ℕ) → did mode m .burst ≡ false → msAfter mode m x .onLine ≡ Idle
   unfolding did msAfter oneGone closed
-  ms-idle m x e = ap (λ (on : OnLine). closed (load mode m .waiting) (oneGone on)) (idle-of (load mode m .onLine) e)
+  ms-idle m x e = ap (λ (on : OnLine). closed (endsIn mode m) (oneGone on)) (idle-of (load mode m .onLine) e)
 
   ms-quiet : (m : Model) → did mode m .burst ≡ false → did mode m .sent ≡ 0
   unfolding did levelOn

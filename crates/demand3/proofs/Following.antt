@@ -14,13 +14,13 @@ use Rattle.reader.specs.declared.Reader.{Reader}
 use Rattle.reader.specs.Reader.{hear}
 use Rattle.reader.specs.Words.{wordOf, wordsOf, readerAfter, events, words}
 use Rattle.line_theorems.specs.Resting.{Settled}
-use Rattle.demand3.specs.Model.{OnLine, Idle, Sending, Model, Loaded, Did, Step, Offer, Ms, offered, load, levelOn, oneGone, ended, did, msAfter, modelAfter, does, sentIn, takenIn}
+use Rattle.demand3.specs.Model.{OnLine, Idle, Sending, Model, Loaded, Did, Step, Offer, Ms, offered, load, levelOn, oneGone, ended, endsIn, did, msAfter, modelAfter, does, sentIn, takenIn}
 use Rattle.demand3.specs.Reading.{synchronizes, endsSynchronizing, untilSynchronized}
 use Rattle.demand3.proofs.Laws.{SenderIn, Synchronized, LawsOf}
-use Rattle.demand3.proofs.Views.{left, Opens, opens, goes-on, Begins, stays, shifts, owns, Closes, ends, keeps, closed-view, Fine, fine-offered, fine-ms, load-view}
+use Rattle.demand3.proofs.Views.{left, Opens, opens, goes-on, Begins, stays, shifts, owns, Closes, closes, keeps, closed-view, Fine, fine-offered, fine-ms, load-view}
 
 closes-left : {on on′ : OnLine} → Closes on on′ → left on′ ≡ left on
-closes-left ends = refl
+closes-left closes = refl
 closes-left keeps = refl
 
 module _ (mode : Mode) (L : LawsOf mode) where
@@ -78,7 +78,7 @@ module _ (mode : Mode) (L : LawsOf mode) where
       let b = begins-after r (v .2) (f .sender-in) (o .0) in
       let l = load mode m in
       let g = gone-after (l .sender) r (l .onLine) (b .0) in
-      let c = closes-left (closed-view (l .waiting) (oneGone (l .onLine))) in
+      let c = closes-left (closed-view (endsIn mode m) (oneGone (l .onLine))) in
       record { then = rw c (g .0); text = rw (c, ← (o .1)) (g .1 ∙ b .1) }
 
   -- from a synchronized reader on, up to no burst: the words are those of what is left of a code and of all that is taken
@@ -133,7 +133,7 @@ module _ (mode : Mode) (L : LawsOf mode) where
   gone-before s r (Sending part (x ∷ ms)) h = record { between = h .between; due = h .due }
 
   closes-before : {on on′ : OnLine} (s : Sender) (r : Reader) → Closes on on′ → Before s r on → Before s r on′
-  closes-before s r ends h = record { between = h .between; due = tt }
+  closes-before s r closes h = record { between = h .between; due = tt }
   closes-before s r keeps h = h
 
   -- a synchronizing code has ended
@@ -154,7 +154,7 @@ module _ (mode : Mode) (L : LawsOf mode) where
       let v = load-view mode L m f in
       let l = load mode m in
       let g = gone-before (l .sender) r (l .onLine) (begins-before r (v .2) (f .sender-in) (opens-before (m .sender) r (v .1) h)) in
-      let c = closed-view (l .waiting) (oneGone (l .onLine)) in
+      let c = closed-view (endsIn mode m) (oneGone (l .onLine)) in
       let k = closes-left c in
       record {
         before = closes-before (l .sender) _ c g;

@@ -19,7 +19,7 @@ use Rattle.baudot.specs.Sending.{shiftCode, shifted}
 use Rattle.signal.specs.Signal.{preamble}
 use Rattle.burst.specs.declared.OnLine.{OnLine as Line}
 use Rattle.burst.specs.declared.Loaded.{Loaded as LoadedLine}
-use Rattle.burst.specs.Rules.{mayEnd, shiftWanted}
+use Rattle.burst.specs.Rules.{shiftWanted, senderAfterOwn}
 use Rattle.burst.specs.Line as line
 use Rattle.burst.specs.Line.{onLine, idle, partMs}
 use Rattle.demand3.specs.Model.{Part, Preamble, ShiftCode, OwnCode, OnLine, Idle, Sending, Loaded, isCodePart, begun, loaded, ownBegins, shiftBegins, codeBegins, nextCode, levelOn, inBurst, oneGone, closed}
@@ -84,27 +84,31 @@ module _ (mode : Mode) where
           subst (Stands mode (onLine n code at)) (rw z refl) (sending p code at)
 
   -- the burst ends, or goes on
-  stays-closed : (ws : List ℕ) (part : Part) (ms : List ℕ) (at : ℕ) → at < length ms → closed ws (Sending part (drop at ms)) ≡ Sending part (drop at ms)
+  stays-closed : (ends : Bool) (part : Part) (ms : List ℕ) (at : ℕ) → at < length ms
+      → closed ends (Sending part (drop at ms)) ≡ Sending part (drop at ms)
   unfolding closed
-  stays-closed ws part ms at h = rw (drop-cons ms at 0 h) refl
+  stays-closed ends part ms at h = rw (drop-cons ms at 0 h) refl
 
-  over-closed : (ws : List ℕ) (part : Part) (ms : List ℕ) (at : ℕ) → length ms ≤ at
-      → closed ws (Sending part (drop at ms)) ≡ cond (mayEnd (isCodePart part) (length ws)) Idle (Sending part (drop at ms))
+  over-closed : (ends : Bool) (part : Part) (ms : List ℕ) (at : ℕ) → length ms ≤ at
+      → closed ends (Sending part (drop at ms)) ≡ cond (isCodePart part && ends) Idle (Sending part (drop at ms))
   unfolding closed
-  over-closed ws part ms at h = rw (drop-of-length-le ms h) refl
+  over-closed ends part ms at h = rw (drop-of-length-le ms h) refl
 
-  pub closed-stands : {l : Line} {on : OnLine} (ws : List ℕ) → Stands mode l on → Stands mode (line.closed mode (length ws) l) (closed ws on)
+  pub closed-stands : {l : Line} {on : OnLine} (ends : Bool) → Stands mode l on
+      → Stands mode (line.closed mode ends l) (closed ends on)
   unfolding line.closed line.isOver closed
-  closed-stands ws rests = rests
-  closed-stands ws (sending {part} {n} p code at) = rw (no-burst p, no-code p) (go (leb (length ms) at) refl (mayEnd (isCodePart part) (length ws)) refl)
+  closed-stands ends rests = rests
+  closed-stands ends (sending {part} {n} p code at) =
+      rw (no-burst p, no-code p) (go (leb (length ms) at) refl (isCodePart part && ends) refl)
     where
       ms : List ℕ
       ms = partMs mode (onLine n code at)
 
-      go : (b : Bool) → leb (length ms) at ≡ b → (c : Bool) → mayEnd (isCodePart part) (length ws) ≡ c → Stands mode (cond (b && c) idle (onLine n code at)) (closed ws (Sending part (drop at ms)))
-      go true e true f = rw (over-closed ws part ms at (leb-true (length ms) at e), f) rests
-      go true e false f = rw (over-closed ws part ms at (leb-true (length ms) at e), f) (sending p code at)
-      go false e c f = rw (stays-closed ws part ms at (leb-false (length ms) at e)) (sending p code at)
+      go : (b : Bool) → leb (length ms) at ≡ b → (c : Bool) → isCodePart part && ends ≡ c
+          → Stands mode (cond (b && c) idle (onLine n code at)) (closed ends (Sending part (drop at ms)))
+      go true e true f = rw (over-closed ends part ms at (leb-true (length ms) at e), f) rests
+      go true e false f = rw (over-closed ends part ms at (leb-true (length ms) at e), f) (sending p code at)
+      go false e c f = rw (stays-closed ends part ms at (leb-false (length ms) at e)) (sending p code at)
 
   -- a burst begins, or what is on the line goes on
   preamble-stands : Stands mode (onLine 1 0 0) (Sending Preamble (preamble mode))
@@ -133,7 +137,7 @@ module _ (mode : Mode) where
       w : ℕ
       w = shiftWanted (alphabetOf mode) s own
 
-      go : (b : Bool) → LoadedLike (c ∷ cs) (cond b (line.loaded (onLine 2 (k .0) 0) (line.senderAfterOwn (alphabetOf mode) s) true) (line.loaded (onLine 2 (shiftCode w) 0) (shifted s w) false)) (cond b (ownBegins mode c cs s k) (shiftBegins mode c cs s w))
+      go : (b : Bool) → LoadedLike (c ∷ cs) (cond b (line.loaded (onLine 2 (k .0) 0) (senderAfterOwn (alphabetOf mode) s) true) (line.loaded (onLine 2 (shiftCode w) 0) (shifted s w) false)) (cond b (ownBegins mode c cs s k) (shiftBegins mode c cs s w))
       go true = record { line-is = sending own-2 (k .0) 0; sender-is = refl; waiting-is = refl }
       go false = record { line-is = sending shift-2 (shiftCode w) 0; sender-is = refl; waiting-is = refl }
 

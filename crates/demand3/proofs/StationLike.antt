@@ -16,8 +16,9 @@ use Rattle.alphabet.specs.Modes.{modeNumber, modeOf, alphabetOf, highestLevel}
 use Rattle.alphabet.specs.Normal.{sends, isCode}
 use Rattle.reader.specs.declared.Reader.{Reader}
 use Rattle.reader.specs.Reader.{fresh}
+use Rattle.burst.specs.declared.OnLine.{OnLine as Line}
 use Rattle.burst.specs.declared.Loaded.{Loaded as LoadedLine}
-use Rattle.burst.specs.Rules.{mayBegin, inhibitedAfter, isSilent, isInhibited as inhibitedBy}
+use Rattle.burst.specs.Rules.{mayBegin, mayEnd, inhibitedAfter, isSilent, isInhibited as inhibitedBy}
 use Rattle.burst.specs.Line as line
 use Rattle.half_duplex.specs.Core as core
 use Rattle.half_duplex.specs.Core.{readerMs, eventMs, settled, coreFrom}
@@ -29,7 +30,7 @@ use Rattle.station.specs.Range.{inRange}
 use Rattle.station.specs.Entries.{answered, isMode, openOf, offerAnswer}
 use Rattle.station.proofs.Range.{core-in, front-waits, fresh-in, fresh-full, ms-in, ms-full, accepted, offered-in, offered-full}
 use Rattle.half_duplex.proofs.Range.{takes-waiting}
-use Rattle.demand3.specs.Model.{Model, Loaded, freshModel, offered, begun, nextCode, load, inBurst, oneGone, closed, isInhibited, silenceAfter, did, msAfter}
+use Rattle.demand3.specs.Model.{Model, Loaded, freshModel, offered, begun, nextCode, load, inBurst, oneGone, closed, isInhibited, silenceAfter, endsIn, did, msAfter}
 use Rattle.demand3.specs.Calls.{opened}
 use Rattle.demand3.proofs.Stands.{Stands, rests, LoadedLike, Heads, none, some, burst-same, level-same, gone-stands, closed-stands, begun-stands, next-like}
 
@@ -157,25 +158,37 @@ module _ (mode : Mode) (s : Station) (m : Model) (r : Reader) (h : Like mode s m
             ap (drop 1) (h .waiting-is) ∙ sym (waiting-taken (alphabetOfStation s) (queueOf s) (h .full) o (core-in s (h .in-range) .waiting-in))
         go false e = h .waiting-is
 
-    pub ms-like : heard ≤ highestLevel mode → Like mode (stationMs s heard) (msAfter mode m heard) (readerMs mode (isInhibited mode m) r heard)
-    unfolding stationMs coreFrom msAfter
+    -- the burst is to end with the ms, or not
+    ends-same : inRange (stationMs s heard) ≡ true → core.endsIn (s .core) x ≡ endsIn mode m
+    unfolding stationMs coreFrom
+    ends-same i =
+        ap mayEnd (sym (count-is (stationMs s heard) (ms-full s heard (h .full)) i) ∙ ap length (sym waiting-after))
+
+    pub ms-like : heard ≤ highestLevel mode
+        → Like mode (stationMs s heard) (msAfter mode m heard) (readerMs mode (isInhibited mode m) r heard)
+    unfolding stationMs coreFrom msAfter isInhibited
     ms-like l =
-        let i = ms-in s heard (h .full) (h .in-range) (subst (λ (d : Mode). heard ≤ highestLevel d) (sym mode-same) l) in
-        let f = ms-full s heard (h .full) in
-        let n : core.waitingAfter (x .takes) (s .core .waiting) ≡ length (y .waiting) = sym (count-is (stationMs s heard) f i) ∙ ap length (sym waiting-after) in
+        let k = subst (λ (d : Mode). heard ≤ highestLevel d) (sym mode-same) l in
+        let i = ms-in s heard (h .full) (h .in-range) k in
+        let ends = ends-same i in
+        let inhibited = inhibited-same in
+        let silent = isSilent (isInhibited mode m) heard in
         record {
           in-range = i;
-          full = f;
+          full = ms-full s heard (h .full);
           mode-is = h .mode-is;
           waiting-is = waiting-after;
           line-is =
-              subst (λ (d : Mode). Stands mode (line.closed d (core.waitingAfter (x .takes) (s .core .waiting)) (line.oneGone d (x .line))) (closed (y .waiting) (oneGone (y .onLine)))) (sym mode-same)
-              (subst (λ (k : ℕ). Stands mode (line.closed mode k (line.oneGone mode (x .line))) (closed (y .waiting) (oneGone (y .onLine)))) (sym n)
-              (closed-stands mode (y .waiting) (gone-stands mode (settled-like .line-is))));
+              subst (λ (l : Line). Stands mode l (closed (endsIn mode m) (oneGone (y .onLine))))
+              (λ j. line.closed (sym mode-same j) (sym ends j) (line.oneGone (sym mode-same j) (x .line)))
+              (closed-stands mode (endsIn mode m) (gone-stands mode (settled-like .line-is)));
           sender-is = settled-like .sender-is;
-          silence-is = subst (λ (b : Bool). Capped (silenceAfter (isSilent (isInhibited mode m) heard) (m .silence)) (core.silenceAfter (isSilent b heard) (s .core .silence))) (sym inhibited-same) (capped-after (isSilent (isInhibited mode m) heard) (h .silence-is));
+          silence-is =
+              subst (λ (n : ℕ). Capped (silenceAfter silent (m .silence)) n)
+              (λ j. core.silenceAfter (isSilent (sym inhibited j) heard) (s .core .silence))
+              (capped-after silent (h .silence-is));
           inhibited-is = λ j. inhibitedAfter (burst-is j) (h .inhibited-is j);
-          reader-is = λ j. readerMs (mode-same j) (inhibited-same j) (h .reader-is j) heard;
+          reader-is = λ j. readerMs (mode-same j) (inhibited j) (h .reader-is j) heard;
         }
 
   -- an offer that succeeds

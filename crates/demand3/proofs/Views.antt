@@ -1,7 +1,7 @@
 -- What a ms of the send model can begin with and end in: views that every proof over the model goes by. When a burst begins
 -- and ends is left open in them.
 use mathlib.Core.Path.{_≡_, refl, sym, subst}
-use mathlib.Core.Bool.{Bool, true, false, cond, true≢false}
+use mathlib.Core.Bool.{Bool, true, false, cond, _&&_, true≢false}
 use mathlib.Core.List.{List, [], _∷_, _++_}
 use Prim.Native.Nat.{ℕ}
 use native.Mathlib.Omega.{arith}
@@ -47,7 +47,7 @@ pub data Begins (mode : Mode) : List ℕ → OnLine → Sender → Loaded → Ty
 
 -- the burst ends, or goes on
 pub data Closes : OnLine → OnLine → Type 0 where
-  ends : {part : Part} → Closes (Sending part []) Idle
+  closes : {part : Part} → Closes (Sending part []) Idle
   keeps : {on : OnLine} → Closes on on
 
 begun-view : (mode : Mode) (may : Bool) (on : OnLine) → Opens mode on (begun mode may on)
@@ -72,14 +72,14 @@ next-view mode waiting (Sending part (x ∷ ms)) s h = stays
 next-view mode [] (Sending part []) s h = stays
 next-view mode (c ∷ cs) (Sending part []) s h = code-view mode part c cs s (h .0)
 
-pub closed-view : (waiting : List ℕ) (on : OnLine) → Closes on (closed waiting on)
+pub closed-view : (ends : Bool) (on : OnLine) → Closes on (closed ends on)
 unfolding closed
-closed-view waiting Idle = keeps
-closed-view waiting (Sending part (x ∷ ms)) = keeps
-closed-view waiting (Sending part []) = go (mayEnd (isCodePart part) (length waiting))
+closed-view ends Idle = keeps
+closed-view ends (Sending part (x ∷ ms)) = keeps
+closed-view ends (Sending part []) = go (isCodePart part && ends)
   where
     go : (b : Bool) → Closes (Sending part []) (cond b Idle (Sending part []))
-    go true = ends
+    go true = closes
     go false = keeps
 
 -- what each ms keeps: those that wait send something, and the sender is one that the rule can have
