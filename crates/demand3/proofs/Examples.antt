@@ -10,6 +10,7 @@ use borrow.Author.Tests.{eqb-true, not-true}
 use Rattle.lists.specs.Lists.{allAtMost}
 use Rattle.lists.specs.Tables.{tabulate}
 use Rattle.lists.proofs.Lists.{and-left, and-right}
+use Rattle.alphabet.specs.declared.Mode.{Mode}
 use Rattle.alphabet.specs.Print.{leftRows, rightRows, rows, bitsFrom, bits, keys}
 use Rattle.alphabet.specs.TableA1.{a1}
 use Rattle.alphabet.specs.TableA2.{a2}
@@ -29,16 +30,20 @@ use Rattle.line_theorems.specs.Examples.{chars}
 use Rattle.queue.specs.Queue.{waiters}
 use Rattle.burst.specs.Rules.{mayBegin, mayEnd}
 use Rattle.station.specs.Station.{hasDel}
-use Rattle.demand3.specs.Model.{Step, Offer, Ms, Did, freshModel, offered, begun, codeBegins, nextCode, load, levelOn, oneGone, ended, closed, isInhibited, did, msAfter, modelAfter, does, sentIn, takenIn, heardIn}
+use Rattle.demand3.specs.Model.{Model, Step, Offer, Ms, Did, freshModel, offered, begun, codeBegins, nextCode, load}
+use Rattle.demand3.specs.Model.{levelOn, oneGone, ended, closed, did, msAfter, modelAfter, does, sentIn, takenIn}
+use Rattle.demand3.specs.Model.{heardIn, msIn, OffersNone}
 use Rattle.demand3.specs.Reading.{synchronizes, untilSynchronized, synchronizedAfter, NoBurst, EndsIdle}
-use Rattle.demand3.specs.BothModels.{OffersNone, stationEvents}
-use Rattle.demand3.specs.Calls.{opened, accepts, modelSteps, msIn}
-use Rattle.demand3.specs.Demand3.{Lists, theMode, theAlphabet, didsA, between, Premises, followsA, synchronized, wordsBefore}
-use Rattle.demand3.specs.Examples.{Example, Holds, Mistaken, AllHold, callsA45, line45, callsB45, baudot45, callsA50, line50, laterLine50, lastLine50, callsB50, baudot50, callsAKeys, callsBKeys, dtmf, callsAEdt, callsBEdt, edt}
-use Rattle.demand3.proofs.StationLike.{opened-like}
-use Rattle.demand3.proofs.Calls.{words-up-to}
-use Rattle.demand3.proofs.Demand3.{of-calls, steps-are, demand-3}
-use Rattle.demand3.proofs.Cuts.{does-length}
+use Rattle.demand3.specs.Demand3.{Lists, theMode, theAlphabet, didsA, between, Premises, followsA, synchronized}
+use Rattle.demand3.specs.Demand3.{wordsBefore}
+use Rattle.demand3.specs.Examples.{Example, Holds, Mistaken, AllHold, callsA45, line45, callsB45, baudot45}
+use Rattle.demand3.specs.Examples.{callsA50, line50, laterLine50, lastLine50, callsB50, baudot50}
+use Rattle.demand3.specs.Examples.{callsAKeys, callsBKeys, dtmf, callsAEdt, callsBEdt, edt}
+use Rattle.demand3.proofs.Told.{inhibitedBy, msBy, toldEvents}
+use Rattle.demand3.proofs.Cuts.{behind, does-length}
+use Rattle.demand3.proofs.OwnRules.{toldOf, own-does, own-heard}
+use Rattle.demand3.proofs.Accepts.{accepts, modelSteps, steps-are}
+use Rattle.demand3.proofs.Demand3.{sends-as-model, words-are, demand-3}
 
 noBurst : List Did → Bool
 noBurst [] = true
@@ -66,8 +71,8 @@ front-back : (n : ℕ) (steps : List Step) → steps ≡ frontMs n steps ++ back
 unfolding frontMs backMs
 front-back zero steps = refl
 front-back (suc n) [] = refl
-front-back (suc n) (Offer cs ∷ steps) = ap (λ (l : List Step). Offer cs ∷ l) (front-back (suc n) steps)
-front-back (suc n) (Ms x ∷ steps) = ap (λ (l : List Step). Ms x ∷ l) (front-back n steps)
+front-back (suc n) (Offer cs ∷ steps) = behind (front-back (suc n) steps)
+front-back (suc n) (Ms x ∷ steps) = behind (front-back n steps)
 
 -- the steps of both, by their models; those of B before the idle period, and from its start to the ms asked about
 abbrev modelA : Lists → List Step
@@ -119,8 +124,12 @@ didsOf d = does (theMode d) freshModel (modelA d)
 abbrev follows : Lists → List Did → List Did
 follows d ds = between (d .openA) (d .start + 300) (d .asked + 1) ds
 
+abbrev wordsBy : Lists → ℕ → List Step → List ℕ
+wordsBy d t steps =
+    wordsOf (take (t - d .openB) (toldEvents (theMode d) freshModel fresh (toldOf (theMode d) freshModel steps)))
+
 abbrev wordsTo : Lists → ℕ → List ℕ
-wordsTo d t = wordsOf (take (t - d .openB) (stationEvents (theMode d) freshModel fresh (modelB d)))
+wordsTo d t = wordsBy d t (modelB d)
 
 record Found : Type 0 where
   count : ℕ
@@ -165,6 +174,11 @@ record Checks (e : Example) : Type 0 where
     hears = true;
   }
 
+dids-length : (mode : Mode) (steps : List Step) → length (does mode freshModel steps) ≡ msIn steps
+dids-length mode steps =
+    ap length (sym (own-does mode steps freshModel)) ∙ does-length mode (toldOf mode freshModel steps) freshModel
+    ∙ ap length (own-heard mode steps freshModel)
+
 premises-of : (e : Example) → Checks e → Premises (e .lists)
 unfolding found
 premises-of e c =
@@ -174,7 +188,7 @@ premises-of e c =
     let later = front-back (d .asked + 1 - d .openB - (d .start - d .openB)) (laterOf d) in
     record {
       later = c .later;
-      run-A = subst (λ (n : ℕ). d .asked < d .openA + n) (sym (ap (λ (x : Found). x .count) (c .found-is)) ∙ does-length (theMode d) (modelA d) freshModel ∙ ap msIn a) (c .run-A);
+      run-A = subst (λ (n : ℕ). d .asked < d .openA + n) (sym (ap (λ (x : Found). x .count) (c .found-is)) ∙ dids-length (theMode d) (modelA d) ∙ ap msIn a) (c .run-A);
       run-B = subst (λ (l : List Step). d .asked < d .openB + msIn l) b (c .run-B);
       opened-A = c .opened-A;
       idle-A = subst (λ (l : List Step). NoBurst (between (d .openA) (d .start) (d .start + 300) (does (theMode d) freshModel l))) a (by-test _ (ap (λ (x : Found). x .idle) (c .found-is)));
@@ -192,13 +206,11 @@ premises-of e c =
       hears =
           ap (λ (l : List Step). between (d .openB) (d .start + 260) (d .asked + 1) (heardIn l)) (sym b) ∙ same-by _ _ (ap (λ (x : Found). x .hears) (c .found-is))
           ∙ ap (λ (l : List Step). between (d .openA) (d .start + 260) (d .asked + 1) (sentIn (does (theMode d) freshModel l))) a
-          ∙ ap (between (d .openA) (d .start + 260) (d .asked + 1)) (sym (of-calls (d .mode) (d .callsA) .sent-are));
+          ∙ ap (between (d .openA) (d .start + 260) (d .asked + 1)) (sym (sends-as-model (d .mode) (d .callsA)));
     }
 
 words-to : (d : Lists) (t : ℕ) → wordsBefore d t ≡ wordsTo d t
-words-to d t =
-    words-up-to (theMode d) (d .callsB) (t - d .openB) (opened (d .mode)) freshModel fresh (opened-like (d .mode))
-    ∙ ap (λ (l : List Step). wordsOf (take (t - d .openB) (stationEvents (theMode d) freshModel fresh l))) (steps-are (d .mode) (d .callsB))
+words-to d t = words-are d t ∙ ap (wordsBy d t) (steps-are (d .mode) (d .callsB))
 
 holds-of : (e : Example) → Checks e → Holds e
 unfolding found
@@ -217,7 +229,7 @@ holds-of e c =
     }
 
 checks-45 : Checks baudot45
-unfolding noBurst same found frontMs backMs baudot45 callsA45 line45 callsB45 OffersNone chars accepts modelSteps waiters heardIn offered mayBegin mayEnd begun codeBegins nextCode load levelOn oneGone ended closed isInhibited did msAfter modelAfter does takenIn allAtMost sends reads signal signals normalForm endsIdle synchronizes untilSynchronized wanted sendBaudot readBaudot printedAt leftRows rightRows rows bits bitsFrom a1 a2 digits held baudotSignal
+unfolding noBurst same found frontMs backMs baudot45 callsA45 line45 callsB45 OffersNone chars accepts modelSteps waiters heardIn offered mayBegin mayEnd begun codeBegins nextCode load levelOn oneGone ended closed did msAfter modelAfter does takenIn allAtMost sends reads signal signals normalForm endsIdle synchronizes untilSynchronized wanted sendBaudot readBaudot printedAt leftRows rightRows rows bits bitsFrom a1 a2 digits held baudotSignal
 checks-45 = record {
   later = omega arith;
   count-A = 2_086;
@@ -235,7 +247,7 @@ checks-45 = record {
 }
 
 checks-50 : Checks baudot50
-unfolding noBurst same found frontMs backMs baudot50 callsA50 line50 laterLine50 lastLine50 callsB50 OffersNone chars accepts modelSteps waiters heardIn offered mayBegin mayEnd begun codeBegins nextCode load levelOn oneGone ended closed isInhibited did msAfter modelAfter does takenIn allAtMost sends reads signal signals normalForm endsIdle synchronizes untilSynchronized wanted sendBaudot readBaudot printedAt leftRows rightRows rows bits bitsFrom a1 a2 digits held baudotSignal
+unfolding noBurst same found frontMs backMs baudot50 callsA50 line50 laterLine50 lastLine50 callsB50 OffersNone chars accepts modelSteps waiters heardIn offered mayBegin mayEnd begun codeBegins nextCode load levelOn oneGone ended closed did msAfter modelAfter does takenIn allAtMost sends reads signal signals normalForm endsIdle synchronizes untilSynchronized wanted sendBaudot readBaudot printedAt leftRows rightRows rows bits bitsFrom a1 a2 digits held baudotSignal
 checks-50 = record {
   later = omega arith;
   count-A = 12_451;
@@ -253,7 +265,7 @@ checks-50 = record {
 }
 
 checks-dtmf : Checks dtmf
-unfolding noBurst same found frontMs backMs dtmf callsAKeys callsBKeys OffersNone chars accepts modelSteps waiters heardIn offered mayBegin mayEnd begun codeBegins nextCode load levelOn oneGone ended closed isInhibited did msAfter modelAfter does takenIn allAtMost sends reads signal signals normalForm endsIdle synchronizes untilSynchronized keys prefixes keysOf heldKeys withMark codeFrom marksThenDigit among notStruck remaining names firstSign named readIn readDtmf sendIn hasRow sendFrom sendDtmf leftRows rightRows rows b1 b2 printedAt
+unfolding noBurst same found frontMs backMs dtmf callsAKeys callsBKeys OffersNone chars accepts modelSteps waiters heardIn offered mayBegin mayEnd begun codeBegins nextCode load levelOn oneGone ended closed did msAfter modelAfter does takenIn allAtMost sends reads signal signals normalForm endsIdle synchronizes untilSynchronized keys prefixes keysOf heldKeys withMark codeFrom marksThenDigit among notStruck remaining names firstSign named readIn readDtmf sendIn hasRow sendFrom sendDtmf leftRows rightRows rows b1 b2 printedAt
 checks-dtmf = record {
   later = omega arith;
   count-A = 1_201;
@@ -271,7 +283,7 @@ checks-dtmf = record {
 }
 
 checks-edt : Checks edt
-unfolding noBurst same found frontMs backMs edt callsAEdt callsBEdt OffersNone chars accepts modelSteps waiters heardIn offered mayBegin mayEnd begun codeBegins nextCode load levelOn oneGone ended closed isInhibited did msAfter modelAfter does takenIn allAtMost sends reads signal signals normalForm endsIdle synchronizes untilSynchronized edtSignal edtElements digits sum tabulate
+unfolding noBurst same found frontMs backMs edt callsAEdt callsBEdt OffersNone chars accepts modelSteps waiters heardIn offered mayBegin mayEnd begun codeBegins nextCode load levelOn oneGone ended closed did msAfter modelAfter does takenIn allAtMost sends reads signal signals normalForm endsIdle synchronizes untilSynchronized edtSignal edtElements digits sum tabulate
 checks-edt = record {
   later = omega arith;
   count-A = 901;
@@ -290,7 +302,7 @@ checks-edt = record {
 
 -- what B makes of TOO
 mistaken-model : wordsTo (baudot45 .lists) (1_780 + synchronizedAfter (theMode (baudot45 .lists)) (follows (baudot45 .lists) (didsOf (baudot45 .lists)))) ≡ faultWord ∷ chars "599"
-unfolding baudot45 callsA45 line45 callsB45 chars accepts modelSteps waiters hasDel heardIn offered mayBegin mayEnd begun codeBegins nextCode load levelOn oneGone ended closed isInhibited did msAfter modelAfter does takenIn allAtMost sends reads signal signals normalForm endsIdle synchronizes untilSynchronized wanted sendBaudot readBaudot printedAt leftRows rightRows rows bits bitsFrom a1 a2 digits held baudotSignal stationEvents hear inhibited wordsOf lastMs placed sampleAt samplesOf sampled frameStep baudotKinds
+unfolding baudot45 callsA45 line45 callsB45 chars accepts modelSteps waiters hasDel heardIn offered mayBegin mayEnd begun codeBegins nextCode load levelOn oneGone ended closed did msAfter modelAfter does takenIn allAtMost sends reads signal signals normalForm endsIdle synchronizes untilSynchronized wanted sendBaudot readBaudot printedAt leftRows rightRows rows bits bitsFrom a1 a2 digits held baudotSignal toldOf toldEvents msBy inhibitedBy hear inhibited wordsOf lastMs placed sampleAt samplesOf sampled frameStep baudotKinds
 mistaken-model = refl
 
 mistaken : Mistaken

@@ -10,10 +10,9 @@ use Rattle.alphabet.specs.declared.Mode.{Mode}
 use Rattle.alphabet.specs.Modes.{modeOf, alphabetOf}
 use Rattle.alphabet.specs.Normal.{normalForm, allChars}
 use Rattle.reader.specs.Words.{characterWord}
-use Rattle.demand3.specs.Model.{Step, Did, freshModel, modelAfter, does, sentIn, takenIn, heardIn}
+use Rattle.demand3.specs.Model.{Step, Did, freshModel, modelAfter, does, heardIn, msIn, OffersNone, sentIn, takenIn}
 use Rattle.demand3.specs.Reading.{synchronizedAfter, mostBefore, NoBurst, EndsIdle}
-use Rattle.demand3.specs.BothModels.{OffersNone}
-use Rattle.demand3.specs.Calls.{Call, RunCall, opened, succeeds, leftBy, sentBy, wordsBy, stepsBy, msIn, upTo}
+use Rattle.demand3.specs.Calls.{Call, RunCall, opened, succeeds, leftBy, sentBy, wordsBy, stepsBy, upTo}
 
 -- D3: "every list of offers and runs on station A and every such list on station B, refused calls among them", "whatever A
 -- hears": any calls. 01: "One clock numbers the ms of both."

@@ -1,6 +1,7 @@
 -- Document 01, "Demand 3 is a single claim": the send model (there: a station's book), ms by ms. It is kept from offers that
 -- succeed and heard ms alone, and never looks at a station.
 use Prim.Native.Nat.{ℕ, suc}
+use mathlib.Core.Path.{_≡_}
 use mathlib.Core.Bool.{Bool, true, false, cond, _&&_}
 use mathlib.Core.List.{List, [], _∷_, _++_, map}
 use lib.Dec.{eqb}
@@ -199,6 +200,16 @@ unfoldable pub heardIn : List Step → List ℕ
 heardIn [] = []
 heardIn (Offer cs ∷ steps) = heardIn steps
 heardIn (Ms heard ∷ steps) = heard ∷ heardIn steps
+
+-- How many ms there are in them.
+abbrev pub msIn : List Step → ℕ
+msIn steps = length (heardIn steps)
+
+-- No offer that holds a character succeeds.
+unfoldable pub OffersNone : List Step → Type 0
+OffersNone [] = Unit {0}
+OffersNone (Offer cs ∷ steps) = (cs ≡ []) × OffersNone steps
+OffersNone (Ms heard ∷ steps) = OffersNone steps
 
 -- The levels sent and the characters taken in some ms, in order.
 abbrev pub sentIn : List Did → List ℕ
