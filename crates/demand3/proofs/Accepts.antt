@@ -22,8 +22,8 @@ use Rattle.demand3.proofs.OwnRules.{own-after}
 use Rattle.demand3.proofs.StationLike.{Like, mode-same, count-same, opened-like}
 use Rattle.demand3.proofs.Calls.{offer-succeeds, run-succeeds, toldFor, call-like}
 
--- Questions 3 and 4, the latter by those that wait in the model; 5 to 8. (After calls on a fresh station the answer to question 1
--- is yes.)
+-- Questions 3 and 4, the latter by those that wait in the model; 5 to 8. (After calls on a fresh station the answer to
+-- question 1 is yes.)
 unfoldable pub accepts : Mode → Model → Call → Bool
 accepts mode m (OfferCall text) =
     allChars text && leb (length (m .waiting) + length (waiters (alphabetOf mode) text)) 256
@@ -78,7 +78,8 @@ module _ (mode : Mode) where
       let told = toldFor mode m s c in
       let e : steps ≡ cond (accepts mode m c) (stepsIf c) [] =
       ap (λ (b : Bool). cond b (stepsIf c) []) (accepts-is c s m r h) in
-      let i = model-steps cs (left s c) (toldAfter mode m told) (toldReader mode m r told) (call-like mode c s m r h .like) in
+      let like = call-like mode c s m r h .like in
+      let i = model-steps cs (left s c) (toldAfter mode m told) (toldReader mode m r told) like in
       (λ j. steps ++ i j) ∙ ap (λ (k : Model). steps ++ modelSteps mode k cs) (own-after mode steps m)
       ∙ ap (λ (l : List Step). l ++ modelSteps mode (modelAfter mode m l) cs) e
 

@@ -1,4 +1,5 @@
--- How many characters are taken before the synchronizing code has ended, by a model that is told when a burst begins and ends.
+-- How many characters are taken before the synchronizing code has ended, by a model that is told when a burst begins and
+-- ends.
 use mathlib.Core.Path.{_≡_, _∙_, refl, sym}
 use mathlib.Core.Bool.{Bool, true, false, cond, true≢false}
 use mathlib.Core.List.{List, [], _∷_, append-nil}
@@ -19,7 +20,8 @@ use Rattle.demand3.proofs.Laws.{SenderIn, Room, LawsOf}
 use Rattle.demand3.proofs.Views.{Opens, opens, goes-on, Begins, stays, shifts, owns, Closes, closes, keeps}
 use Rattle.demand3.proofs.Views.{closed-view, Fine, fine-offered, fine-ms, load-view}
 
--- while a synchronizing code is on the line, ms of it are left; otherwise at most n characters more are taken before one
+-- while a synchronizing code is on the line, ms of it are left; otherwise at most n characters more are taken before
+-- one
 abbrev RoomBy : Mode → Bool → Sender → ℕ → List ℕ → Type 0
 RoomBy mode true s n xs = 0 < length xs
 RoomBy mode false s n xs = Room (alphabetOf mode) s n

@@ -1,5 +1,5 @@
--- A list of calls on a station goes with its model and reader, told by the station's own rules: what it sends, what it hears, and
--- its words up to a cut after any ms.
+-- A list of calls on a station goes with its model and reader, told by the station's own rules: what it sends, what it
+-- hears, and its words up to a cut after any ms.
 use mathlib.Core.Path.{_≡_, _∙_, refl, sym, ap, subst}
 use mathlib.Core.Bool.{Bool, true, false, cond}
 use mathlib.Core.Logic.{_⊎_, inl, inr}
@@ -20,7 +20,7 @@ use Rattle.reader.specs.declared.Reader.{Reader}
 use Rattle.reader.specs.Words.{wordsOf}
 use Rattle.reader.proofs.WordLists.{words-append}
 use Rattle.station.specs.declared.Station.{Station}
-use Rattle.station.specs.Station.{offeredTo, stationMs, eventOf, stationAfter, eventsBy, sentBy as sentRun, wordsBy as wordsRun}
+use Rattle.station.specs.Station.{offeredTo, stationMs, stationAfter, eventsBy, sentBy as sentRun, wordsBy as wordsRun}
 use Rattle.station.specs.Entries.{StationAnswered, StationRan, answered, ran, offerAnswer, offerOf, runAnswer, ranOf}
 use Rattle.station.specs.Entries.{sentAfter, wordsAfter}
 use Rattle.station.proofs.Range.{highest-16, runs}
@@ -30,8 +30,10 @@ use Rattle.station.proofs.Cuts.{first-runs}
 use Rattle.demand3.specs.Model.{Model, Ms, beginsIn, load, endsIn, msAfter, sentIn, heardIn, msIn}
 use Rattle.demand3.specs.Calls.{Call, OfferCall, RunCall, left, succeeds, sentFor, wordsFor, stepsFor}
 use Rattle.demand3.specs.Calls.{sentBy, wordsBy, stepsBy, cutFor, upTo}
-use Rattle.demand3.proofs.Told.{Told, msBy, readerBy, toldAfter, toldDoes, toldHeard, toldMs, toldReader, toldEvents}
-use Rattle.demand3.proofs.Cuts.{behind, take-append, heard-append, sent-append, does-append, events-append, events-length}
+use Rattle.demand3.proofs.Told.{Told, msBy, readerBy, toldAfter, toldDoes, toldHeard, toldMs, toldReader}
+use Rattle.demand3.proofs.Told.{toldEvents}
+use Rattle.demand3.proofs.Cuts.{behind, take-append, heard-append, sent-append, does-append, events-append}
+use Rattle.demand3.proofs.Cuts.{events-length}
 use Rattle.demand3.proofs.OwnRules.{toldOf, own-heard, own-append}
 use Rattle.demand3.proofs.StationLike.{Like, mode-same, sent-same, event-same, ms-like, offer-like}
 
@@ -244,7 +246,8 @@ module _ (mode : Mode) where
           levels = rw heard-is (at-most-more (highestLevel mode) 16 heard (highest-16 mode) levels-in);
           words-cut = λ n.
               let y = run-cut n s heard (length sent) (length words) z in
-              rw e (words-of (take n heard) sent words s y ∙ ap wordsOf (outputs-take n heard s ∙ ap (take n) (g .events-are)));
+              let es = outputs-take n heard s ∙ ap (take n) (g .events-are) in
+              rw e (words-of (take n heard) sent words s y ∙ ap wordsOf es);
           left-cut = λ n. rw e (cut-by n (leb (length heard) n) refl);
         })
 
@@ -313,12 +316,13 @@ module _ (mode : Mode) where
       let k = suc n - msIn (stepsFor s c) in
       let heard = ap length (own-heard mode (stepsFor s c) m) in
       let z : suc n - length es ≡ k = ap (λ (j : ℕ). suc n - j) (events-length mode told m r ∙ heard) in
-      let cut = subst (λ (j : ℕ). (left s (cutFor s c (suc n)) ≡ left s c) ⊎ (suc n - j ≡ 0)) heard (g .left-cut (suc n)) in
+      let t = left s (cutFor s c (suc n)) in
+      let cut = subst (λ (j : ℕ). (t ≡ left s c) ⊎ (suc n - j ≡ 0)) heard (g .left-cut (suc n)) in
       let i = words-up-to cs k (left s c) m′ r′ (g .like) in
       let all : toldEvents mode m r (toldBy m s (c ∷ cs)) ≡ es ++ fs =
       ap (toldEvents mode m r) (told-calls c cs s m) ∙ events-append mode told next m r in
       let parts = take-append (suc n) es fs ∙ ap (λ (j : ℕ). take (suc n) es ++ take j fs) z in
-      (λ j. g .words-cut (suc n) j ++ go k fs (left s (cutFor s c (suc n))) cut i j)
+      (λ j. g .words-cut (suc n) j ++ go k fs t cut i j)
       ∙ sym (words-append (take (suc n) es) (take k fs))
       ∙ ap wordsOf (sym (ap (take (suc n)) all ∙ parts))
     where

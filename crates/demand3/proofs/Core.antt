@@ -1,5 +1,5 @@
--- THE CORE OF DEMAND 3: after an idle period (there: a rest) a reader reads what a model takes that is told, ms by ms, when a
--- burst begins and ends, whoever tells it.
+-- THE CORE OF DEMAND 3: after an idle period (there: a rest) a reader reads what a model takes that is told, ms by ms, when
+-- a burst begins and ends, whoever tells it.
 use mathlib.Core.Path.{_≡_, _∙_, refl, sym, ap, subst}
 use mathlib.Core.Bool.{Bool, true, false, cond, true≢false}
 use mathlib.Core.Logic.{inl}
@@ -36,7 +36,8 @@ use Rattle.demand3.specs.Reading.{atOnce, mostBefore, untilSynchronized,
 use Rattle.demand3.proofs.Told.{Told, offer, ms, didBy, msBy, toldAfter, toldDoes, toldHeard, toldMs}
 use Rattle.demand3.proofs.Cuts.{behind, sent-append, does-length, Cut, cut-after, does-cut}
 use Rattle.demand3.proofs.Laws.{SenderIn, LawsOf, laws}
-use Rattle.demand3.proofs.Views.{left, Begins, stays, shifts, owns, Fine, fine-offered, fine-ms, fine-after, load-view}
+use Rattle.demand3.proofs.Views.{left, Begins, stays, shifts, owns, Fine, fine-offered, fine-ms, fine-after}
+use Rattle.demand3.proofs.Views.{load-view}
 use Rattle.demand3.proofs.Following.{follows, follows-after}
 use Rattle.demand3.proofs.Bound.{bound}
 
@@ -48,16 +49,18 @@ eventsInhibited mode n r [] = []
 eventsInhibited mode zero r (x ∷ xs) = hear mode r x .event ∷ eventsInhibited mode zero (hear mode r x .reader) xs
 eventsInhibited mode (suc n) r (x ∷ xs) = nothing ∷ eventsInhibited mode n (inhibited r) xs
 
--- The premises. A's model is fresh at first; `past` may be anything; in the first 40 ms of `on`, the last of an idle period, it is
--- in no burst. The reader is in range at the first of them, whatever it heard before, and is inhibited in the first n of them, if
--- at all. (That A was in no burst in the 260 ms before them, too, is not needed here: B's own inhibited ms run out in them.)
+-- The premises. A's model is fresh at first; `past` may be anything; in the first 40 ms of `on`, the last of an idle
+-- period, it is in no burst. The reader is in range at the first of them, whatever it heard before, and is inhibited in the
+-- first n of them, if at all. (That A was in no burst in the 260 ms before them, too, is not needed here: B's own inhibited
+-- ms run out in them.)
 pub record Premises (mode : Mode) (past on : List Told) (r : Reader) (n : ℕ) : Type 0 where
   pub forty-ms : 40 ≤ toldMs on
   pub idle : NoBurst (take 40 (toldDoes mode (toldAfter mode freshModel past) on))
   pub reader-in : ReaderIn mode r
   pub inhibited-in : n ≤ 40
 
--- What A did in the ms that follow, and what those ms end in for a reader that hears them, up to a ms that is asked about.
+-- What A did in the ms that follow, and what those ms end in for a reader that hears them, up to a ms that is asked
+-- about.
 pub record Reads (mode : Mode) (ds : List Did) (es : List Event) : Type 0 where
   -- at most 72, 1, 0 characters are taken up to the synchronizing code's last ms, or so far while none has ended
   pub before : length (takenIn (take (synchronizedAfter mode ds) ds)) ≤ mostBefore (alphabetOf mode)
@@ -68,7 +71,8 @@ pub record Reads (mode : Mode) (ds : List Did) (es : List Event) : Type 0 where
   -- and no fault is among them: each is a character
   pub no-fault : EndsIdle ds → allChars (wordsOf (drop (synchronizedAfter mode ds) es)) ≡ true
 
--- The reader hears all that A sends from the first of the 40 ms on. `on` is any list of steps, so it ends in any later ms.
+-- The reader hears all that A sends from the first of the 40 ms on. `on` is any list of steps, so it ends in any later
+-- ms.
 abbrev pub ReadsAfterIdle : Mode → Type 0
 ReadsAfterIdle mode = (past on : List Told) (r : Reader) (n : ℕ) → Premises mode past on r n
     → let ds = toldDoes mode (toldAfter mode freshModel past) on in

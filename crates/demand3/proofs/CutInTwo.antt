@@ -51,8 +51,8 @@ module _ (xs ys sent words sent′ words′ : List ℕ) (s : Station) (full : le
   second = second-runs s xs ys (length sent) (length words) z full (length sent′) (length words′) u v
 
   -- what the two hand out, by what each of them does
-  behind-first : {X : Type 0} (of : Station → Call → List X) {fs gs : List X} → of s a ≡ fs → of (stationAfter s xs) b ≡ gs
-      → fs ++ gs ≡ of s a ++ of (left s a) b
+  behind-first : {X : Type 0} (of : Station → Call → List X) {fs gs : List X} → of s a ≡ fs
+      → of (stationAfter s xs) b ≡ gs → fs ++ gs ≡ of s a ++ of (left s a) b
   behind-first of e g = sym (λ i. e i ++ (ap (λ (t : Station). of t b) (left-of xs sent words s first) ∙ g) i)
 
   two : Two s c a b

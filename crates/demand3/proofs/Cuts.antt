@@ -10,8 +10,8 @@ use Rattle.reader.specs.declared.Reader.{Reader}
 use Rattle.demand3.specs.Model.{Model, Did, offered, sentIn}
 use Rattle.demand3.specs.Reading.{NoBurst}
 use Rattle.demand3.specs.Demand3.{between}
-use Rattle.demand3.proofs.Told.{Told, offer, ms, msBy, readerBy, toldAfter, toldDoes, toldHeard, toldMs, ToldNone}
-use Rattle.demand3.proofs.Told.{toldReader, toldEvents}
+use Rattle.demand3.proofs.Told.{Told, offer, ms, msBy, readerBy, toldAfter, toldDoes, toldHeard, toldMs}
+use Rattle.demand3.proofs.Told.{ToldNone, toldReader, toldEvents}
 
 -- ---- lists
 

@@ -78,7 +78,8 @@ module _ (d : Lists) where
 
     since-told : toldHeard (past ++ since) ≡ heardIn (p .past ++ p .since)
     since-told =
-        ap toldHeard (sym (own-append mode (p .past) (p .since) freshModel)) ∙ own-heard mode (p .past ++ p .since) freshModel
+        ap toldHeard (sym (own-append mode (p .past) (p .since) freshModel))
+        ∙ own-heard mode (p .past ++ p .since) freshModel
 
     from-opening : d .start < d .openB → past ≡ []
     unfolding toldOf
@@ -94,6 +95,9 @@ module _ (d : Lists) where
         subst NoBurst (ap (λ (k : Model). does mode k (p .since)) (sym model-past) ∙ sym (own-does mode (p .since) m))
         (p .idle-B)
 
+    abbrev idle : List Did → List Did
+    idle ds = between (d .openA) (d .start) (d .start + 300) ds
+
     one-clock : OneClock mode (clockOf d) toldA toldB
     one-clock =
         let heardA = own-heard mode (stepsA d) freshModel in
@@ -101,7 +105,7 @@ module _ (d : Lists) where
         let sent = sends-as-model (d .mode) (d .callsA) ∙ ap sentIn (sym dids-are) in
         record {
           opened-A = p .opened-A;
-          idle-A = subst (λ (ds : List Did). NoBurst (between (d .openA) (d .start) (d .start + 300) ds)) (sym dids-are) (p .idle-A);
+          idle-A = subst (λ (ds : List Did). NoBurst (idle ds)) (sym dids-are) (p .idle-A);
           later = p .later;
           run-A = subst (λ (l : List ℕ). d .asked < d .openA + length l) (sym heardA) (p .run-A);
           opened-B = p .opened-B;

@@ -1,5 +1,5 @@
--- What a reader makes of what a model sends that is told when a burst begins and ends, ms by ms: once it is synchronized, and
--- before.
+-- What a reader makes of what a model sends that is told when a burst begins and ends, ms by ms: once it is synchronized,
+-- and before.
 use mathlib.Core.Path.{_≡_, _∙_, refl, sym, ap, subst}
 use mathlib.Core.Bool.{Bool, true, false, cond, false≢true}
 use mathlib.Core.List.{List, [], _∷_, _++_, append-nil, append-assoc}
@@ -120,7 +120,8 @@ module _ (mode : Mode) (L : LawsOf mode) where
       ∙ append-assoc vs (normals ts) (normals ts′)
       ∙ ap (λ (l : List ℕ). vs ++ l) (sym (normal-append (alphabetOf mode) ts ts′))
 
-  -- from a synchronized reader on, up to no burst: the words are those of what is left of a code and of all that is taken
+  -- from a synchronized reader on, up to no burst: the words are those of what is left of a code and of all that is
+  -- taken
   pub follows : (steps : List Told) (m : Model) (r : Reader) → Fine mode m → After (m .sender) r (m .onLine)
       → toldAfter mode m steps .onLine ≡ Idle
       → let ds = toldDoes mode m steps in
@@ -250,6 +251,7 @@ module _ (mode : Mode) (L : LawsOf mode) where
       go : (b : Bool) → (b ≡ true → words mode q (sentIn ds) ≡ normals (takenIn ds))
           → ReadAfter ds (events mode q (sentIn ds))
           → let k = cond b 1 (suc (untilSynchronized mode ds)) in
-          wordsOf (drop k (hear mode r (d .sent) .event ∷ events mode q (sentIn ds))) ≡ normals (takenIn (drop k (d ∷ ds)))
+          wordsOf (drop k (hear mode r (d .sent) .event ∷ events mode q (sentIn ds)))
+          ≡ normals (takenIn (drop k (d ∷ ds)))
       go true p i = p refl
       go false p i = i

@@ -1,5 +1,5 @@
--- B's side: its inhibited ms run out in an idle period; and in no burst and with no offer its ms are those of a reader that is
--- inhibited at first.
+-- B's side: its inhibited ms run out in an idle period; and in no burst and with no offer its ms are those of a reader
+-- that is inhibited at first.
 use mathlib.Core.Path.{_≡_, _∙_, refl, ap}
 use mathlib.Core.Bool.{Bool, true, false}
 use mathlib.Core.List.{List, [], _∷_}
@@ -22,8 +22,8 @@ use Rattle.station.specs.Station.{hasDel, readerOffered}
 use Rattle.station.proofs.Range.{reader-offered-in}
 use Rattle.demand3.specs.Model.{Model, loadBy, inBurst, offered}
 use Rattle.demand3.specs.Reading.{NoBurst}
-use Rattle.demand3.proofs.Told.{Told, offer, ms, didBy, inhibitedBy, msBy, readerBy, toldAfter, toldDoes, toldHeard}
-use Rattle.demand3.proofs.Told.{toldMs, ToldNone, toldReader, toldEvents}
+use Rattle.demand3.proofs.Told.{Told, offer, ms, didBy, inhibitedBy, msBy, readerBy, toldAfter, toldDoes}
+use Rattle.demand3.proofs.Told.{toldHeard, toldMs, ToldNone, toldReader, toldEvents}
 use Rattle.demand3.proofs.Cuts.{behind}
 use Rattle.demand3.proofs.Core.{eventsInhibited}
 
@@ -39,7 +39,8 @@ none-offered Dtmf r = refl
 none-offered Edt r = refl
 
 module _ (mode : Mode) where
-  pub inhibited-most : (steps : List Told) (m : Model) → m .inhibitedMs ≤ 300 → toldAfter mode m steps .inhibitedMs ≤ 300
+  pub inhibited-most : (steps : List Told) (m : Model) → m .inhibitedMs ≤ 300
+      → toldAfter mode m steps .inhibitedMs ≤ 300
   unfolding toldAfter offered msBy
   inhibited-most [] m h = h
   inhibited-most (offer cs ∷ steps) m h = inhibited-most steps (offered mode cs m) h
@@ -76,8 +77,9 @@ module _ (mode : Mode) where
       told-in steps (offered mode cs m) (readerOffered a cs r) l (reader-offered-in mode a cs r h)
   told-in (ms begins ends x ∷ steps) m r l h =
       let heard = hear-in mode r x (at-most-head 16 x (toldHeard steps) l) h in
+      let none = inhibited-in mode r h in
       told-in steps (msBy mode begins ends m x) (readerBy mode begins m r x) (at-most-tail 16 x (toldHeard steps) l)
-      (either (ReaderIn mode) (inhibitedBy mode begins m) (inhibited r) (hear mode r x .reader) (inhibited-in mode r h) heard)
+      (either (ReaderIn mode) (inhibitedBy mode begins m) (inhibited r) (hear mode r x .reader) none heard)
 
   -- in no burst and with no offer, its ms are those of a reader that is inhibited at first
   pub events-are : (steps : List Told) (m : Model) (r : Reader) (n : ℕ) → m .inhibitedMs ≡ n

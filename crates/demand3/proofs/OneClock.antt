@@ -1,5 +1,6 @@
--- Demand 3 on one clock, for two stations that are told, ms by ms, when a burst begins and ends, whoever tells them: the core
--- theorem, with A's steps and B's cut at the ms that the claim names, and B's reader brought to the last 40 ms of the idle period.
+-- Demand 3 on one clock, for two stations that are told, ms by ms, when a burst begins and ends, whoever tells them: the
+-- core theorem, with A's steps and B's cut at the ms that the claim names, and B's reader brought to the last 40 ms of the
+-- idle period.
 use mathlib.Core.Path.{_≡_, _∙_, refl, sym, ap, subst}
 use mathlib.Core.Bool.{Bool, true, false, cond}
 use mathlib.Core.List.{List, [], _∷_, _++_, append-assoc}
@@ -25,8 +26,8 @@ use Rattle.demand3.specs.Reading.{endsSynchronizing, untilSynchronized, 
 use Rattle.demand3.specs.Reading.{NoBurst, EndsIdle}
 use Rattle.demand3.specs.Demand3.{between}
 use Rattle.demand3.proofs.Told.{Told, toldAfter, toldDoes, toldHeard, toldMs, ToldNone, toldReader, toldEvents}
-use Rattle.demand3.proofs.Cuts.{between-is, idle-left, idle-right, sent-append, heard-append, ms-append, none-right}
-use Rattle.demand3.proofs.Cuts.{after-append, events-append, does-length, events-length}
+use Rattle.demand3.proofs.Cuts.{between-is, idle-left, idle-right, sent-append, heard-append, ms-append}
+use Rattle.demand3.proofs.Cuts.{none-right, after-append, events-append, does-length, events-length}
 use Rattle.demand3.proofs.Cuts.{Cut, cut-after, does-cut}
 use Rattle.demand3.proofs.Core.{eventsInhibited, Reads, reads-after-idle}
 use Rattle.demand3.proofs.Inhibited.{inhibited-most, inhibited-less, told-in, events-are}
@@ -38,7 +39,8 @@ pub record Clock : Type 0 where
   pub start : ℕ
   pub asked : ℕ
 
--- The premises, on the steps of A and of B from fresh models on. (`Premises` of Demand3.antt says them of two lists of calls.)
+-- The premises, on the steps of A and of B from fresh models on. (`Premises` in specs/Demand3.antt says them of two lists of
+-- calls.)
 pub record OneClock (mode : Mode) (t : Clock) (stepsA stepsB : List Told) : Type 0 where
   pub opened-A : t .openA ≤ t .start
   pub idle-A : NoBurst (between (t .openA) (t .start) (t .start + 300) (toldDoes mode freshModel stepsA))
@@ -82,7 +84,8 @@ unfolding untilSynchronized
 until-most mode [] = omega arith
 until-most mode (d ∷ ds) = go (endsSynchronizing mode (d .ended)) (until-most mode ds)
   where
-    go : (b : Bool) → untilSynchronized mode ds ≤ length ds → cond b 1 (suc (untilSynchronized mode ds)) ≤ suc (length ds)
+    go : (b : Bool) → untilSynchronized mode ds ≤ length ds
+        → cond b 1 (suc (untilSynchronized mode ds)) ≤ suc (length ds)
     go true i = omega arith
     go false i = omega arith
 
@@ -99,8 +102,8 @@ earlyMs t = t .start + 260 - t .openB - (t .start - t .openB)
 abbrev onMs : Clock → ℕ
 onMs t = t .asked + 1 - (t .start + 260)
 
--- the cuts: of A's steps ahead of the 40 ms, and behind the ms asked about; of B's since the start of the idle period, ahead of
--- the 40 ms
+-- the cuts: of A's steps ahead of the 40 ms, and behind the ms asked about; of B's since the start of the idle period,
+-- ahead of the 40 ms
 module _ (mode : Mode) (t : Clock) (stepsA stepsB : List Told) (p : OneClock mode t stepsA stepsB)
     (a : Cut (t .start + 260 - t .openA) stepsA) (on : Cut (onMs t) (a .back)) (b : Cut (earlyMs t) (p .since)) where
   -- ---- A: what it does in each part
@@ -151,7 +154,8 @@ module _ (mode : Mode) (t : Clock) (stepsA stepsB : List Told) (p : OneClock mod
       ap (between (t .openA) (t .start + 300) (t .asked + 1)) dids-are
       ∙ between-is (t .openA) (t .start + 300) (t .asked + 1) 40 pastDids onDids beyondDids (omega arith) (omega arith)
 
-  sent-is : between (t .openA) (t .start + 260) (t .asked + 1) (sentIn (toldDoes mode freshModel stepsA)) ≡ sentIn onDids
+  sent-is : between (t .openA) (t .start + 260) (t .asked + 1) (sentIn (toldDoes mode freshModel stepsA))
+      ≡ sentIn onDids
   sent-is =
       let parts = ap sentIn dids-are ∙ sent-append pastDids (onDids ++ beyondDids)
       ∙ ap (λ (l : List ℕ). sentIn pastDids ++ l) (sent-append onDids beyondDids) in
@@ -208,8 +212,8 @@ module _ (mode : Mode) (t : Clock) (stepsA stepsB : List Told) (p : OneClock mod
       let m = on-ms in
       sym
       (ap (between (t .openB) (t .start + 260) (t .asked + 1)) heard-parts
-      ∙ between-is (t .openB) (t .start + 260) (t .asked + 1) 0 (toldHeard frontB) (toldHeard onB) (toldHeard (p .beyond))
-      (omega arith) (omega arith))
+      ∙ between-is (t .openB) (t .start + 260) (t .asked + 1) 0 (toldHeard frontB) (toldHeard onB)
+      (toldHeard (p .beyond)) (omega arith) (omega arith))
       ∙ p .hears ∙ sent-is
 
   -- in no burst, up to the 40 ms and from them on

@@ -18,7 +18,7 @@ use Rattle.reader.specs.declared.Reader.{Reader}
 use Rattle.reader.specs.Reader.{fresh}
 use Rattle.burst.specs.declared.OnLine.{OnLine as Line}
 use Rattle.burst.specs.declared.Loaded.{Loaded as LoadedLine}
-use Rattle.burst.specs.Rules.{mayBegin, mayEnd, inhibitedAfter, isSilent, isInhibited as inhibitedIn}
+use Rattle.burst.specs.Rules.{mayBegin, mayEnd, inhibitedAfter, isSilent, isInhibited}
 use Rattle.burst.specs.Line as line
 use Rattle.half_duplex.specs.Core as core
 use Rattle.half_duplex.specs.Core.{readerMs, eventMs, settledBy, coreFromBy, waitingAfter, settled, coreFrom}
@@ -26,18 +26,18 @@ use Rattle.half_duplex.proofs.Range.{takes-waiting-by}
 use Rattle.queue.specs.Queue.{waits, waiters, waitingOf, taken}
 use Rattle.queue.proofs.Laws.{waiting-offered, waiting-taken}
 use Rattle.station.specs.declared.Station.{Station}
-use Rattle.station.specs.Station.{modeOfStation, alphabetOfStation, queueOf, station, freshStation, readerOffered, offeredTo}
-use Rattle.station.specs.Station.{front, charsAfter, stationMs, sentMs, eventOf}
+use Rattle.station.specs.Station.{modeOfStation, alphabetOfStation, queueOf, station, freshStation, readerOffered}
+use Rattle.station.specs.Station.{offeredTo, front, charsAfter, stationMs, sentMs, eventOf}
 use Rattle.station.specs.Range.{inRange}
 use Rattle.station.specs.Entries.{answered, isMode, openOf, offerAnswer}
 use Rattle.station.proofs.Range.{core-in, front-waits, fresh-in, fresh-full, ms-in, ms-full}
 use Rattle.station.proofs.Range.{accepted, offered-in, offered-full}
-use Rattle.demand3.specs.Model.{Model, Loaded, freshModel, offered, begun, nextCode, loadBy, load, inBurst, oneGone}
-use Rattle.demand3.specs.Model.{closed, silenceAfter, beginsIn, endsIn}
+use Rattle.demand3.specs.Model.{Model, Loaded, freshModel, offered, begun, nextCode, loadBy, inBurst, oneGone}
+use Rattle.demand3.specs.Model.{closed, silenceAfter, beginsIn, load, endsIn}
 use Rattle.demand3.specs.Calls.{opened}
 use Rattle.demand3.proofs.Told.{didBy, inhibitedBy, msBy, readerBy}
-use Rattle.demand3.proofs.Stands.{Stands, rests, LoadedLike, Heads, none, some, burst-same, level-same, gone-stands}
-use Rattle.demand3.proofs.Stands.{closed-stands, begun-stands, next-like}
+use Rattle.demand3.proofs.Stands.{Stands, rests, LoadedLike, Heads, none, some, burst-same, level-same}
+use Rattle.demand3.proofs.Stands.{gone-stands, closed-stands, begun-stands, next-like}
 
 -- the station's silence stops at 300: it is the model's, or both are at least 300
 pub data Capped : ℕ → ℕ → Type 0 where
@@ -89,10 +89,12 @@ number-in Dtmf = refl
 number-in Edt = refl
 
 -- those that wait are as many as the number says
-count-is : (s : Station) → length (s .chars) ≡ 256 → inRange s ≡ true → length (waitingOf (queueOf s)) ≡ s .core .waiting
+count-is : (s : Station) → length (s .chars) ≡ 256 → inRange s ≡ true
+    → length (waitingOf (queueOf s)) ≡ s .core .waiting
 count-is s full i = let h = core-in s i .waiting-in in length-take-le (s .core .waiting) (s .chars) (omega arith)
 
-heads : (mode : Mode) (n : ℕ) (cs : List ℕ) → n ≤ length cs → (1 ≤ n → isCode (sends (alphabetOf mode) (getD cs 0 0)) ≡ true) → Heads mode n (getD cs 0 0) (take n cs)
+heads : (mode : Mode) (n : ℕ) (cs : List ℕ) → n ≤ length cs
+    → (1 ≤ n → isCode (sends (alphabetOf mode) (getD cs 0 0)) ≡ true) → Heads mode n (getD cs 0 0) (take n cs)
 heads mode zero cs h w = none (getD cs 0 0)
 heads mode (suc n) [] h w = absurd (omega arith)
 heads mode (suc n) (c ∷ cs) h w =
@@ -151,9 +153,9 @@ module _ (mode : Mode) (s : Station) (m : Model) (r : Reader) (h : Like mode s m
     burst-is : line.inBurst (x .line) ≡ inBurst (y .onLine)
     burst-is = burst-same mode (settled-like .line-is)
 
-    inhibited-same : inhibitedIn (line.inBurst (x .line)) (s .core .inhibited) ≡ inhibitedBy mode begins m
+    inhibited-same : isInhibited (line.inBurst (x .line)) (s .core .inhibited) ≡ inhibitedBy mode begins m
     unfolding inhibitedBy
-    inhibited-same = λ i. inhibitedIn (burst-is i) (h .inhibited-is i)
+    inhibited-same = λ i. isInhibited (burst-is i) (h .inhibited-is i)
 
     -- what is sent, what the ms ends in, those that wait after it
     pub sent-by : line.levelOn (modeOfStation s) (x .line) ≡ didBy mode begins m .sent
@@ -161,7 +163,7 @@ module _ (mode : Mode) (s : Station) (m : Model) (r : Reader) (h : Like mode s m
     sent-by = ap (λ (d : Mode). line.levelOn d (x .line)) mode-same ∙ level-same mode (settled-like .line-is)
 
     pub event-by : (heard : ℕ)
-        → eventMs (modeOfStation s) (inhibitedIn (line.inBurst (x .line)) (s .core .inhibited)) (s .core .reader) heard
+        → eventMs (modeOfStation s) (isInhibited (line.inBurst (x .line)) (s .core .inhibited)) (s .core .reader) heard
         ≡ eventMs mode (inhibitedBy mode begins m) r heard
     event-by heard = λ i. eventMs (mode-same i) (inhibited-same i) (h .reader-is i) heard
 
@@ -170,7 +172,8 @@ module _ (mode : Mode) (s : Station) (m : Model) (r : Reader) (h : Like mode s m
     waiting-after ends heard = settled-like .waiting-is ∙ go (x .takes) refl
       where
         go : (b : Bool) → x .takes ≡ b
-            → cond b (drop 1 (m .waiting)) (m .waiting) ≡ take (waitingAfter b (s .core .waiting)) (charsAfter b (s .chars))
+            → cond b (drop 1 (m .waiting)) (m .waiting)
+            ≡ take (waitingAfter b (s .core .waiting)) (charsAfter b (s .chars))
         go true e =
             let o = takes-waiting-by begins (s .core) (front s) e in
             let few = core-in s (h .in-range) .waiting-in in
@@ -228,8 +231,10 @@ module _ (mode : Mode) (s : Station) (m : Model) (r : Reader) (h : Like mode s m
         event-by (core.beginsIn (s .core)) heard
         ∙ ap (λ (b : Bool). eventMs mode (inhibitedBy mode b m) r heard) begins-same
 
-    pub ms-like : heard ≤ highestLevel mode
-        → Like mode (stationMs s heard) (msBy mode (beginsIn m) (endsIn mode m) m heard) (readerBy mode (beginsIn m) m r heard)
+    abbrev LikeBy : Bool → Bool → Type 0
+    LikeBy begins ends = Like mode (stationMs s heard) (msBy mode begins ends m heard) (readerBy mode begins m r heard)
+
+    pub ms-like : heard ≤ highestLevel mode → LikeBy (beginsIn m) (endsIn mode m)
     unfolding stationMs settled coreFrom
     ms-like l =
         let k = subst (λ (d : Mode). heard ≤ highestLevel d) (sym mode-same) l in
@@ -237,13 +242,11 @@ module _ (mode : Mode) (s : Station) (m : Model) (r : Reader) (h : Like mode s m
         let b = core.beginsIn (s .core) in
         let e = core.endsIn (s .core) (settledOf b s) in
         let told = ms-like-by b e heard i (ms-full s heard (h .full)) in
-        let by-ends = subst (λ (c : Bool). Like mode (stationMs s heard) (msBy mode b c m heard) (readerBy mode b m r heard))
-        (ends-same heard i) told in
-        subst (λ (c : Bool). Like mode (stationMs s heard) (msBy mode c (endsIn mode m) m heard) (readerBy mode c m r heard))
-        begins-same by-ends
+        subst (λ (begins : Bool). LikeBy begins (endsIn mode m)) begins-same (subst (LikeBy b) (ends-same heard i) told)
 
   -- an offer that succeeds
-  pub offer-like : (cs : List ℕ) → offerAnswer s cs ≡ 0 → Like mode (offeredTo s cs) (offered mode cs m) (readerOffered (alphabetOf mode) cs r)
+  pub offer-like : (cs : List ℕ) → offerAnswer s cs ≡ 0
+      → Like mode (offeredTo s cs) (offered mode cs m) (readerOffered (alphabetOf mode) cs r)
   unfolding offeredTo offered
   offer-like cs z =
       let t = accepted s cs z in
@@ -281,7 +284,8 @@ unfolding openOf
 opened-is n = go (eqb n 2) (eqb n 3) (eqb n 4) refl refl refl
   where
     -- 1, or no mode's number
-    first : (b : Bool) → isMode n ≡ b → eqb n 2 ≡ false → eqb n 3 ≡ false → eqb n 4 ≡ false → cond b (answered (freshStation n) 0) (answered (freshStation 1) 2) .station ≡ freshStation 1
+    first : (b : Bool) → isMode n ≡ b → eqb n 2 ≡ false → eqb n 3 ≡ false → eqb n 4 ≡ false
+        → cond b (answered (freshStation n) 0) (answered (freshStation 1) 2) .station ≡ freshStation 1
     first true e p q r =
         let l = leb-true 1 n (and-left (leb 1 n) (leb n 4) e) in
         let h = leb-true n 4 (and-right (leb 1 n) (leb n 4) e) in
@@ -292,7 +296,8 @@ opened-is n = go (eqb n 2) (eqb n 3) (eqb n 4) refl refl refl
         ap freshStation o
     first false e p q r = refl
 
-    go : (a b c : Bool) → eqb n 2 ≡ a → eqb n 3 ≡ b → eqb n 4 ≡ c → opened n ≡ freshStation (modeNumber (cond a Baudot50 (cond b Dtmf (cond c Edt Baudot45))))
+    go : (a b c : Bool) → eqb n 2 ≡ a → eqb n 3 ≡ b → eqb n 4 ≡ c
+        → opened n ≡ freshStation (modeNumber (cond a Baudot50 (cond b Dtmf (cond c Edt Baudot45))))
     go true b c p q r = ap opened (eqb-true n 2 p)
     go false true c p q r = ap opened (eqb-true n 3 q)
     go false false true p q r = ap opened (eqb-true n 4 r)

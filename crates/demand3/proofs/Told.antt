@@ -1,5 +1,5 @@
--- A send model that is told, ms by ms, when a burst begins and ends, whoever tells it, and the reader of its station. The core of
--- demand 3 is about any list of such ms. A station by itself tells its own (OwnRules.antt).
+-- A send model that is told, ms by ms, when a burst begins and ends, whoever tells it, and the reader of its station.
+-- The core of demand 3 is about any list of such ms. A station by itself tells its own (OwnRules.antt).
 use Prim.Native.Nat.{ℕ}
 use mathlib.Core.Path.{_≡_}
 use mathlib.Core.Bool.{Bool}
@@ -59,13 +59,15 @@ readerBy mode begins m r x = readerMs mode (inhibitedBy mode begins m) r x
 
 unfoldable pub toldReader : Mode → Model → Reader → List Told → Reader
 toldReader mode m r [] = r
-toldReader mode m r (offer cs ∷ steps) = toldReader mode (offered mode cs m) (readerOffered (alphabetOf mode) cs r) steps
+toldReader mode m r (offer cs ∷ steps) =
+    toldReader mode (offered mode cs m) (readerOffered (alphabetOf mode) cs r) steps
 toldReader mode m r (ms begins ends x ∷ steps) =
     toldReader mode (msBy mode begins ends m x) (readerBy mode begins m r x) steps
 
 unfoldable pub toldEvents : Mode → Model → Reader → List Told → List Event
 toldEvents mode m r [] = []
-toldEvents mode m r (offer cs ∷ steps) = toldEvents mode (offered mode cs m) (readerOffered (alphabetOf mode) cs r) steps
+toldEvents mode m r (offer cs ∷ steps) =
+    toldEvents mode (offered mode cs m) (readerOffered (alphabetOf mode) cs r) steps
 toldEvents mode m r (ms begins ends x ∷ steps) =
     eventMs mode (inhibitedBy mode begins m) r x
     ∷ toldEvents mode (msBy mode begins ends m x) (readerBy mode begins m r x) steps

@@ -1,5 +1,5 @@
--- What a ms of a model that is told can begin with and end in: views that every proof over it goes by. In them it is left open
--- when a burst begins and ends.
+-- What a ms of a model that is told can begin with and end in: views that every proof over it goes by. In them it is
+-- left open when a burst begins and ends.
 use mathlib.Core.Path.{_≡_, refl, sym, subst}
 use mathlib.Core.Bool.{Bool, true, false, cond, _&&_, true≢false}
 use mathlib.Core.List.{List, [], _∷_, _++_}

@@ -15,8 +15,7 @@ use Rattle.alphabet.specs.Normal.{sends}
 use Rattle.baudot.specs.declared.Sender.{Sender}
 use Rattle.baudot.specs.Sending.{fresh, shiftCode, shifted}
 use Rattle.signal.specs.Signal.{quiet, signal, preamble}
-use Rattle.burst.specs.Rules.{freeMs, mayBegin, mayEnd, shiftWanted, senderAfterOwn}
-use Rattle.burst.specs.Rules.{isInhibited as inhibitedBy, inhibitedAfter, isSilent}
+use Rattle.burst.specs.Rules.{freeMs, mayBegin, mayEnd, shiftWanted, senderAfterOwn, isInhibited, inhibitedAfter, isSilent}
 use Rattle.queue.specs.Queue.{waiters}
 
 -- What is on the line in a burst: the preamble (there: lead), a shift code (there: case code), a character's own code.
@@ -138,7 +137,7 @@ pub record Did : Type 0 where
   pub taken : List ℕ
   pub ended : List Part
 
--- All of these by what the ms starts with: what it does, whether the receiver is inhibited in it, the model after it.
+-- By what the ms starts with: what it does, whether the receiver is inhibited in it, and the model after it.
 abbrev pub didFrom : Loaded → Did
 didFrom l = record {
   sent = levelOn (l .onLine);
@@ -148,7 +147,7 @@ didFrom l = record {
 }
 
 abbrev pub inhibitedFrom : Model → Loaded → Bool
-inhibitedFrom m l = inhibitedBy (inBurst (l .onLine)) (m .inhibitedMs)
+inhibitedFrom m l = isInhibited (inBurst (l .onLine)) (m .inhibitedMs)
 
 abbrev pub modelFrom : Bool → Model → Loaded → ℕ → Model
 modelFrom ends m l heard = record {
@@ -159,7 +158,7 @@ modelFrom ends m l heard = record {
   inhibitedMs = inhibitedAfter (inBurst (l .onLine)) (m .inhibitedMs);
 }
 
--- A station by itself: a burst begins if characters wait and the silence is at least 300 ms, and ends if none waits.
+-- A station by itself: a burst begins with characters waiting and at least 300 ms of silence, and ends if none waits.
 abbrev pub beginsIn : Model → Bool
 beginsIn m = mayBegin (length (m .waiting)) (m .silence)
 
@@ -169,12 +168,9 @@ load mode m = loadBy (beginsIn m) mode m
 abbrev pub endsIn : Mode → Model → Bool
 endsIn mode m = mayEnd (length (load mode m .waiting))
 
--- What its ms does, whether it is inhibited in it, and its model after it.
+-- What its ms does, and its model after it.
 unfoldable pub did : Mode → Model → Did
 did mode m = didFrom (load mode m)
-
-unfoldable pub isInhibited : Mode → Model → Bool
-isInhibited mode m = inhibitedFrom m (load mode m)
 
 unfoldable pub msAfter : Mode → Model → ℕ → Model
 msAfter mode m heard = modelFrom (endsIn mode m) m (load mode m) heard
