@@ -23,7 +23,7 @@ use Rattle.demand3.proofs.StationLike.{opened-like}
 use Rattle.demand3.proofs.Calls.{CallsLike, calls-like, words-up-to}
 use Rattle.demand3.proofs.CutInTwo.{cut-in-two}
 
-same-words : (cs : List ℕ) → map characterWord cs ≡ cs
+pub same-words : (cs : List ℕ) → map characterWord cs ≡ cs
 same-words [] = refl
 same-words (c ∷ cs) = behind (same-words cs)
 
