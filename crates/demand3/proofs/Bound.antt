@@ -1,5 +1,5 @@
--- How many characters are taken before the synchronizing code has ended, by a model that is told when a burst begins and
--- ends.
+-- How many characters are taken before the synchronizing code has ended, by a model that is told when a burst begins
+-- and ends.
 use mathlib.Core.Path.{_≡_, _∙_, refl, sym}
 use mathlib.Core.Bool.{Bool, true, false, cond, true≢false}
 use mathlib.Core.List.{List, [], _∷_, append-nil}

@@ -1,5 +1,5 @@
--- THE CORE OF DEMAND 3: after an idle period (there: a rest) a reader reads what a model takes that is told, ms by ms, when
--- a burst begins and ends, whoever tells it.
+-- THE CORE OF DEMAND 3: after an idle period (there: a rest) a reader reads what a model takes that is told, ms by ms,
+-- when a burst begins and ends, whoever tells it.
 use mathlib.Core.Path.{_≡_, _∙_, refl, sym, ap, subst}
 use mathlib.Core.Bool.{Bool, true, false, cond, true≢false}
 use mathlib.Core.Logic.{inl}
@@ -50,9 +50,9 @@ eventsInhibited mode zero r (x ∷ xs) = hear mode r x .event ∷ eventsInhibite
 eventsInhibited mode (suc n) r (x ∷ xs) = nothing ∷ eventsInhibited mode n (inhibited r) xs
 
 -- The premises. A's model is fresh at first; `past` may be anything; in the first 40 ms of `on`, the last of an idle
--- period, it is in no burst. The reader is in range at the first of them, whatever it heard before, and is inhibited in the
--- first n of them, if at all. (That A was in no burst in the 260 ms before them, too, is not needed here: B's own inhibited
--- ms run out in them.)
+-- period, it is in no burst. The reader is in range at the first of them, whatever it heard before, and is inhibited in
+-- the first n of them, if at all. (That A was in no burst in the 260 ms before them, too, is not needed here: B's own
+-- inhibited ms run out in them.)
 pub record Premises (mode : Mode) (past on : List Told) (r : Reader) (n : ℕ) : Type 0 where
   pub forty-ms : 40 ≤ toldMs on
   pub idle : NoBurst (take 40 (toldDoes mode (toldAfter mode freshModel past) on))

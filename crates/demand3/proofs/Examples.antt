@@ -1,4 +1,5 @@
--- The instances of demand 3: one computed test for each. The models of both are computed; which calls succeed is told by them.
+-- The instances of demand 3: one computed test for each. The models of both are computed; which calls succeed is told
+-- by them.
 use mathlib.Core.Path.{_≡_, _∙_, refl, sym, ap, subst}
 use mathlib.Core.Bool.{Bool, true, false, not, _&&_, false≢true}
 use mathlib.Core.List.{List, [], _∷_, _++_}
@@ -17,8 +18,8 @@ use Rattle.alphabet.specs.TableA2.{a2}
 use Rattle.alphabet.specs.TableB1.{b1}
 use Rattle.alphabet.specs.TableB2.{b2}
 use Rattle.alphabet.specs.Baudot.{printedAt, readBaudot, sendBaudot}
-use Rattle.alphabet.specs.Dtmf.{withMark, codeFrom, prefixes, keysOf, marksThenDigit, among, notStruck, remaining, names}
-use Rattle.alphabet.specs.Dtmf.{firstSign, named, readIn, readDtmf, sendIn, hasRow, sendFrom, sendDtmf}
+use Rattle.alphabet.specs.Dtmf.{withMark, codeFrom, prefixes, keysOf, marksThenDigit, among, notStruck, remaining}
+use Rattle.alphabet.specs.Dtmf.{names, firstSign, named, readIn, readDtmf, sendIn, hasRow, sendFrom, sendDtmf}
 use Rattle.alphabet.specs.Normal.{sends, reads, normalForm}
 use Rattle.baudot.specs.Sending.{wanted}
 use Rattle.signal.specs.Signal.{digits, held, baudotSignal, sum, edtElements, edtSignal, heldKeys, signal, signals}
@@ -94,7 +95,8 @@ none-by : (steps : List Step) → offersNone steps ≡ true → OffersNone steps
 unfolding offersNone OffersNone
 none-by [] t = tt
 none-by (Offer cs ∷ steps) t =
-    (same-by cs [] (and-left (same cs []) (offersNone steps) t), none-by steps (and-right (same cs []) (offersNone steps) t))
+    let b = same cs [] in
+    (same-by cs [] (and-left b (offersNone steps) t), none-by steps (and-right b (offersNone steps) t))
 none-by (Ms x ∷ steps) t = none-by steps t
 
 allTrue : List Bool → Bool
@@ -251,32 +253,35 @@ module _ (e : Example) (c : Passes e) where
 -- ---- the instances
 
 passes-45 : Passes baudot45
-unfolding allTrue tests noBurst endsIdle same offersNone frontMs backMs accepts modelSteps baudot45 callsA45 line45 callsB45
-    chars waiters heardIn offered mayBegin mayEnd begun codeBegins nextCode load levelOn oneGone ended closed did msAfter
-    modelAfter does takenIn allAtMost sends reads signal signals normalForm synchronizes untilSynchronized
+unfolding allTrue tests noBurst endsIdle same offersNone frontMs backMs accepts modelSteps
+    baudot45 callsA45 line45 callsB45
+    chars waiters heardIn offered mayBegin mayEnd begun codeBegins nextCode load levelOn oneGone ended closed did
+    msAfter modelAfter does takenIn allAtMost sends reads signal signals normalForm synchronizes untilSynchronized
     wanted sendBaudot readBaudot printedAt leftRows rightRows rows bits bitsFrom a1 a2 digits held baudotSignal
 passes-45 = refl
 
 passes-50 : Passes baudot50
-unfolding allTrue tests noBurst endsIdle same offersNone frontMs backMs accepts modelSteps baudot50 callsA50 line50
-    laterLine50 lastLine50 callsB50
-    chars waiters heardIn offered mayBegin mayEnd begun codeBegins nextCode load levelOn oneGone ended closed did msAfter
-    modelAfter does takenIn allAtMost sends reads signal signals normalForm synchronizes untilSynchronized
+unfolding allTrue tests noBurst endsIdle same offersNone frontMs backMs accepts modelSteps
+    baudot50 callsA50 line50 laterLine50 lastLine50 callsB50
+    chars waiters heardIn offered mayBegin mayEnd begun codeBegins nextCode load levelOn oneGone ended closed did
+    msAfter modelAfter does takenIn allAtMost sends reads signal signals normalForm synchronizes untilSynchronized
     wanted sendBaudot readBaudot printedAt leftRows rightRows rows bits bitsFrom a1 a2 digits held baudotSignal
 passes-50 = refl
 
 passes-dtmf : Passes dtmf
-unfolding allTrue tests noBurst endsIdle same offersNone frontMs backMs accepts modelSteps dtmf callsAKeys callsBKeys
-    chars waiters heardIn offered mayBegin mayEnd begun codeBegins nextCode load levelOn oneGone ended closed did msAfter
-    modelAfter does takenIn allAtMost sends reads signal signals normalForm synchronizes untilSynchronized
-    keys prefixes keysOf heldKeys withMark codeFrom marksThenDigit among notStruck remaining names firstSign named readIn
-    readDtmf sendIn hasRow sendFrom sendDtmf leftRows rightRows rows b1 b2 printedAt
+unfolding allTrue tests noBurst endsIdle same offersNone frontMs backMs accepts modelSteps
+    dtmf callsAKeys callsBKeys
+    chars waiters heardIn offered mayBegin mayEnd begun codeBegins nextCode load levelOn oneGone ended closed did
+    msAfter modelAfter does takenIn allAtMost sends reads signal signals normalForm synchronizes untilSynchronized
+    keys prefixes keysOf heldKeys withMark codeFrom marksThenDigit among notStruck remaining names firstSign named
+    readIn readDtmf sendIn hasRow sendFrom sendDtmf leftRows rightRows rows b1 b2 printedAt
 passes-dtmf = refl
 
 passes-edt : Passes edt
-unfolding allTrue tests noBurst endsIdle same offersNone frontMs backMs accepts modelSteps edt callsAEdt callsBEdt
-    chars waiters heardIn offered mayBegin mayEnd begun codeBegins nextCode load levelOn oneGone ended closed did msAfter
-    modelAfter does takenIn allAtMost sends reads signal signals normalForm synchronizes untilSynchronized
+unfolding allTrue tests noBurst endsIdle same offersNone frontMs backMs accepts modelSteps
+    edt callsAEdt callsBEdt
+    chars waiters heardIn offered mayBegin mayEnd begun codeBegins nextCode load levelOn oneGone ended closed did
+    msAfter modelAfter does takenIn allAtMost sends reads signal signals normalForm synchronizes untilSynchronized
     edtSignal edtElements digits sum tabulate
 passes-edt = refl
 
@@ -293,7 +298,8 @@ unfolding accepts modelSteps baudot45 callsA45 line45 callsB45
     chars waiters hasDel heardIn offered mayBegin mayEnd begun codeBegins nextCode load levelOn oneGone ended closed did
     msAfter modelAfter does takenIn allAtMost sends reads signal signals normalForm synchronizes untilSynchronized
     wanted sendBaudot readBaudot printedAt leftRows rightRows rows bits bitsFrom a1 a2 digits held baudotSignal
-    toldOf toldEvents msBy inhibitedBy hear inhibited wordsOf lastMs placed sampleAt samplesOf sampled frameStep baudotKinds
+    toldOf toldEvents msBy inhibitedBy hear inhibited wordsOf lastMs placed sampleAt samplesOf sampled frameStep
+    baudotKinds
 mistaken-model = refl
 
 mistaken : Mistaken

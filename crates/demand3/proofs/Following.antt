@@ -1,5 +1,5 @@
--- What a reader makes of what a model sends that is told when a burst begins and ends, ms by ms: once it is synchronized,
--- and before.
+-- What a reader makes of what a model sends that is told when a burst begins and ends, ms by ms: once it is
+-- synchronized, and before.
 use mathlib.Core.Path.{_≡_, _∙_, refl, sym, ap, subst}
 use mathlib.Core.Bool.{Bool, true, false, cond, false≢true}
 use mathlib.Core.List.{List, [], _∷_, _++_, append-nil, append-assoc}

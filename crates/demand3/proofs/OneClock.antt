@@ -1,6 +1,6 @@
--- Demand 3 on one clock, for two stations that are told, ms by ms, when a burst begins and ends, whoever tells them: the
--- core theorem, with A's steps and B's cut at the ms that the claim names, and B's reader brought to the last 40 ms of the
--- idle period.
+-- Demand 3 on one clock, for two stations that are told, ms by ms, when a burst begins and ends, whoever tells them:
+-- the core theorem, with A's steps and B's cut at the ms that the claim names, and B's reader brought to the last 40 ms
+-- of the idle period.
 use mathlib.Core.Path.{_≡_, _∙_, refl, sym, ap, subst}
 use mathlib.Core.Bool.{Bool, true, false, cond}
 use mathlib.Core.List.{List, [], _∷_, _++_, append-assoc}
@@ -39,8 +39,8 @@ pub record Clock : Type 0 where
   pub start : ℕ
   pub asked : ℕ
 
--- The premises, on the steps of A and of B from fresh models on. (`Premises` in specs/Demand3.antt says them of two lists of
--- calls.)
+-- The premises, on the steps of A and of B from fresh models on. (`Premises` in specs/Demand3.antt says them of two
+-- lists of calls.)
 pub record OneClock (mode : Mode) (t : Clock) (stepsA stepsB : List Told) : Type 0 where
   pub opened-A : t .openA ≤ t .start
   pub idle-A : NoBurst (between (t .openA) (t .start) (t .start + 300) (toldDoes mode freshModel stepsA))

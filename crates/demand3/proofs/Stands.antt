@@ -154,7 +154,8 @@ module _ (mode : Mode) where
       shift-code = line.loaded (onLine 2 (shiftCode w) 0) (shifted s w) false
 
       go : (b : Bool)
-          → LoadedLike (c ∷ cs) (cond b own-code shift-code) (cond b (ownBegins mode c cs s k) (shiftBegins mode c cs s w))
+          → LoadedLike (c ∷ cs) (cond b own-code shift-code)
+          (cond b (ownBegins mode c cs s k) (shiftBegins mode c cs s w))
       go true = record { line-is = sending own-2 (k .0) 0; sender-is = refl; waiting-is = refl }
       go false = record { line-is = sending shift-2 (shiftCode w) 0; sender-is = refl; waiting-is = refl }
 
