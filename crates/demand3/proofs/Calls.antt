@@ -129,7 +129,7 @@ module _ (heard sent words : List ℕ) (s : Station) (z : answerTo s heard sent 
       rw (it-succeeds, z) (take-at (sentRun s heard) rest (length heard) (sent-length s heard))
 
   pub steps-of : stepsFor s theRun ≡ map Ms heard
-  steps-of = simp it-succeeds
+  steps-of = rw it-succeeds refl
 
 heard-run : (heard : List ℕ) → heardIn (map Ms heard) ≡ heard
 unfolding heardIn

@@ -1,6 +1,6 @@
 -- THE CORE OF DEMAND 3: after an idle period (there: a rest) a reader reads what a model takes that is told, ms by ms,
 -- when a burst begins and ends, whoever tells it.
-use mathlib.Core.Path.{_≡_, _∙_, refl, sym, ap, subst}
+use mathlib.Core.Path.{_≡_, _∙_, refl, ap, subst}
 use mathlib.Core.Bool.{Bool, true, false, cond, true≢false}
 use mathlib.Core.Logic.{inl}
 use mathlib.Core.List.{List, [], _∷_, _++_}

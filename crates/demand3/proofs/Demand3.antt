@@ -14,7 +14,7 @@ use Rattle.demand3.specs.Model.{Model, Did, freshModel, modelAfter, does
 use Rattle.demand3.specs.Reading.{NoBurst}
 use Rattle.demand3.specs.Calls.{Call, opened, stepsBy}
 use Rattle.demand3.specs.Demand3.{Lists, theMode, theAlphabet, stepsA, stepsB, didsA, between, Premises, followsA}
-use Rattle.demand3.specs.Demand3.{synchronized, wordsDue, wordsBefore, Conclusion, SendsAsModel, Demand3}
+use Rattle.demand3.specs.Demand3.{synchronized, wordsBefore, Conclusion, SendsAsModel, Demand3}
 use Rattle.demand3.proofs.Told.{Told, toldAfter, toldDoes, toldHeard}
 use Rattle.demand3.proofs.Cuts.{behind}
 use Rattle.demand3.proofs.OneClock.{Clock, OneClock, ReadsOn, followsIn, wordsIn, reads-on}

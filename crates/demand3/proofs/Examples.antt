@@ -11,7 +11,6 @@ use borrow.Author.Tests.{eqb-true, leb-true, ltb-true, not-true}
 use Rattle.lists.specs.Lists.{allAtMost}
 use Rattle.lists.specs.Tables.{tabulate}
 use Rattle.lists.proofs.Lists.{and-left, and-right}
-use Rattle.alphabet.specs.declared.Mode.{Mode}
 use Rattle.alphabet.specs.Print.{leftRows, rightRows, rows, bitsFrom, bits, keys}
 use Rattle.alphabet.specs.TableA1.{a1}
 use Rattle.alphabet.specs.TableA2.{a2}

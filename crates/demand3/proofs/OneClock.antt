@@ -29,7 +29,7 @@ use Rattle.demand3.proofs.Told.{Told, toldAfter, toldDoes, toldHeard, t
 use Rattle.demand3.proofs.Cuts.{between-is, idle-left, idle-right, sent-append, heard-append, ms-append}
 use Rattle.demand3.proofs.Cuts.{none-right, after-append, events-append, does-length, events-length}
 use Rattle.demand3.proofs.Cuts.{Cut, cut-after, does-cut}
-use Rattle.demand3.proofs.Core.{eventsInhibited, Reads, reads-after-idle}
+use Rattle.demand3.proofs.Core.{Reads, reads-after-idle}
 use Rattle.demand3.proofs.Inhibited.{inhibited-most, inhibited-less, told-in, events-are}
 
 -- The numbers of the first ms of A and of B, the first ms of the idle period, and the ms asked about.

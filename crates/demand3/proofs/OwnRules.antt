@@ -1,7 +1,6 @@
 -- A station by itself tells its model by its own rules: characters wait and the line is free; none waits.
-use mathlib.Core.Path.{_≡_, refl, ap}
-use mathlib.Core.List.{List, [], _∷_, _++_, map}
-use Prim.Native.Nat.{ℕ}
+use mathlib.Core.Path.{_≡_, refl}
+use mathlib.Core.List.{List, [], _∷_, _++_}
 use Rattle.alphabet.specs.declared.Mode.{Mode}
 use Rattle.demand3.specs.Model.{Model, Step, Offer, Ms, offered, beginsIn, load, endsIn, did, msAfter}
 use Rattle.demand3.specs.Model.{modelAfter, does, heardIn, OffersNone}
