@@ -1,12 +1,13 @@
--- The core of demand 3: after an idle period, a reader reads what the model takes.
-use mathlib.Core.Path.{_≡_, _∙_, refl, sym, ap, subst}
+-- THE CORE OF DEMAND 3: after an idle period (there: a rest) a reader reads what a model takes that is told, ms by ms,
+-- when a burst begins and ends, whoever tells it.
+use mathlib.Core.Path.{_≡_, _∙_, refl, ap, subst}
 use mathlib.Core.Bool.{Bool, true, false, cond, true≢false}
 use mathlib.Core.Logic.{inl}
 use mathlib.Core.List.{List, [], _∷_, _++_}
 use Prim.Native.Nat.{ℕ, zero, suc, _<_, _≤_}
 use native.Mathlib.Omega.{arith}
 use lib.ListN.{length, take, drop, replicate}
-use lib.Seq.{drop-append-seam}
+use lib.Seq.{take-at, drop-at}
 use borrow.Author.Tests.{le-leb}
 use Rattle.lists.specs.Lists.{allAtMost}
 use Rattle.lists.specs.Steps.{stateAfter, outputs}
@@ -22,74 +23,128 @@ use Rattle.alphabet_theorems.proofs.Normal.{normal-code}
 use Rattle.alphabet_theorems.proofs.Rule.{rule-of}
 use Rattle.baudot.specs.declared.Sender.{Sender}
 use Rattle.reader.specs.declared.Event.{Event}
+use Rattle.reader.specs.declared.Event.the-variants.{Nothing as nothing}
 use Rattle.reader.specs.declared.Reader.{Reader}
 use Rattle.reader.specs.Reader.{hear, inhibited}
+use Rattle.reader.specs.code.Bounds.{ReaderIn}
 use Rattle.reader.specs.Words.{wordsOf, events, words}
 use Rattle.line_theorems.specs.Resting.{restsAll, Settled}
 use Rattle.line_theorems.proofs.Resting.{settles}
-use Rattle.demand3.specs.Model.{OnLine, Idle, Sending, Model, Loaded, Did, Step, Offer, Ms, freshModel, offered, load, levelOn, inBurst, oneGone, closed, did, msAfter, modelAfter, does, sentIn, takenIn}
-use Rattle.demand3.specs.Reading.{atOnce, mostBefore, untilSynchronized, synchronizedAfter, NoBurst, EndsIdle, eventsInhibited, Reads, ReadsAfterIdle}
-use Rattle.demand3.proofs.Cuts.{sent-append, does-append}
+use Rattle.demand3.specs.Model.{OnLine, Idle, Sending, Model, Loaded, Did, freshModel, offered, loadBy}
+use Rattle.demand3.specs.Model.{levelOn, inBurst, oneGone, closed, sentIn, takenIn}
+use Rattle.demand3.specs.Reading.{atOnce, mostBefore, untilSynchronized, synchronizedAfter, NoBurst, EndsIdle}
+use Rattle.demand3.proofs.Told.{Told, offer, ms, didBy, msBy, toldAfter, toldDoes, toldHeard, toldMs}
+use Rattle.demand3.proofs.Cuts.{behind, sent-append, does-length, Cut, cut-after, does-cut}
 use Rattle.demand3.proofs.Laws.{SenderIn, LawsOf, laws}
-use Rattle.demand3.proofs.Views.{left, Begins, stays, shifts, owns, Fine, fine-offered, fine-ms, fine-after, load-view}
+use Rattle.demand3.proofs.Views.{left, Begins, stays, shifts, owns, Fine, fine-offered, fine-ms, fine-after}
+use Rattle.demand3.proofs.Views.{load-view}
 use Rattle.demand3.proofs.Following.{follows, follows-after}
 use Rattle.demand3.proofs.Bound.{bound}
+
+-- ---- the statement
+
+-- What each ms ends in for a reader that is inhibited in the first n of them.
+unfoldable pub eventsInhibited : Mode → ℕ → Reader → List ℕ → List Event
+eventsInhibited mode n r [] = []
+eventsInhibited mode zero r (x ∷ xs) = hear mode r x .event ∷ eventsInhibited mode zero (hear mode r x .reader) xs
+eventsInhibited mode (suc n) r (x ∷ xs) = nothing ∷ eventsInhibited mode n (inhibited r) xs
+
+-- The premises. A's model is fresh at first; `past` may be anything; in the first 40 ms of `on`, the last of an idle
+-- period, it is in no burst. The reader is in range at the first of them, whatever it heard before, and is inhibited in
+-- the first n of them, if at all. (That A was in no burst in the 260 ms before them, too, is not needed here: B's own
+-- inhibited ms run out in them.)
+pub record Premises (mode : Mode) (past on : List Told) (r : Reader) (n : ℕ) : Type 0 where
+  pub forty-ms : 40 ≤ toldMs on
+  pub idle : NoBurst (take 40 (toldDoes mode (toldAfter mode freshModel past) on))
+  pub reader-in : ReaderIn mode r
+  pub inhibited-in : n ≤ 40
+
+-- What A did in the ms that follow, and what those ms end in for a reader that hears them, up to a ms that is asked
+-- about.
+pub record Reads (mode : Mode) (ds : List Did) (es : List Event) : Type 0 where
+  -- at most 72, 1, 0 characters are taken up to the synchronizing code's last ms, or so far while none has ended
+  pub before : length (takenIn (take (synchronizedAfter mode ds) ds)) ≤ mostBefore (alphabetOf mode)
+  -- in no burst, the words after that ms are those of the normal form of the characters taken after it, in order
+  pub text : EndsIdle ds
+      → wordsOf (drop (synchronizedAfter mode ds) es)
+      ≡ normalForm (alphabetOf mode) (takenIn (drop (synchronizedAfter mode ds) ds))
+  -- and no fault is among them: each is a character
+  pub no-fault : EndsIdle ds → allChars (wordsOf (drop (synchronizedAfter mode ds) es)) ≡ true
+
+-- The reader hears all that A sends from the first of the 40 ms on. `on` is any list of steps, so it ends in any later
+-- ms.
+abbrev pub ReadsAfterIdle : Mode → Type 0
+ReadsAfterIdle mode = (past on : List Told) (r : Reader) (n : ℕ) → Premises mode past on r n
+    → let ds = toldDoes mode (toldAfter mode freshModel past) on in
+    Reads mode (drop 40 ds) (drop 40 (eventsInhibited mode n r (sentIn ds)))
 
 -- ---- ms in no burst
 
 idle-of : (on : OnLine) → inBurst on ≡ false → on ≡ Idle
 idle-of Idle e = refl
-idle-of (Sending part ms) e = absurd (true≢false e)
+idle-of (Sending part xs) e = absurd (true≢false e)
+
+-- if the last ms has no burst, there is none after it
+ends-tail : (d : Did) (ds : List Did) → EndsIdle (d ∷ ds) → EndsIdle ds
+unfolding EndsIdle
+ends-tail d [] h = tt
+ends-tail d (e ∷ ds) h = h
+
+no-burst-ends : (ds : List Did) → NoBurst ds → EndsIdle ds
+unfolding NoBurst EndsIdle
+no-burst-ends [] h = tt
+no-burst-ends (d ∷ []) h = h .0
+no-burst-ends (d ∷ (e ∷ ds)) h = no-burst-ends (e ∷ ds) (h .1)
 
 module _ (mode : Mode) where
-  ms-idle : (m : Model) (x : ℕ) → did mode m .burst ≡ false → msAfter mode m x .onLine ≡ Idle
-  unfolding did msAfter oneGone closed
-  ms-idle m x e = ap (λ (on : OnLine). closed (load mode m .waiting) (oneGone on)) (idle-of (load mode m .onLine) e)
+  module _ (begins : Bool) (m : Model) (e : didBy mode begins m .burst ≡ false) where
+    ms-idle : (ends : Bool) (x : ℕ) → msBy mode begins ends m x .onLine ≡ Idle
+    unfolding didBy msBy oneGone closed
+    ms-idle ends x = ap (λ (on : OnLine). closed ends (oneGone on)) (idle-of (loadBy begins mode m .onLine) e)
 
-  ms-quiet : (m : Model) → did mode m .burst ≡ false → did mode m .sent ≡ 0
-  unfolding did levelOn
-  ms-quiet m e = ap levelOn (idle-of (load mode m .onLine) e)
+    ms-quiet : didBy mode begins m .sent ≡ 0
+    unfolding didBy levelOn
+    ms-quiet = ap levelOn (idle-of (loadBy begins mode m .onLine) e)
 
-  -- if the last ms has no burst, there is none after it
-  ends-tail : (d : Did) (ds : List Did) → EndsIdle (d ∷ ds) → EndsIdle ds
-  unfolding EndsIdle
-  ends-tail d [] h = tt
-  ends-tail d (e ∷ ds) h = h
-
-  idle-after : (steps : List Step) (m : Model) → (does mode m steps ≡ [] → m .onLine ≡ Idle) → EndsIdle (does mode m steps) → modelAfter mode m steps .onLine ≡ Idle
-  unfolding modelAfter does offered EndsIdle
+  idle-after : (steps : List Told) (m : Model) → (toldDoes mode m steps ≡ [] → m .onLine ≡ Idle)
+      → EndsIdle (toldDoes mode m steps) → toldAfter mode m steps .onLine ≡ Idle
+  unfolding toldAfter toldDoes offered EndsIdle
   idle-after [] m i h = i refl
-  idle-after (Offer cs ∷ steps) m i h = idle-after steps (offered mode cs m) i h
-  idle-after (Ms x ∷ steps) m i h =
-      idle-after steps (msAfter mode m x) (λ e. ms-idle m x (subst (λ (ds : List Did). EndsIdle (did mode m ∷ ds)) e h)) (ends-tail (did mode m) (does mode (msAfter mode m x) steps) h)
-
-  no-burst-ends : (ds : List Did) → NoBurst ds → EndsIdle ds
-  unfolding NoBurst EndsIdle
-  no-burst-ends [] h = tt
-  no-burst-ends (d ∷ []) h = h .0
-  no-burst-ends (d ∷ (e ∷ ds)) h = no-burst-ends (e ∷ ds) (h .1)
+  idle-after (offer cs ∷ steps) m i h = idle-after steps (offered mode cs m) i h
+  idle-after (ms begins ends x ∷ steps) m i h =
+      let d = didBy mode begins m in
+      let m′ = msBy mode begins ends m x in
+      idle-after steps m′ (λ e. ms-idle begins m (subst (λ (ds : List Did). EndsIdle (d ∷ ds)) e h) ends x)
+      (ends-tail d (toldDoes mode m′ steps) h)
 
   -- quiet is sent
-  all-quiet : (steps : List Step) (m : Model) → NoBurst (does mode m steps) → sentIn (does mode m steps) ≡ replicate (length (does mode m steps)) 0
-  unfolding does NoBurst
+  all-quiet : (steps : List Told) (m : Model) → NoBurst (toldDoes mode m steps)
+      → sentIn (toldDoes mode m steps) ≡ replicate (toldMs steps) 0
+  unfolding toldDoes toldHeard NoBurst
   all-quiet [] m h = refl
-  all-quiet (Offer cs ∷ steps) m h = all-quiet steps (offered mode cs m) h
-  all-quiet (Ms x ∷ steps) m h = λ i. ms-quiet m (h .0) i ∷ all-quiet steps (msAfter mode m x) (h .1) i
+  all-quiet (offer cs ∷ steps) m h = all-quiet steps (offered mode cs m) h
+  all-quiet (ms begins ends x ∷ steps) m h =
+      λ i. ms-quiet begins m (h .0) i ∷ all-quiet steps (msBy mode begins ends m x) (h .1) i
 
   -- a reader that is not inhibited
   none-inhibited : (xs : List ℕ) (r : Reader) → eventsInhibited mode zero r xs ≡ events mode r xs
   unfolding eventsInhibited outputs
   none-inhibited [] r = refl
-  none-inhibited (x ∷ xs) r = ap (λ (es : List Event). hear mode r x .event ∷ es) (none-inhibited xs (hear mode r x .reader))
+  none-inhibited (x ∷ xs) r = behind (none-inhibited xs (hear mode r x .reader))
 
   -- quiet ms, the first n of them inhibited, and then others
   quiet-rests : (k n : ℕ) (r : Reader) (xs : List ℕ) → n ≤ k
-      → (bs : List Bool) × (length bs ≡ k) × (drop k (eventsInhibited mode n r (replicate k 0 ++ xs)) ≡ events mode (restsAll mode r bs) xs)
+      → (bs : List Bool) × (length bs ≡ k)
+      × (drop k (eventsInhibited mode n r (replicate k 0 ++ xs)) ≡ events mode (restsAll mode r bs) xs)
   unfolding eventsInhibited restsAll
   quiet-rests zero zero r xs h = ([], refl, none-inhibited xs r)
   quiet-rests zero (suc n) r xs h = absurd (omega arith)
-  quiet-rests (suc k) zero r xs h = let i = quiet-rests k zero (hear mode r 0 .reader) xs (omega arith) in (false ∷ i .0, ap suc (i .1), i .2)
-  quiet-rests (suc k) (suc n) r xs h = let i = quiet-rests k n (inhibited r) xs (omega arith) in (true ∷ i .0, ap suc (i .1), i .2)
+  quiet-rests (suc k) zero r xs h =
+      let i = quiet-rests k zero (hear mode r 0 .reader) xs (omega arith) in
+      (false ∷ i .0, ap suc (i .1), i .2)
+  quiet-rests (suc k) (suc n) r xs h =
+      let i = quiet-rests k n (inhibited r) xs (omega arith) in
+      (true ∷ i .0, ap suc (i .1), i .2)
 
 -- ---- what is taken are characters, and so are their normal forms
 
@@ -110,7 +165,8 @@ unfolding normalForm allAtMost
 normal-form-chars a [] t = refl
 normal-form-chars a (c ∷ cs) t =
     let h = at-most-head 0x7f c cs t in
-    at-most-append 0x7f (normal a c) (normalForm a cs) (normal-chars a c (omega arith)) (normal-form-chars a cs (at-most-tail 0x7f c cs t))
+    at-most-append 0x7f (normal a c) (normalForm a cs) (normal-chars a c (omega arith))
+    (normal-form-chars a cs (at-most-tail 0x7f c cs t))
 
 taken-drop : (k : ℕ) (ds : List Did) → allChars (takenIn ds) ≡ true → allChars (takenIn (drop k ds)) ≡ true
 unfolding takenIn
@@ -119,43 +175,54 @@ taken-drop (suc k) [] t = t
 taken-drop (suc k) (d ∷ ds) t = taken-drop k ds (at-most-behind 0x7f (d .taken) (takenIn ds) t)
 
 module _ (mode : Mode) (L : LawsOf mode) where
-  begins-chars : {waiting : List ℕ} {on : OnLine} {s : Sender} {l : Loaded} → Begins mode waiting on s l → allChars (l .taken) ≡ true
+  begins-chars : {waiting : List ℕ} {on : OnLine} {s : Sender} {l : Loaded} → Begins mode waiting on s l
+      → allChars (l .taken) ≡ true
   unfolding allAtMost
   begins-chars stays = refl
   begins-chars (shifts part c cs s w e) = refl
   begins-chars (owns part c cs s w e) = one-char c (w .char-in)
 
-  taken-chars : (steps : List Step) (m : Model) → Fine mode m → allChars (takenIn (does mode m steps)) ≡ true
-  unfolding does did takenIn allAtMost
+  taken-chars : (steps : List Told) (m : Model) → Fine mode m → allChars (takenIn (toldDoes mode m steps)) ≡ true
+  unfolding toldDoes didBy takenIn allAtMost
   taken-chars [] m f = refl
-  taken-chars (Offer cs ∷ steps) m f = taken-chars steps (offered mode cs m) (fine-offered mode cs m f)
-  taken-chars (Ms x ∷ steps) m f =
-      at-most-append 0x7f (load mode m .taken) _ (begins-chars (load-view mode L m f .2)) (taken-chars steps (msAfter mode m x) (fine-ms mode L m x f))
+  taken-chars (offer cs ∷ steps) m f = taken-chars steps (offered mode cs m) (fine-offered mode cs m f)
+  taken-chars (ms begins ends x ∷ steps) m f =
+      at-most-append 0x7f (loadBy begins mode m .taken) _ (begins-chars (load-view mode L begins m f .2))
+      (taken-chars steps (msBy mode begins ends m x) (fine-ms mode L begins ends m x f))
 
   -- ---- from a model in no burst and a reader between codes on
-  module _ (next : List Step) (m : Model) (r : Reader) (f : Fine mode m) (idle : m .onLine ≡ Idle) (between : Settled mode r) where
-    abbrev ds : List Did
-    ds = does mode m next
+  module _ (next : List Told) (m : Model) (r : Reader)
+      (f : Fine mode m) (idle : m .onLine ≡ Idle) (between : Settled mode r) where
+    abbrev a : Alphabet
+    a = alphabetOf mode
 
-    text-by : (b : Bool) → atOnce (alphabetOf mode) ≡ b → EndsIdle ds → wordsOf (drop (cond b 0 (untilSynchronized mode ds)) (events mode r (sentIn ds))) ≡ normalForm (alphabetOf mode) (takenIn (drop (cond b 0 (untilSynchronized mode ds)) ds))
+    abbrev ds : List Did
+    ds = toldDoes mode m next
+
+    ends : EndsIdle ds → toldAfter mode m next .onLine ≡ Idle
+    ends z = idle-after mode next m (λ _. idle) z
+
+    text-by : (b : Bool) → atOnce a ≡ b → EndsIdle ds
+        → let k = cond b 0 (untilSynchronized mode ds) in
+        wordsOf (drop k (events mode r (sentIn ds))) ≡ normalForm a (takenIn (drop k ds))
     unfolding stateAfter outputs wordsOf
     text-by true e z =
-        follows mode L next m r f (rw idle (L .at-once e (m .sender) r between)) (idle-after mode next m (λ _. idle) z) ∙ ap (λ (on : OnLine). words mode r (left on) ++ normalForm (alphabetOf mode) (takenIn ds)) idle
-    text-by false e z = follows-after mode L next m r f (rw idle (record { between = between; due = tt })) (idle-after mode next m (λ _. idle) z)
+        follows mode L next m r f (rw idle (L .at-once e (m .sender) r between)) (ends z)
+        ∙ ap (λ (on : OnLine). words mode r (left on) ++ normalForm a (takenIn ds)) idle
+    text-by false e z = follows-after mode L next m r f (rw idle (record { between = between; due = tt })) (ends z)
 
-    before-by : (b : Bool) → atOnce (alphabetOf mode) ≡ b → length (takenIn (take (cond b 0 (untilSynchronized mode ds)) ds)) ≤ mostBefore (alphabetOf mode)
+    before-by : (b : Bool) → atOnce a ≡ b
+        → length (takenIn (take (cond b 0 (untilSynchronized mode ds)) ds)) ≤ mostBefore a
     unfolding takenIn
     before-by true e = omega arith
-    before-by false e = bound mode L e next m (mostBefore (alphabetOf mode)) f (rw idle (L .room-most (m .sender)))
+    before-by false e = bound mode L e next m (mostBefore a) f (rw idle (L .room-most (m .sender)))
 
     reads : Reads mode ds (events mode r (sentIn ds))
     reads =
-        let w = text-by (atOnce (alphabetOf mode)) refl in
-        record {
-          before = before-by (atOnce (alphabetOf mode)) refl;
-          text = w;
-          no-fault = λ z. rw (w z) (normal-form-chars (alphabetOf mode) (takenIn (drop (synchronizedAfter mode ds) ds)) (taken-drop (synchronizedAfter mode ds) ds (taken-chars next m f)));
-        }
+        let w = text-by (atOnce a) refl in
+        let k = synchronizedAfter mode ds in
+        let chars = normal-form-chars a (takenIn (drop k ds)) (taken-drop k ds (taken-chars next m f)) in
+        record { before = before-by (atOnce a) refl; text = w; no-fault = λ z. rw (w z) chars }
 
 -- ---- from a fresh model on
 
@@ -165,21 +232,51 @@ fresh-sender Baudot50 = inl refl
 fresh-sender Dtmf = tt
 fresh-sender Edt = tt
 
+fresh-fine : (mode : Mode) → Fine mode freshModel
+fresh-fine mode = record { waits = tt; sender-in = fresh-sender mode }
+
+module _ (mode : Mode) (past on : List Told) (r : Reader) (n : ℕ) (p : Premises mode past on r n) (c : Cut 40 on) where
+  abbrev m : Model
+  m = toldAfter mode freshModel past
+
+  abbrev m′ : Model
+  m′ = toldAfter mode m (c .front)
+
+  abbrev forty : List Did
+  forty = toldDoes mode m (c .front)
+
+  abbrev next : List Did
+  next = toldDoes mode m′ (c .back)
+
+  on-is : toldDoes mode m on ≡ forty ++ next
+  on-is = does-cut mode c m
+
+  forty-length : length forty ≡ 40
+  forty-length = does-length mode (c .front) m ∙ c .front-ms
+
+  idle-forty : NoBurst forty
+  idle-forty = subst NoBurst (ap (take 40) on-is ∙ take-at forty next 40 forty-length) (p .idle)
+
+  -- 40 quiet ms are sent, and then those that follow; there is no burst between them
+  sent-is : sentIn (toldDoes mode m on) ≡ replicate 40 0 ++ sentIn next
+  sent-is =
+      let quiets = all-quiet mode (c .front) m idle-forty ∙ ap (λ (i : ℕ). replicate {A = ℕ} i 0) (c .front-ms) in
+      ap sentIn on-is ∙ sent-append forty next ∙ ap (λ (l : List ℕ). l ++ sentIn next) quiets
+
+  idle-then : m′ .onLine ≡ Idle
+  idle-then =
+      let some = forty-length in
+      idle-after mode (c .front) m (λ e. let z = ap length e in absurd (omega arith)) (no-burst-ends forty idle-forty)
+
+  reads-cut : let ds = toldDoes mode m on in Reads mode (drop 40 ds) (drop 40 (eventsInhibited mode n r (sentIn ds)))
+  reads-cut =
+      let L = laws mode in
+      let f = fine-after mode L (c .front) m (fine-after mode L past freshModel (fresh-fine mode)) in
+      let b = quiet-rests mode 40 n r (sentIn next) (p .inhibited-in) in
+      let next-is = ap (drop 40) on-is ∙ drop-at forty next 40 forty-length in
+      let heard-is = ap (λ (l : List ℕ). drop 40 (eventsInhibited mode n r l)) sent-is ∙ b .2 in
+      rw (next-is, heard-is)
+      (reads mode L (c .back) m′ (restsAll mode r (b .0)) f idle-then (settles mode r (p .reader-in) (b .0) (b .1)))
+
 pub reads-after-idle : (mode : Mode) → ReadsAfterIdle mode
-reads-after-idle mode past forty next r n p =
-    let L = laws mode in
-    let m = modelAfter mode freshModel past in
-    let m′ = modelAfter mode m forty in
-    let ds = does mode m′ next in
-    let f = fine-after mode L past freshModel (record { waits = tt; sender-in = fresh-sender mode }) in
-    let f′ = fine-after mode L forty m f in
-    let k = p .forty-ms in
-    let idle = idle-after mode forty m (λ e. let z = ap length e in absurd (omega arith)) (no-burst-ends mode (does mode m forty) (p .idle)) in
-    let b = quiet-rests mode 40 n r (sentIn ds) (p .inhibited-in) in
-    let e = does-append mode forty next m in
-    let quiets : sentIn (does mode m forty) ≡ replicate 40 0 = all-quiet mode forty m (p .idle) ∙ ap (λ (i : ℕ). replicate {A = ℕ} i 0) k in
-    let sent : sentIn (does mode m (forty ++ next)) ≡ replicate 40 0 ++ sentIn ds = ap sentIn e ∙ sent-append (does mode m forty) ds ∙ ap (λ (l : List ℕ). l ++ sentIn ds) quiets in
-    let did-is : drop 40 (does mode m (forty ++ next)) ≡ ds = ap (drop 40) e ∙ ap (λ (i : ℕ). drop i (does mode m forty ++ ds)) (sym k) ∙ drop-append-seam (does mode m forty) ds in
-    let heard-is : drop 40 (eventsInhibited mode n r (sentIn (does mode m (forty ++ next)))) ≡ events mode (restsAll mode r (b .0)) (sentIn ds) =
-    ap (λ (l : List ℕ). drop 40 (eventsInhibited mode n r l)) sent ∙ b .2 in
-    rw (did-is, heard-is) (reads mode L next m′ (restsAll mode r (b .0)) f′ idle (settles mode r (p .reader-in) (b .0) (b .1)))
+reads-after-idle mode past on r n p = reads-cut mode past on r n p (cut-after 40 on (p .forty-ms))

@@ -7,14 +7,15 @@ use lib.ListN.{length, length-append}
 use borrow.Author.Tests.{leb-true}
 use Rattle.station.specs.declared.Station.{Station}
 use Rattle.station.specs.Station.{stationAfter}
-use Rattle.station.specs.Entries.{StationRan, runAnswer}
 use Rattle.station.proofs.Range.{offer-full, runs, run-full}
 use Rattle.station.proofs.Cuts.{cut, first-runs, second-runs}
-use Rattle.demand3.specs.Model.{Step, Ms}
-use Rattle.demand3.specs.Calls.{Call, OfferCall, RunCall, opened, left, sentFor, wordsFor, stepsFor, leftBy, sentBy, wordsBy, stepsBy}
+use Rattle.demand3.specs.Model.{Ms}
+use Rattle.demand3.specs.Calls.{Call, OfferCall, RunCall, opened, left, sentFor, wordsFor, stepsFor}
+use Rattle.demand3.specs.Calls.{leftBy, sentBy, wordsBy, stepsBy}
 use Rattle.demand3.specs.Demand3.{CutInTwo}
 use Rattle.demand3.proofs.StationLike.{opened-like}
-use Rattle.demand3.proofs.Calls.{run-yes, run-answer, words-of, sent-of, steps-of}
+use Rattle.demand3.proofs.Cuts.{behind}
+use Rattle.demand3.proofs.Calls.{answerTo, run-answer, left-of, words-of, sent-of, steps-of}
 
 -- the calls a and b in place of c leave the same station and hand out the same
 record Two (s : Station) (c a b : Call) : Type 0 where
@@ -25,52 +26,76 @@ record Two (s : Station) (c a b : Call) : Type 0 where
 
 map-append : (xs ys : List ℕ) → map Ms (xs ++ ys) ≡ map Ms xs ++ map Ms ys
 map-append [] ys = refl
-map-append (x ∷ xs) ys = ap (λ (l : List Step). Ms x ∷ l) (map-append xs ys)
+map-append (x ∷ xs) ys = behind (map-append xs ys)
 
-two : (xs ys sent words sent′ words′ : List ℕ) (s : Station) → length (s .chars) ≡ 256 → runAnswer s (xs ++ ys) (length sent) (length words) ≡ 0
-    → length ys ≤ length sent′ → length ys ≤ length words′ → Two s (RunCall (xs ++ ys) sent words) (RunCall xs sent words) (RunCall ys sent′ words′)
-two xs ys sent words sent′ words′ s full z u v =
-    let r = runs s (xs ++ ys) (length sent) (length words) z in
-    let n = length-append xs ys in
-    let p = leb-true (length (xs ++ ys)) (length sent) (r .sent-fits) in
-    let q = leb-true (length (xs ++ ys)) (length words) (r .words-fit) in
-    let x = first-runs s xs ys (length sent) (length words) z (length sent) (length words) (omega arith) (omega arith) in
-    let y = second-runs s xs ys (length sent) (length words) z full (length sent′) (length words′) u v in
-    let l = ap (λ (a : StationRan). a .station) (run-yes s xs (length sent) (length words) x) in
-    let t = stationAfter s xs in
-    let k = cut s xs ys in
-    record {
-      left-is =
-          ap (λ (t : Station). left t (RunCall ys sent′ words′)) l ∙ ap (λ (a : StationRan). a .station) (run-yes t ys (length sent′) (length words′) y)
-          ∙ sym (k .station) ∙ sym (ap (λ (a : StationRan). a .station) (run-yes s (xs ++ ys) (length sent) (length words) z));
-      words-are =
-          words-of (xs ++ ys) sent words s z ∙ k .words
-          ∙ sym (λ i. words-of xs sent words s x i ++ (ap (λ (t : Station). wordsFor t (RunCall ys sent′ words′)) l ∙ words-of ys sent′ words′ t y) i);
-      sent-are =
-          sent-of (xs ++ ys) sent words s z ∙ k .sent
-          ∙ sym (λ i. sent-of xs sent words s x i ++ (ap (λ (t : Station). sentFor t (RunCall ys sent′ words′)) l ∙ sent-of ys sent′ words′ t y) i);
-      steps-are =
-          steps-of (xs ++ ys) sent words s z ∙ map-append xs ys
-          ∙ sym (λ i. steps-of xs sent words s x i ++ (ap (λ (t : Station). stepsFor t (RunCall ys sent′ words′)) l ∙ steps-of ys sent′ words′ t y) i);
-    }
+module _ (xs ys sent words sent′ words′ : List ℕ) (s : Station) (full : length (s .chars) ≡ 256)
+    (z : answerTo s (xs ++ ys) sent words ≡ 0) (u : length ys ≤ length sent′) (v : length ys ≤ length words′) where
+  abbrev c : Call
+  c = RunCall (xs ++ ys) sent words
+
+  abbrev a : Call
+  a = RunCall xs sent words
+
+  abbrev b : Call
+  b = RunCall ys sent′ words′
+
+  first : answerTo s xs sent words ≡ 0
+  first =
+      let r = runs s (xs ++ ys) (length sent) (length words) z in
+      let n = length-append xs ys in
+      let p = leb-true (length (xs ++ ys)) (length sent) (r .sent-fits) in
+      let q = leb-true (length (xs ++ ys)) (length words) (r .words-fit) in
+      first-runs s xs ys (length sent) (length words) z (length sent) (length words) (omega arith) (omega arith)
+
+  second : answerTo (stationAfter s xs) ys sent′ words′ ≡ 0
+  second = second-runs s xs ys (length sent) (length words) z full (length sent′) (length words′) u v
+
+  -- what the two hand out, by what each of them does
+  behind-first : {X : Type 0} (of : Station → Call → List X) {fs gs : List X} → of s a ≡ fs
+      → of (stationAfter s xs) b ≡ gs → fs ++ gs ≡ of s a ++ of (left s a) b
+  behind-first of e g = sym (λ i. e i ++ (ap (λ (t : Station). of t b) (left-of xs sent words s first) ∙ g) i)
+
+  two : Two s c a b
+  two =
+      let t = stationAfter s xs in
+      let k = cut s xs ys in
+      record {
+        left-is =
+            ap (λ (t : Station). left t b) (left-of xs sent words s first) ∙ left-of ys sent′ words′ t second
+            ∙ sym (k .station) ∙ sym (left-of (xs ++ ys) sent words s z);
+        words-are =
+            words-of (xs ++ ys) sent words s z ∙ k .words
+            ∙ behind-first wordsFor (words-of xs sent words s first) (words-of ys sent′ words′ t second);
+        sent-are =
+            sent-of (xs ++ ys) sent words s z ∙ k .sent
+            ∙ behind-first sentFor (sent-of xs sent words s first) (sent-of ys sent′ words′ t second);
+        steps-are =
+            steps-of (xs ++ ys) sent words s z ∙ map-append xs ys
+            ∙ behind-first stepsFor (steps-of xs sent words s first) (steps-of ys sent′ words′ t second);
+      }
 
 -- the calls around them: `of` is what a call hands out, `by` what a list does
-around : {X : Type 0} (of : Station → Call → List X) (by : Station → List Call → List X) → ((s : Station) (c : Call) (cs : List Call) → by s (c ∷ cs) ≡ of s c ++ by (left s c) cs)
-    → (past next : List Call) (c a b : Call) (s : Station) → let t = leftBy s past in
-    left (left t a) b ≡ left t c → of t c ≡ of t a ++ of (left t a) b → by s (past ++ (c ∷ next)) ≡ by s (past ++ (a ∷ b ∷ next))
-unfolding leftBy
-around of by step [] next c a b s l e =
-    step s c next ∙ (λ i. e i ++ by (sym l i) next) ∙ append-assoc (of s a) (of (left s a) b) (by (left (left s a) b) next)
-    ∙ ap (λ r. of s a ++ r) (sym (step (left s a) b next)) ∙ sym (step s a (b ∷ next))
-around of by step (q ∷ past) next c a b s l e =
-    step s q (past ++ (c ∷ next)) ∙ ap (λ r. of s q ++ r) (around of by step past next c a b (left s q) l e) ∙ sym (step s q (past ++ (a ∷ b ∷ next)))
+module _ {X : Type 0} (of : Station → Call → List X) (by : Station → List Call → List X)
+    (step : (s : Station) (c : Call) (cs : List Call) → by s (c ∷ cs) ≡ of s c ++ by (left s c) cs) where
+  around : (past next : List Call) (c a b : Call) (s : Station) → let t = leftBy s past in
+      left (left t a) b ≡ left t c → of t c ≡ of t a ++ of (left t a) b
+      → by s (past ++ (c ∷ next)) ≡ by s (past ++ (a ∷ b ∷ next))
+  unfolding leftBy
+  around [] next c a b s l e =
+      step s c next ∙ (λ i. e i ++ by (sym l i) next)
+      ∙ append-assoc (of s a) (of (left s a) b) (by (left (left s a) b) next)
+      ∙ ap (λ r. of s a ++ r) (sym (step (left s a) b next)) ∙ sym (step s a (b ∷ next))
+  around (q ∷ past) next c a b s l e =
+      step s q (past ++ (c ∷ next)) ∙ ap (λ r. of s q ++ r) (around past next c a b (left s q) l e)
+      ∙ sym (step s q (past ++ (a ∷ b ∷ next)))
 
 -- every station of a list has 256 places
 left-full : (cs : List Call) (s : Station) → length (s .chars) ≡ 256 → length (leftBy s cs .chars) ≡ 256
 unfolding leftBy
 left-full [] s f = f
 left-full (OfferCall text ∷ cs) s f = left-full cs (left s (OfferCall text)) (offer-full s text f)
-left-full (RunCall heard sent words ∷ cs) s f = left-full cs (left s (RunCall heard sent words)) (run-full s heard (length sent) (length words) f)
+left-full (RunCall heard sent words ∷ cs) s f =
+    left-full cs (left s (RunCall heard sent words)) (run-full s heard (length sent) (length words) f)
 
 pub cut-in-two : CutInTwo
 unfolding wordsBy sentBy stepsBy
@@ -80,7 +105,8 @@ cut-in-two n past next xs ys sent words sent′ words′ e u v =
     let c = RunCall (xs ++ ys) sent words in
     let a = RunCall xs sent words in
     let b = RunCall ys sent′ words′ in
-    let t = two xs ys sent words sent′ words′ s (left-full past o (opened-like n .full)) (run-answer s (xs ++ ys) sent words e) u v in
+    let full = left-full past o (opened-like n .full) in
+    let t = two xs ys sent words sent′ words′ s full (run-answer s (xs ++ ys) sent words e) u v in
     record {
       same-words = around wordsFor wordsBy (λ s c cs. refl) past next c a b o (t .left-is) (t .words-are);
       same-sent = around sentFor sentBy (λ s c cs. refl) past next c a b o (t .left-is) (t .sent-are);

@@ -1,21 +1,21 @@
--- Steps that stand one behind the other: what they offer, hear, do and end in; and a cut after any of their ms.
-use mathlib.Core.Path.{_≡_, _∙_, refl, ap}
-use mathlib.Core.List.{List, [], _∷_, _++_, map}
+-- Steps that are told, one behind the other: what they hear, do and end in; and a cut after any of their ms.
+use mathlib.Core.Path.{_≡_, _∙_, refl, sym, ap}
+use mathlib.Core.List.{List, [], _∷_, _++_}
 use Prim.Native.Nat.{ℕ, zero, suc, _+_, _-_, _≤_}
 use native.Mathlib.Omega.{arith}
-use lib.ListN.{length, take, length-append}
-use lib.Seq.{take-at, drop-at}
+use lib.ListN.{length, take, drop, length-append, length-drop}
+use lib.Seq.{take-at, drop-append-add, drop-append-le}
 use Rattle.alphabet.specs.declared.Mode.{Mode}
 use Rattle.reader.specs.declared.Reader.{Reader}
-use Rattle.demand3.specs.Model.{Model, Step, Offer, Ms, Did, offered, msAfter, modelAfter, does, sentIn, heardIn}
+use Rattle.demand3.specs.Model.{Model, Did, offered, sentIn}
 use Rattle.demand3.specs.Reading.{NoBurst}
-use Rattle.demand3.specs.BothModels.{stationReader, stationEvents, OffersNone}
-use Rattle.demand3.specs.Calls.{msIn}
 use Rattle.demand3.specs.Demand3.{between}
+use Rattle.demand3.proofs.Told.{Told, offer, ms, msBy, readerBy, toldAfter, toldDoes, toldHeard, toldMs}
+use Rattle.demand3.proofs.Told.{ToldNone, toldReader, toldEvents}
 
 -- ---- lists
 
-behind : {A : Type 0} {x : A} {xs ys : List A} → xs ≡ ys → x ∷ xs ≡ x ∷ ys
+pub behind : {A : Type 0} {x : A} {xs ys : List A} → xs ≡ ys → x ∷ xs ≡ x ∷ ys
 behind {x = x} e i = x ∷ e i
 
 pub take-append : {A : Type 0} (n : ℕ) (xs ys : List A) → take n (xs ++ ys) ≡ take n xs ++ take (n - length xs) ys
@@ -25,27 +25,14 @@ take-append (suc n) (x ∷ xs) ys =
     let e : suc n - suc (length xs) ≡ n - length xs = omega arith in
     rw e (behind (take-append n xs ys))
 
-pub between-is : {A : Type 0} (first from to : ℕ) (ps ws qs : List A) → length ps ≡ from - first → length ws ≡ to - from → between first from to (ps ++ (ws ++ qs)) ≡ ws
-between-is first from to ps ws qs p w = ap (take (to - from)) (drop-at ps (ws ++ qs) (from - first) p) ∙ take-at ws qs (to - from) w
-
--- ---- what they offer, hear and send
-
-pub heard-append : (xs ys : List Step) → heardIn (xs ++ ys) ≡ heardIn xs ++ heardIn ys
-unfolding heardIn
-heard-append [] ys = refl
-heard-append (Offer cs ∷ xs) ys = heard-append xs ys
-heard-append (Ms x ∷ xs) ys = behind (heard-append xs ys)
-
-pub heard-run : (heard : List ℕ) → heardIn (map Ms heard) ≡ heard
-unfolding heardIn
-heard-run [] = refl
-heard-run (x ∷ xs) = behind (heard-run xs)
-
-pub none-right : (xs ys : List Step) → OffersNone (xs ++ ys) → OffersNone ys
-unfolding OffersNone
-none-right [] ys h = h
-none-right (Offer cs ∷ xs) ys h = none-right xs ys (h .1)
-none-right (Ms x ∷ xs) ys h = none-right xs ys h
+-- of a list in which ps stand before vs, the entries from the k-th of vs on
+pub between-is : {A : Type 0} (first from to k : ℕ) (ps vs us : List A) → length ps + k ≡ from - first
+    → length vs ≡ k + (to - from) → between first from to (ps ++ (vs ++ us)) ≡ drop k vs
+between-is first from to k ps vs us p v =
+    let n = length-drop k vs in
+    ap (λ (i : ℕ). take (to - from) (drop i (ps ++ (vs ++ us)))) (sym p)
+    ∙ ap (take (to - from)) (drop-append-add ps (vs ++ us) k ∙ drop-append-le k vs us (omega arith))
+    ∙ take-at (drop k vs) us (to - from) (omega arith)
 
 pub idle-left : (xs ys : List Did) → NoBurst (xs ++ ys) → NoBurst xs
 unfolding NoBurst
@@ -61,59 +48,94 @@ pub sent-append : (ds es : List Did) → sentIn (ds ++ es) ≡ sentIn ds ++ sent
 sent-append [] es = refl
 sent-append (d ∷ ds) es = behind (sent-append ds es)
 
+-- ---- what they offer and hear
+
+pub heard-append : (xs ys : List Told) → toldHeard (xs ++ ys) ≡ toldHeard xs ++ toldHeard ys
+unfolding toldHeard
+heard-append [] ys = refl
+heard-append (offer cs ∷ xs) ys = heard-append xs ys
+heard-append (ms begins ends x ∷ xs) ys = behind (heard-append xs ys)
+
+pub ms-append : (xs ys : List Told) → toldMs (xs ++ ys) ≡ toldMs xs + toldMs ys
+ms-append xs ys = ap length (heard-append xs ys) ∙ length-append (toldHeard xs) (toldHeard ys)
+
+pub none-right : (xs ys : List Told) → ToldNone (xs ++ ys) → ToldNone ys
+unfolding ToldNone
+none-right [] ys h = h
+none-right (offer cs ∷ xs) ys h = none-right xs ys (h .1)
+none-right (ms begins ends x ∷ xs) ys h = none-right xs ys h
+
 -- ---- what the model and the reader make of them
 
 module _ (mode : Mode) where
-  pub after-append : (xs ys : List Step) (m : Model) → modelAfter mode m (xs ++ ys) ≡ modelAfter mode (modelAfter mode m xs) ys
-  unfolding modelAfter
+  pub after-append : (xs ys : List Told) (m : Model)
+      → toldAfter mode m (xs ++ ys) ≡ toldAfter mode (toldAfter mode m xs) ys
+  unfolding toldAfter
   after-append [] ys m = refl
-  after-append (Offer cs ∷ xs) ys m = after-append xs ys (offered mode cs m)
-  after-append (Ms x ∷ xs) ys m = after-append xs ys (msAfter mode m x)
+  after-append (offer cs ∷ xs) ys m = after-append xs ys (offered mode cs m)
+  after-append (ms begins ends x ∷ xs) ys m = after-append xs ys (msBy mode begins ends m x)
 
-  pub does-append : (xs ys : List Step) (m : Model) → does mode m (xs ++ ys) ≡ does mode m xs ++ does mode (modelAfter mode m xs) ys
-  unfolding does modelAfter
+  pub does-append : (xs ys : List Told) (m : Model)
+      → toldDoes mode m (xs ++ ys) ≡ toldDoes mode m xs ++ toldDoes mode (toldAfter mode m xs) ys
+  unfolding toldDoes toldAfter
   does-append [] ys m = refl
-  does-append (Offer cs ∷ xs) ys m = does-append xs ys (offered mode cs m)
-  does-append (Ms x ∷ xs) ys m = behind (does-append xs ys (msAfter mode m x))
+  does-append (offer cs ∷ xs) ys m = does-append xs ys (offered mode cs m)
+  does-append (ms begins ends x ∷ xs) ys m = behind (does-append xs ys (msBy mode begins ends m x))
 
-  pub events-append : (xs ys : List Step) (m : Model) (r : Reader) → stationEvents mode m r (xs ++ ys) ≡ stationEvents mode m r xs ++ stationEvents mode (modelAfter mode m xs) (stationReader mode m r xs) ys
-  unfolding stationEvents stationReader modelAfter
+  pub events-append : (xs ys : List Told) (m : Model) (r : Reader)
+      → toldEvents mode m r (xs ++ ys)
+      ≡ toldEvents mode m r xs ++ toldEvents mode (toldAfter mode m xs) (toldReader mode m r xs) ys
+  unfolding toldEvents toldReader toldAfter
   events-append [] ys m r = refl
-  events-append (Offer cs ∷ xs) ys m r = events-append xs ys (offered mode cs m) _
-  events-append (Ms x ∷ xs) ys m r =
-      behind (events-append xs ys (msAfter mode m x) (stationReader mode m r (Ms x ∷ [])))
+  events-append (offer cs ∷ xs) ys m r = events-append xs ys (offered mode cs m) _
+  events-append (ms begins ends x ∷ xs) ys m r =
+      behind (events-append xs ys (msBy mode begins ends m x) (readerBy mode begins m r x))
 
-  pub does-length : (steps : List Step) (m : Model) → length (does mode m steps) ≡ msIn steps
-  unfolding does heardIn
+  pub does-length : (steps : List Told) (m : Model) → length (toldDoes mode m steps) ≡ toldMs steps
+  unfolding toldDoes toldHeard
   does-length [] m = refl
-  does-length (Offer cs ∷ steps) m = does-length steps (offered mode cs m)
-  does-length (Ms x ∷ steps) m = ap suc (does-length steps (msAfter mode m x))
+  does-length (offer cs ∷ steps) m = does-length steps (offered mode cs m)
+  does-length (ms begins ends x ∷ steps) m = ap suc (does-length steps (msBy mode begins ends m x))
 
-  pub events-length : (steps : List Step) (m : Model) (r : Reader) → length (stationEvents mode m r steps) ≡ msIn steps
-  unfolding stationEvents heardIn
+  pub events-length : (steps : List Told) (m : Model) (r : Reader) → length (toldEvents mode m r steps) ≡ toldMs steps
+  unfolding toldEvents toldHeard
   events-length [] m r = refl
-  events-length (Offer cs ∷ steps) m r = events-length steps (offered mode cs m) _
-  events-length (Ms x ∷ steps) m r = ap suc (events-length steps (msAfter mode m x) _)
+  events-length (offer cs ∷ steps) m r = events-length steps (offered mode cs m) _
+  events-length (ms begins ends x ∷ steps) m r = ap suc (events-length steps (msBy mode begins ends m x) _)
 
 -- ---- a cut after n ms
 
-pub record Cut (n : ℕ) (steps : List Step) : Type 0 where
-  pub front : List Step
-  pub back : List Step
+pub record Cut (n : ℕ) (steps : List Told) : Type 0 where
+  pub front : List Told
+  pub back : List Told
   pub whole : steps ≡ front ++ back
-  pub front-ms : msIn front ≡ n
-  pub all-ms : msIn steps ≡ n + msIn back
+  pub front-ms : toldMs front ≡ n
+  pub all-ms : toldMs steps ≡ n + toldMs back
 
-pub cut-after : (n : ℕ) (steps : List Step) → n ≤ msIn steps → Cut n steps
-unfolding heardIn
+pub cut-after : (n : ℕ) (steps : List Told) → n ≤ toldMs steps → Cut n steps
+unfolding toldHeard
 cut-after zero steps h = record { front = []; back = steps; whole = refl; front-ms = refl; all-ms = omega arith }
 cut-after (suc n) [] h = absurd (omega arith)
-cut-after (suc n) (Offer cs ∷ steps) h =
+cut-after (suc n) (offer cs ∷ steps) h =
     let c = cut-after (suc n) steps h in
-    record { front = Offer cs ∷ c .front; back = c .back; whole = ap (λ (l : List Step). Offer cs ∷ l) (c .whole); front-ms = c .front-ms; all-ms = c .all-ms }
-cut-after (suc n) (Ms x ∷ steps) h =
+    record {
+      front = offer cs ∷ c .front;
+      back = c .back;
+      whole = behind (c .whole);
+      front-ms = c .front-ms;
+      all-ms = c .all-ms;
+    }
+cut-after (suc n) (ms begins ends x ∷ steps) h =
     let c = cut-after n steps (omega arith) in
-    record { front = Ms x ∷ c .front; back = c .back; whole = ap (λ (l : List Step). Ms x ∷ l) (c .whole); front-ms = ap suc (c .front-ms); all-ms = omega arith }
+    record {
+      front = ms begins ends x ∷ c .front;
+      back = c .back;
+      whole = behind (c .whole);
+      front-ms = ap suc (c .front-ms);
+      all-ms = omega arith;
+    }
 
-pub ms-append : (xs ys : List Step) → msIn (xs ++ ys) ≡ msIn xs + msIn ys
-ms-append xs ys = ap length (heard-append xs ys) ∙ length-append (heardIn xs) (heardIn ys)
+-- what a model does in steps that are cut
+pub does-cut : (mode : Mode) {n : ℕ} {steps : List Told} (c : Cut n steps) (m : Model)
+    → toldDoes mode m steps ≡ toldDoes mode m (c .front) ++ toldDoes mode (toldAfter mode m (c .front)) (c .back)
+does-cut mode c m = ap (toldDoes mode m) (c .whole) ∙ does-append mode (c .front) (c .back) m

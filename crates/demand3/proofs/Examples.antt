@@ -1,12 +1,13 @@
--- The instances of demand 3. The models of both are computed; which calls succeed is told by them.
+-- The instances of demand 3: one computed test for each. The models of both are computed; which calls succeed is told
+-- by them.
 use mathlib.Core.Path.{_≡_, _∙_, refl, sym, ap, subst}
 use mathlib.Core.Bool.{Bool, true, false, not, _&&_, false≢true}
-use mathlib.Core.List.{List, [], _∷_, _++_, map}
-use Prim.Native.Nat.{ℕ, zero, suc, _+_, _-_, _≤_, _<_}
+use mathlib.Core.List.{List, [], _∷_, _++_}
+use Prim.Native.Nat.{ℕ, zero, suc, _+_, _-_, _<_}
 use native.Mathlib.Omega.{arith}
-use lib.ListN.{length, take, drop}
-use lib.Dec.{eqb}
-use borrow.Author.Tests.{eqb-true, not-true}
+use lib.ListN.{length, getD, take, drop}
+use lib.Dec.{eqb, leb, ltb}
+use borrow.Author.Tests.{eqb-true, leb-true, ltb-true, not-true}
 use Rattle.lists.specs.Lists.{allAtMost}
 use Rattle.lists.specs.Tables.{tabulate}
 use Rattle.lists.proofs.Lists.{and-left, and-right}
@@ -16,7 +17,8 @@ use Rattle.alphabet.specs.TableA2.{a2}
 use Rattle.alphabet.specs.TableB1.{b1}
 use Rattle.alphabet.specs.TableB2.{b2}
 use Rattle.alphabet.specs.Baudot.{printedAt, readBaudot, sendBaudot}
-use Rattle.alphabet.specs.Dtmf.{withMark, codeFrom, prefixes, keysOf, marksThenDigit, among, notStruck, remaining, names, firstSign, named, readIn, readDtmf, sendIn, hasRow, sendFrom, sendDtmf}
+use Rattle.alphabet.specs.Dtmf.{withMark, codeFrom, prefixes, keysOf, marksThenDigit, among, notStruck, remaining}
+use Rattle.alphabet.specs.Dtmf.{names, firstSign, named, readIn, readDtmf, sendIn, hasRow, sendFrom, sendDtmf}
 use Rattle.alphabet.specs.Normal.{sends, reads, normalForm}
 use Rattle.baudot.specs.Sending.{wanted}
 use Rattle.signal.specs.Signal.{digits, held, baudotSignal, sum, edtElements, edtSignal, heldKeys, signal, signals}
@@ -24,71 +26,39 @@ use Rattle.frames.specs.Samples.{placed, sampleAt, samplesOf, baudotKinds}
 use Rattle.frames.specs.Frames.{sampled, frameStep}
 use Rattle.frames.specs.Range.{lastMs}
 use Rattle.reader.specs.Reader.{fresh, hear, inhibited}
-use Rattle.reader.specs.Words.{wordsOf, characterWord, faultWord}
+use Rattle.reader.specs.Words.{wordsOf, faultWord}
 use Rattle.line_theorems.specs.Examples.{chars}
 use Rattle.queue.specs.Queue.{waiters}
 use Rattle.burst.specs.Rules.{mayBegin, mayEnd}
 use Rattle.station.specs.Station.{hasDel}
-use Rattle.demand3.specs.Model.{Step, Offer, Ms, Did, freshModel, offered, begun, codeBegins, nextCode, load, levelOn, oneGone, ended, closed, isInhibited, did, msAfter, modelAfter, does, sentIn, takenIn, heardIn}
+use Rattle.demand3.specs.Model.{Step, Offer, Ms, Did, freshModel, offered, begun, codeBegins, nextCode, load}
+use Rattle.demand3.specs.Model.{levelOn, oneGone, ended, closed, did, msAfter, modelAfter, does, sentIn, takenIn}
+use Rattle.demand3.specs.Model.{heardIn, msIn, OffersNone}
 use Rattle.demand3.specs.Reading.{synchronizes, untilSynchronized, synchronizedAfter, NoBurst, EndsIdle}
-use Rattle.demand3.specs.BothModels.{OffersNone, stationEvents}
-use Rattle.demand3.specs.Calls.{opened, accepts, modelSteps, msIn}
-use Rattle.demand3.specs.Demand3.{Lists, theMode, theAlphabet, didsA, between, Premises, followsA, synchronized, wordsBefore}
-use Rattle.demand3.specs.Examples.{Example, Holds, Mistaken, AllHold, callsA45, line45, callsB45, baudot45, callsA50, line50, laterLine50, lastLine50, callsB50, baudot50, callsAKeys, callsBKeys, dtmf, callsAEdt, callsBEdt, edt}
-use Rattle.demand3.proofs.StationLike.{opened-like}
-use Rattle.demand3.proofs.Calls.{words-up-to}
-use Rattle.demand3.proofs.Demand3.{of-calls, steps-are, demand-3}
-use Rattle.demand3.proofs.Cuts.{does-length}
+use Rattle.demand3.specs.Demand3.{Lists, theMode, theAlphabet, stepsA, stepsB, didsA, between, Premises, followsA}
+use Rattle.demand3.specs.Demand3.{synchronized, wordsDue, wordsBefore}
+use Rattle.demand3.specs.Examples.{Example, Holds, Mistaken, AllHold, callsA45, line45, callsB45, baudot45}
+use Rattle.demand3.specs.Examples.{callsA50, line50, laterLine50, lastLine50, callsB50, baudot50}
+use Rattle.demand3.specs.Examples.{callsAKeys, callsBKeys, dtmf, callsAEdt, callsBEdt, edt}
+use Rattle.demand3.proofs.Told.{inhibitedBy, msBy, toldEvents}
+use Rattle.demand3.proofs.Cuts.{behind, does-length}
+use Rattle.demand3.proofs.OwnRules.{toldOf, own-does, own-heard}
+use Rattle.demand3.proofs.Accepts.{accepts, modelSteps, steps-are}
+use Rattle.demand3.proofs.Demand3.{same-words, sends-as-model, words-are, demand-3}
+
+-- ---- tests
 
 noBurst : List Did → Bool
 noBurst [] = true
 noBurst (d ∷ ds) = not (d .burst) && noBurst ds
 
-by-test : (ds : List Did) → noBurst ds ≡ true → NoBurst ds
+no-burst-by : (ds : List Did) → noBurst ds ≡ true → NoBurst ds
 unfolding noBurst NoBurst
-by-test [] t = tt
-by-test (d ∷ ds) t = (not-true (d .burst) (and-left (not (d .burst)) (noBurst ds) t), by-test ds (and-right (not (d .burst)) (noBurst ds) t))
+no-burst-by [] t = tt
+no-burst-by (d ∷ ds) t =
+    let b = not (d .burst) in
+    (not-true (d .burst) (and-left b (noBurst ds) t), no-burst-by ds (and-right b (noBurst ds) t))
 
--- some steps up to their n-th ms, and those after it
-frontMs : ℕ → List Step → List Step
-frontMs zero steps = []
-frontMs (suc n) [] = []
-frontMs (suc n) (Offer cs ∷ steps) = Offer cs ∷ frontMs (suc n) steps
-frontMs (suc n) (Ms x ∷ steps) = Ms x ∷ frontMs n steps
-
-backMs : ℕ → List Step → List Step
-backMs zero steps = steps
-backMs (suc n) [] = []
-backMs (suc n) (Offer cs ∷ steps) = backMs (suc n) steps
-backMs (suc n) (Ms x ∷ steps) = backMs n steps
-
-front-back : (n : ℕ) (steps : List Step) → steps ≡ frontMs n steps ++ backMs n steps
-unfolding frontMs backMs
-front-back zero steps = refl
-front-back (suc n) [] = refl
-front-back (suc n) (Offer cs ∷ steps) = ap (λ (l : List Step). Offer cs ∷ l) (front-back (suc n) steps)
-front-back (suc n) (Ms x ∷ steps) = ap (λ (l : List Step). Ms x ∷ l) (front-back n steps)
-
--- the steps of both, by their models; those of B before the idle period, and from its start to the ms asked about
-abbrev modelA : Lists → List Step
-modelA d = modelSteps (theMode d) freshModel (d .callsA)
-
-abbrev modelB : Lists → List Step
-modelB d = modelSteps (theMode d) freshModel (d .callsB)
-
-abbrev pastOf : Lists → List Step
-pastOf d = frontMs (d .start - d .openB) (modelB d)
-
-abbrev laterOf : Lists → List Step
-laterOf d = backMs (d .start - d .openB) (modelB d)
-
-abbrev sinceOf : Lists → List Step
-sinceOf d = frontMs (d .asked + 1 - d .openB - (d .start - d .openB)) (laterOf d)
-
-abbrev beyondOf : Lists → List Step
-beyondOf d = backMs (d .asked + 1 - d .openB - (d .start - d .openB)) (laterOf d)
-
--- what A does, and what is to be computed of it
 endsIdle : List Did → Bool
 endsIdle [] = true
 endsIdle (d ∷ []) = not (d .burst)
@@ -111,198 +81,238 @@ unfolding same
 same-by [] [] t = refl
 same-by [] (y ∷ ys) t = absurd (false≢true t)
 same-by (x ∷ xs) [] t = absurd (false≢true t)
-same-by (x ∷ xs) (y ∷ ys) t = λ i. eqb-true x y (and-left (eqb x y) (same xs ys) t) i ∷ same-by xs ys (and-right (eqb x y) (same xs ys) t) i
+same-by (x ∷ xs) (y ∷ ys) t =
+    let e = eqb-true x y (and-left (eqb x y) (same xs ys) t) in
+    λ i. e i ∷ same-by xs ys (and-right (eqb x y) (same xs ys) t) i
 
-abbrev didsOf : Lists → List Did
-didsOf d = does (theMode d) freshModel (modelA d)
+offersNone : List Step → Bool
+offersNone [] = true
+offersNone (Offer cs ∷ steps) = same cs [] && offersNone steps
+offersNone (Ms x ∷ steps) = offersNone steps
+
+none-by : (steps : List Step) → offersNone steps ≡ true → OffersNone steps
+unfolding offersNone OffersNone
+none-by [] t = tt
+none-by (Offer cs ∷ steps) t =
+    let b = same cs [] in
+    (same-by cs [] (and-left b (offersNone steps) t), none-by steps (and-right b (offersNone steps) t))
+none-by (Ms x ∷ steps) t = none-by steps t
+
+allTrue : List Bool → Bool
+allTrue [] = true
+allTrue (b ∷ bs) = b && allTrue bs
+
+nth : (n : ℕ) (bs : List Bool) → allTrue bs ≡ true → getD bs n true ≡ true
+unfolding allTrue
+nth n [] t = refl
+nth zero (b ∷ bs) t = and-left b (allTrue bs) t
+nth (suc n) (b ∷ bs) t = nth n bs (and-right b (allTrue bs) t)
+
+-- some steps up to their n-th ms, and those after it
+frontMs : ℕ → List Step → List Step
+frontMs zero steps = []
+frontMs (suc n) [] = []
+frontMs (suc n) (Offer cs ∷ steps) = Offer cs ∷ frontMs (suc n) steps
+frontMs (suc n) (Ms x ∷ steps) = Ms x ∷ frontMs n steps
+
+backMs : ℕ → List Step → List Step
+backMs zero steps = steps
+backMs (suc n) [] = []
+backMs (suc n) (Offer cs ∷ steps) = backMs (suc n) steps
+backMs (suc n) (Ms x ∷ steps) = backMs n steps
+
+front-back : (n : ℕ) (steps : List Step) → steps ≡ frontMs n steps ++ backMs n steps
+unfolding frontMs backMs
+front-back zero steps = refl
+front-back (suc n) [] = refl
+front-back (suc n) (Offer cs ∷ steps) = behind (front-back (suc n) steps)
+front-back (suc n) (Ms x ∷ steps) = behind (front-back n steps)
+
+-- ---- what is computed of an example: A does ds, and B has these steps
+
+abbrev pastMs : Lists → ℕ
+pastMs d = d .start - d .openB
+
+abbrev sinceMs : Lists → ℕ
+sinceMs d = d .asked + 1 - d .openB - pastMs d
+
+-- B's steps before the idle period, from its start to the ms asked about, and beyond
+abbrev pastOf : Lists → List Step → List Step
+pastOf d steps = frontMs (pastMs d) steps
+
+abbrev sinceOf : Lists → List Step → List Step
+sinceOf d steps = frontMs (sinceMs d) (backMs (pastMs d) steps)
+
+abbrev beyondOf : Lists → List Step → List Step
+beyondOf d steps = backMs (sinceMs d) (backMs (pastMs d) steps)
 
 abbrev follows : Lists → List Did → List Did
 follows d ds = between (d .openA) (d .start + 300) (d .asked + 1) ds
 
-abbrev wordsTo : Lists → ℕ → List ℕ
-wordsTo d t = wordsOf (take (t - d .openB) (stationEvents (theMode d) freshModel fresh (modelB d)))
-
-record Found : Type 0 where
-  count : ℕ
-  idle : Bool
-  ends : Bool
-  before : List ℕ
-  words : List ℕ
-  hears : Bool
-
-found : Lists → List Did → Found
-found d ds =
+tests : Example → List Did → List Step → List Bool
+tests e ds steps =
+    let d = e .lists in
+    let mode = theMode d in
+    let past = pastOf d steps in
+    let since = sinceOf d steps in
+    let m = modelAfter mode freshModel past in
     let fs = follows d ds in
-    let k = synchronizedAfter (theMode d) fs in
-    record {
-      count = length ds;
-      idle = noBurst (between (d .openA) (d .start) (d .start + 300) ds);
-      ends = endsIdle fs;
-      before = takenIn (take k fs);
-      words = map characterWord (normalForm (theAlphabet d) (takenIn (drop k fs)));
-      hears = same (between (d .openB) (d .start + 260) (d .asked + 1) (heardIn (modelB d))) (between (d .openA) (d .start + 260) (d .asked + 1) (sentIn ds));
-    }
+    let k = synchronizedAfter mode fs in
+    -- 0: the premises
+    leb (d .openA) (d .start)
+    ∷ noBurst (between (d .openA) (d .start) (d .start + 300) ds)
+    ∷ leb (d .start + 300) (d .asked)
+    ∷ ltb (d .asked) (d .openA + length ds)
+    ∷ ltb (d .asked) (d .openB + msIn steps)
+    ∷ leb (d .openB) (d .start + 260)
+    ∷ eqb (msIn past) (d .start - d .openB)
+    ∷ eqb (msIn (past ++ since)) (d .asked + 1 - d .openB)
+    ∷ same (m .waiting) []
+    ∷ noBurst (does mode m since)
+    ∷ offersNone since
+    ∷ same (between (d .openB) (d .start + 260) (d .asked + 1) (heardIn steps))
+    (between (d .openA) (d .start + 260) (d .asked + 1) (sentIn ds))
+    -- 12: and what follows
+    ∷ endsIdle fs
+    ∷ same (takenIn (take k fs)) (e .before)
+    ∷ same (normalForm (theAlphabet d) (takenIn (drop k fs))) (e .words)
+    ∷ []
 
-record Checks (e : Example) : Type 0 where
-  later : e .lists .start + 300 ≤ e .lists .asked
-  count-A : ℕ
-  run-A : e .lists .asked < e .lists .openA + count-A
-  run-B : e .lists .asked < e .lists .openB + msIn (modelB (e .lists))
-  opened-A : e .lists .openA ≤ e .lists .start
-  opened-B : e .lists .openB ≤ e .lists .start + 260
-  past-ms : msIn (pastOf (e .lists)) ≡ e .lists .start - e .lists .openB
-  since-ms : msIn (pastOf (e .lists) ++ sinceOf (e .lists)) ≡ e .lists .asked + 1 - e .lists .openB
-  from-opening : e .lists .start < e .lists .openB → pastOf (e .lists) ≡ []
-  none-waits : modelAfter (theMode (e .lists)) freshModel (pastOf (e .lists)) .waiting ≡ []
-  idle-B : noBurst (does (theMode (e .lists)) (modelAfter (theMode (e .lists)) freshModel (pastOf (e .lists))) (sinceOf (e .lists))) ≡ true
-  offers-none : OffersNone (sinceOf (e .lists))
-  found-is : found (e .lists) (didsOf (e .lists)) ≡ record {
-    count = count-A;
-    idle = true;
-    ends = true;
-    before = e .before;
-    words = e .words;
-    hears = true;
-  }
+-- the steps of both, by their models
+abbrev modelA : Lists → List Step
+modelA d = modelSteps (theMode d) freshModel (d .callsA)
 
-premises-of : (e : Example) → Checks e → Premises (e .lists)
-unfolding found
-premises-of e c =
-    let d = e .lists in
-    let a = sym (steps-are (d .mode) (d .callsA)) in
-    let b = sym (steps-are (d .mode) (d .callsB)) in
-    let later = front-back (d .asked + 1 - d .openB - (d .start - d .openB)) (laterOf d) in
-    record {
-      later = c .later;
-      run-A = subst (λ (n : ℕ). d .asked < d .openA + n) (sym (ap (λ (x : Found). x .count) (c .found-is)) ∙ does-length (theMode d) (modelA d) freshModel ∙ ap msIn a) (c .run-A);
-      run-B = subst (λ (l : List Step). d .asked < d .openB + msIn l) b (c .run-B);
-      opened-A = c .opened-A;
-      idle-A = subst (λ (l : List Step). NoBurst (between (d .openA) (d .start) (d .start + 300) (does (theMode d) freshModel l))) a (by-test _ (ap (λ (x : Found). x .idle) (c .found-is)));
-      opened-B = c .opened-B;
-      past = pastOf d;
-      since = sinceOf d;
-      beyond = beyondOf d;
-      cut = sym b ∙ front-back (d .start - d .openB) (modelB d) ∙ ap (λ (l : List Step). pastOf d ++ l) later;
-      past-ms = c .past-ms;
-      since-ms = c .since-ms;
-      from-opening = c .from-opening;
-      none-waits = c .none-waits;
-      idle-B = by-test _ (c .idle-B);
-      offers-none = c .offers-none;
-      hears =
-          ap (λ (l : List Step). between (d .openB) (d .start + 260) (d .asked + 1) (heardIn l)) (sym b) ∙ same-by _ _ (ap (λ (x : Found). x .hears) (c .found-is))
-          ∙ ap (λ (l : List Step). between (d .openA) (d .start + 260) (d .asked + 1) (sentIn (does (theMode d) freshModel l))) a
-          ∙ ap (between (d .openA) (d .start + 260) (d .asked + 1)) (sym (of-calls (d .mode) (d .callsA) .sent-are));
-    }
+abbrev modelB : Lists → List Step
+modelB d = modelSteps (theMode d) freshModel (d .callsB)
 
-words-to : (d : Lists) (t : ℕ) → wordsBefore d t ≡ wordsTo d t
-words-to d t =
-    words-up-to (theMode d) (d .callsB) (t - d .openB) (opened (d .mode)) freshModel fresh (opened-like (d .mode))
-    ∙ ap (λ (l : List Step). wordsOf (take (t - d .openB) (stationEvents (theMode d) freshModel fresh l))) (steps-are (d .mode) (d .callsB))
+abbrev didsOf : Lists → List Did
+didsOf d = does (theMode d) freshModel (modelA d)
 
-holds-of : (e : Example) → Checks e → Holds e
-unfolding found
-holds-of e c =
-    let d = e .lists in
-    let p = premises-of e c in
-    let f : didsOf d ≡ didsA d = ap (does (theMode d) freshModel) (sym (steps-are (d .mode) (d .callsA))) in
-    let z : EndsIdle (followsA d) = subst (λ (ds : List Did). EndsIdle (follows d ds)) f (ends-by (follows d (didsOf d)) (ap (λ (x : Found). x .ends) (c .found-is))) in
-    let r = demand-3 .reads d p in
-    let g : found d (didsA d) ≡ found d (didsOf d) = ap (found d) (sym f) in
-    record {
-      premises = p;
-      ends-idle = z;
-      before-is = ap (λ (x : Found). x .before) (g ∙ c .found-is);
-      words-are = r .text z ∙ ap (λ (l : List ℕ). wordsBefore d (d .start + 300 + synchronized d) ++ l) (ap (λ (x : Found). x .words) (g ∙ c .found-is));
-    }
+abbrev Passes : Example → Type 0
+Passes e = allTrue (tests e (didsOf (e .lists)) (modelB (e .lists))) ≡ true
 
-checks-45 : Checks baudot45
-unfolding noBurst same found frontMs backMs baudot45 callsA45 line45 callsB45 OffersNone chars accepts modelSteps waiters heardIn offered mayBegin mayEnd begun codeBegins nextCode load levelOn oneGone ended closed isInhibited did msAfter modelAfter does takenIn allAtMost sends reads signal signals normalForm endsIdle synchronizes untilSynchronized wanted sendBaudot readBaudot printedAt leftRows rightRows rows bits bitsFrom a1 a2 digits held baudotSignal
-checks-45 = record {
-  later = omega arith;
-  count-A = 2_086;
-  run-A = omega arith;
-  run-B = omega arith;
-  opened-A = omega arith;
-  opened-B = omega arith;
-  past-ms = refl;
-  since-ms = refl;
-  from-opening = λ h. absurd (omega arith);
-  none-waits = refl;
-  idle-B = refl;
-  offers-none = (refl, tt);
-  found-is = refl;
-}
+module _ (e : Example) (c : Passes e) where
+  abbrev d : Lists
+  d = e .lists
 
-checks-50 : Checks baudot50
-unfolding noBurst same found frontMs backMs baudot50 callsA50 line50 laterLine50 lastLine50 callsB50 OffersNone chars accepts modelSteps waiters heardIn offered mayBegin mayEnd begun codeBegins nextCode load levelOn oneGone ended closed isInhibited did msAfter modelAfter does takenIn allAtMost sends reads signal signals normalForm endsIdle synchronizes untilSynchronized wanted sendBaudot readBaudot printedAt leftRows rightRows rows bits bitsFrom a1 a2 digits held baudotSignal
-checks-50 = record {
-  later = omega arith;
-  count-A = 12_451;
-  run-A = omega arith;
-  run-B = omega arith;
-  opened-A = omega arith;
-  opened-B = omega arith;
-  past-ms = refl;
-  since-ms = refl;
-  from-opening = λ h. absurd (omega arith);
-  none-waits = refl;
-  idle-B = refl;
-  offers-none = tt;
-  found-is = refl;
-}
+  fact : (n : ℕ) → getD (tests e (didsA d) (stepsB d)) n true ≡ true
+  fact n =
+      let a = steps-are (d .mode) (d .callsA) in
+      let b = steps-are (d .mode) (d .callsB) in
+      nth n (tests e (didsA d) (stepsB d))
+      ((λ i. allTrue (tests e (does (theMode d) freshModel (a i)) (b i))) ∙ c)
 
-checks-dtmf : Checks dtmf
-unfolding noBurst same found frontMs backMs dtmf callsAKeys callsBKeys OffersNone chars accepts modelSteps waiters heardIn offered mayBegin mayEnd begun codeBegins nextCode load levelOn oneGone ended closed isInhibited did msAfter modelAfter does takenIn allAtMost sends reads signal signals normalForm endsIdle synchronizes untilSynchronized keys prefixes keysOf heldKeys withMark codeFrom marksThenDigit among notStruck remaining names firstSign named readIn readDtmf sendIn hasRow sendFrom sendDtmf leftRows rightRows rows b1 b2 printedAt
-checks-dtmf = record {
-  later = omega arith;
-  count-A = 1_201;
-  run-A = omega arith;
-  run-B = omega arith;
-  opened-A = omega arith;
-  opened-B = omega arith;
-  past-ms = refl;
-  since-ms = refl;
-  from-opening = λ h. refl;
-  none-waits = refl;
-  idle-B = refl;
-  offers-none = tt;
-  found-is = refl;
-}
+  dids-length : length (didsA d) ≡ msIn (stepsA d)
+  dids-length =
+      let told = toldOf (theMode d) freshModel (stepsA d) in
+      ap length (sym (own-does (theMode d) (stepsA d) freshModel)) ∙ does-length (theMode d) told freshModel
+      ∙ ap length (own-heard (theMode d) (stepsA d) freshModel)
 
-checks-edt : Checks edt
-unfolding noBurst same found frontMs backMs edt callsAEdt callsBEdt OffersNone chars accepts modelSteps waiters heardIn offered mayBegin mayEnd begun codeBegins nextCode load levelOn oneGone ended closed isInhibited did msAfter modelAfter does takenIn allAtMost sends reads signal signals normalForm endsIdle synchronizes untilSynchronized edtSignal edtElements digits sum tabulate
-checks-edt = record {
-  later = omega arith;
-  count-A = 901;
-  run-A = omega arith;
-  run-B = omega arith;
-  opened-A = omega arith;
-  opened-B = omega arith;
-  past-ms = refl;
-  since-ms = refl;
-  from-opening = λ h. absurd (omega arith);
-  none-waits = refl;
-  idle-B = refl;
-  offers-none = tt;
-  found-is = refl;
-}
+  premises : Premises d
+  unfolding tests frontMs
+  premises =
+      let steps = stepsB d in
+      let since = front-back (sinceMs d) (backMs (pastMs d) steps) in
+      record {
+        opened-A = leb-true _ _ (fact 0);
+        idle-A = no-burst-by _ (fact 1);
+        later = leb-true _ _ (fact 2);
+        run-A = subst (λ (n : ℕ). d .asked < d .openA + n) dids-length (ltb-true _ _ (fact 3));
+        run-B = ltb-true _ _ (fact 4);
+        opened-B = leb-true _ _ (fact 5);
+        past = pastOf d steps;
+        since = sinceOf d steps;
+        beyond = beyondOf d steps;
+        cut = front-back (pastMs d) steps ∙ ap (λ (l : List Step). pastOf d steps ++ l) since;
+        past-ms = eqb-true _ _ (fact 6);
+        since-ms = eqb-true _ _ (fact 7);
+        from-opening = λ h. let none : pastMs d ≡ 0 = omega arith in ap (λ (n : ℕ). frontMs n steps) none;
+        none-waits = same-by _ [] (fact 8);
+        idle-B = no-burst-by _ (fact 9);
+        offers-none = none-by _ (fact 10);
+        hears =
+            same-by _ _ (fact 11)
+            ∙ ap (between (d .openA) (d .start + 260) (d .asked + 1)) (sym (sends-as-model (d .mode) (d .callsA)));
+      }
 
--- what B makes of TOO
-mistaken-model : wordsTo (baudot45 .lists) (1_780 + synchronizedAfter (theMode (baudot45 .lists)) (follows (baudot45 .lists) (didsOf (baudot45 .lists)))) ≡ faultWord ∷ chars "599"
-unfolding baudot45 callsA45 line45 callsB45 chars accepts modelSteps waiters hasDel heardIn offered mayBegin mayEnd begun codeBegins nextCode load levelOn oneGone ended closed isInhibited did msAfter modelAfter does takenIn allAtMost sends reads signal signals normalForm endsIdle synchronizes untilSynchronized wanted sendBaudot readBaudot printedAt leftRows rightRows rows bits bitsFrom a1 a2 digits held baudotSignal stationEvents hear inhibited wordsOf lastMs placed sampleAt samplesOf sampled frameStep baudotKinds
+  holds : Holds e
+  unfolding tests
+  holds =
+      let z = ends-by (followsA d) (fact 12) in
+      let due : wordsDue d ≡ e .words = same-words _ ∙ same-by _ _ (fact 14) in
+      record {
+        premises = premises;
+        ends-idle = z;
+        before-is = same-by _ _ (fact 13);
+        words-are =
+            demand-3 .reads d premises .text z
+            ∙ ap (λ (l : List ℕ). wordsBefore d (d .start + 300 + synchronized d) ++ l) due;
+      }
+
+-- ---- the instances
+
+passes-45 : Passes baudot45
+unfolding allTrue tests noBurst endsIdle same offersNone frontMs backMs accepts modelSteps
+    baudot45 callsA45 line45 callsB45
+    chars waiters heardIn offered mayBegin mayEnd begun codeBegins nextCode load levelOn oneGone ended closed did
+    msAfter modelAfter does takenIn allAtMost sends reads signal signals normalForm synchronizes untilSynchronized
+    wanted sendBaudot readBaudot printedAt leftRows rightRows rows bits bitsFrom a1 a2 digits held baudotSignal
+passes-45 = refl
+
+passes-50 : Passes baudot50
+unfolding allTrue tests noBurst endsIdle same offersNone frontMs backMs accepts modelSteps
+    baudot50 callsA50 line50 laterLine50 lastLine50 callsB50
+    chars waiters heardIn offered mayBegin mayEnd begun codeBegins nextCode load levelOn oneGone ended closed did
+    msAfter modelAfter does takenIn allAtMost sends reads signal signals normalForm synchronizes untilSynchronized
+    wanted sendBaudot readBaudot printedAt leftRows rightRows rows bits bitsFrom a1 a2 digits held baudotSignal
+passes-50 = refl
+
+passes-dtmf : Passes dtmf
+unfolding allTrue tests noBurst endsIdle same offersNone frontMs backMs accepts modelSteps
+    dtmf callsAKeys callsBKeys
+    chars waiters heardIn offered mayBegin mayEnd begun codeBegins nextCode load levelOn oneGone ended closed did
+    msAfter modelAfter does takenIn allAtMost sends reads signal signals normalForm synchronizes untilSynchronized
+    keys prefixes keysOf heldKeys withMark codeFrom marksThenDigit among notStruck remaining names firstSign named
+    readIn readDtmf sendIn hasRow sendFrom sendDtmf leftRows rightRows rows b1 b2 printedAt
+passes-dtmf = refl
+
+passes-edt : Passes edt
+unfolding allTrue tests noBurst endsIdle same offersNone frontMs backMs accepts modelSteps
+    edt callsAEdt callsBEdt
+    chars waiters heardIn offered mayBegin mayEnd begun codeBegins nextCode load levelOn oneGone ended closed did
+    msAfter modelAfter does takenIn allAtMost sends reads signal signals normalForm synchronizes untilSynchronized
+    edtSignal edtElements digits sum tabulate
+passes-edt = refl
+
+-- ---- what B makes of TOO
+
+-- B's words after its steps, before the ms after the synchronizing code's last
+abbrev wordsTo : Lists → List Did → List Step → List ℕ
+wordsTo d ds steps =
+    let t = 1_780 + synchronizedAfter (theMode d) (follows d ds) in
+    wordsOf (take (t - d .openB) (toldEvents (theMode d) freshModel fresh (toldOf (theMode d) freshModel steps)))
+
+mistaken-model : let d = baudot45 .lists in wordsTo d (didsOf d) (modelB d) ≡ faultWord ∷ chars "599"
+unfolding accepts modelSteps baudot45 callsA45 line45 callsB45
+    chars waiters hasDel heardIn offered mayBegin mayEnd begun codeBegins nextCode load levelOn oneGone ended closed did
+    msAfter modelAfter does takenIn allAtMost sends reads signal signals normalForm synchronizes untilSynchronized
+    wanted sendBaudot readBaudot printedAt leftRows rightRows rows bits bitsFrom a1 a2 digits held baudotSignal
+    toldOf toldEvents msBy inhibitedBy hear inhibited wordsOf lastMs placed sampleAt samplesOf sampled frameStep
+    baudotKinds
 mistaken-model = refl
 
 mistaken : Mistaken
 mistaken =
     let d = baudot45 .lists in
-    words-to d (1_780 + synchronized d) ∙ ap (λ (l : List Step). wordsTo d (1_780 + synchronizedAfter (theMode d) (follows d (does (theMode d) freshModel l)))) (steps-are (d .mode) (d .callsA)) ∙ mistaken-model
+    let a = steps-are (d .mode) (d .callsA) in
+    let b = steps-are (d .mode) (d .callsB) in
+    words-are d (1_780 + synchronized d) ∙ (λ i. wordsTo d (does (theMode d) freshModel (a i)) (b i)) ∙ mistaken-model
 
 pub all-hold : AllHold
 all-hold = record {
-  baudot45-holds = holds-of baudot45 checks-45;
-  baudot50-holds = holds-of baudot50 checks-50;
-  dtmf-holds = holds-of dtmf checks-dtmf;
-  edt-holds = holds-of edt checks-edt;
+  baudot45-holds = holds baudot45 passes-45;
+  baudot50-holds = holds baudot50 passes-50;
+  dtmf-holds = holds dtmf passes-dtmf;
+  edt-holds = holds edt passes-edt;
   mistaken = mistaken;
 }

@@ -9,6 +9,7 @@ use lib.Dec.{eqb, leb, ltb}
 use lib.ListN.{length, getD, drop, drop-of-length-le}
 use lib.Seq.{drop-cons}
 use borrow.Author.Tests.{leb-true, leb-false, ltb-true, ltb-false, lt-ltb}
+use Rattle.alphabet.specs.declared.Alphabet.{Alphabet}
 use Rattle.alphabet.specs.declared.Mode.{Mode}
 use Rattle.alphabet.specs.declared.Sends.{Sends}
 use Rattle.alphabet.specs.declared.Sends.the-variants.{Nothing, Code}
@@ -19,10 +20,12 @@ use Rattle.baudot.specs.Sending.{shiftCode, shifted}
 use Rattle.signal.specs.Signal.{preamble}
 use Rattle.burst.specs.declared.OnLine.{OnLine as Line}
 use Rattle.burst.specs.declared.Loaded.{Loaded as LoadedLine}
-use Rattle.burst.specs.Rules.{mayEnd, shiftWanted}
+use Rattle.burst.specs.Rules.{shiftWanted, senderAfterOwn}
 use Rattle.burst.specs.Line as line
 use Rattle.burst.specs.Line.{onLine, idle, partMs}
-use Rattle.demand3.specs.Model.{Part, Preamble, ShiftCode, OwnCode, OnLine, Idle, Sending, Loaded, isCodePart, begun, loaded, ownBegins, shiftBegins, codeBegins, nextCode, levelOn, inBurst, oneGone, closed}
+use Rattle.demand3.specs.Model.{Part, Preamble, ShiftCode, OwnCode, OnLine, Idle, Sending, Loaded, isCodePart}
+use Rattle.demand3.specs.Model.{begun, loaded, ownBegins, shiftBegins, codeBegins, nextCode, levelOn, inBurst}
+use Rattle.demand3.specs.Model.{oneGone, closed}
 
 -- the number of a part
 pub data PartNo : Part → ℕ → Type 0 where
@@ -43,7 +46,8 @@ no-code own-2 = refl
 -- the numbers stand for what the model has on the line
 pub data Stands (mode : Mode) : Line → OnLine → Type 0 where
   rests : Stands mode idle Idle
-  sending : {part : Part} {n : ℕ} → PartNo part n → (code at : ℕ) → Stands mode (onLine n code at) (Sending part (drop at (partMs mode (onLine n code at))))
+  sending : {part : Part} {n : ℕ} → PartNo part n → (code at : ℕ)
+      → Stands mode (onLine n code at) (Sending part (drop at (partMs mode (onLine n code at))))
 
 module _ (mode : Mode) where
   pub burst-same : {l : Line} {on : OnLine} → Stands mode l on → line.inBurst l ≡ inBurst on
@@ -64,7 +68,8 @@ module _ (mode : Mode) where
   level-same (sending {part} {n} p code at) = level-any part (partMs mode (onLine n code at)) at
 
   -- one ms has gone
-  gone-at : (part : Part) (ms : List ℕ) (at : ℕ) → at < length ms → oneGone (Sending part (drop at ms)) ≡ Sending part (drop (suc at) ms)
+  gone-at : (part : Part) (ms : List ℕ) (at : ℕ) → at < length ms
+      → oneGone (Sending part (drop at ms)) ≡ Sending part (drop (suc at) ms)
   unfolding oneGone
   gone-at part ms at h = rw (drop-cons ms at 0 h) refl
 
@@ -76,42 +81,50 @@ module _ (mode : Mode) where
       ms : List ℕ
       ms = partMs mode (onLine n code at)
 
-      go : (b : Bool) → ltb at (length ms) ≡ b → Stands mode (cond b (onLine n code (at + 1)) (onLine n code at)) (oneGone (Sending part (drop at ms)))
+      go : (b : Bool) → ltb at (length ms) ≡ b
+          → Stands mode (cond b (onLine n code (at + 1)) (onLine n code at)) (oneGone (Sending part (drop at ms)))
       go true e =
-          subst (Stands mode (onLine n code (at + 1))) (ap (λ (k : ℕ). Sending part (drop k ms)) (add-one at) ∙ sym (gone-at part ms at (ltb-true at (length ms) e))) (sending p code (at + 1))
+          let next = ap (λ (k : ℕ). Sending part (drop k ms)) (add-one at) in
+          let gone = gone-at part ms at (ltb-true at (length ms) e) in
+          subst (Stands mode (onLine n code (at + 1))) (next ∙ sym gone) (sending p code (at + 1))
       go false e =
           let z = drop-of-length-le ms (ltb-false at (length ms) e) in
           subst (Stands mode (onLine n code at)) (rw z refl) (sending p code at)
 
   -- the burst ends, or goes on
-  stays-closed : (ws : List ℕ) (part : Part) (ms : List ℕ) (at : ℕ) → at < length ms → closed ws (Sending part (drop at ms)) ≡ Sending part (drop at ms)
+  stays-closed : (ends : Bool) (part : Part) (ms : List ℕ) (at : ℕ) → at < length ms
+      → closed ends (Sending part (drop at ms)) ≡ Sending part (drop at ms)
   unfolding closed
-  stays-closed ws part ms at h = rw (drop-cons ms at 0 h) refl
+  stays-closed ends part ms at h = rw (drop-cons ms at 0 h) refl
 
-  over-closed : (ws : List ℕ) (part : Part) (ms : List ℕ) (at : ℕ) → length ms ≤ at
-      → closed ws (Sending part (drop at ms)) ≡ cond (mayEnd (isCodePart part) (length ws)) Idle (Sending part (drop at ms))
+  over-closed : (ends : Bool) (part : Part) (ms : List ℕ) (at : ℕ) → length ms ≤ at
+      → closed ends (Sending part (drop at ms)) ≡ cond (isCodePart part && ends) Idle (Sending part (drop at ms))
   unfolding closed
-  over-closed ws part ms at h = rw (drop-of-length-le ms h) refl
+  over-closed ends part ms at h = rw (drop-of-length-le ms h) refl
 
-  pub closed-stands : {l : Line} {on : OnLine} (ws : List ℕ) → Stands mode l on → Stands mode (line.closed mode (length ws) l) (closed ws on)
+  pub closed-stands : {l : Line} {on : OnLine} (ends : Bool) → Stands mode l on
+      → Stands mode (line.closed mode ends l) (closed ends on)
   unfolding line.closed line.isOver closed
-  closed-stands ws rests = rests
-  closed-stands ws (sending {part} {n} p code at) = rw (no-burst p, no-code p) (go (leb (length ms) at) refl (mayEnd (isCodePart part) (length ws)) refl)
+  closed-stands ends rests = rests
+  closed-stands ends (sending {part} {n} p code at) =
+      rw (no-burst p, no-code p) (go (leb (length ms) at) refl (isCodePart part && ends) refl)
     where
       ms : List ℕ
       ms = partMs mode (onLine n code at)
 
-      go : (b : Bool) → leb (length ms) at ≡ b → (c : Bool) → mayEnd (isCodePart part) (length ws) ≡ c → Stands mode (cond (b && c) idle (onLine n code at)) (closed ws (Sending part (drop at ms)))
-      go true e true f = rw (over-closed ws part ms at (leb-true (length ms) at e), f) rests
-      go true e false f = rw (over-closed ws part ms at (leb-true (length ms) at e), f) (sending p code at)
-      go false e c f = rw (stays-closed ws part ms at (leb-false (length ms) at e)) (sending p code at)
+      go : (b : Bool) → leb (length ms) at ≡ b → (c : Bool) → isCodePart part && ends ≡ c
+          → Stands mode (cond (b && c) idle (onLine n code at)) (closed ends (Sending part (drop at ms)))
+      go true e true f = rw (over-closed ends part ms at (leb-true (length ms) at e), f) rests
+      go true e false f = rw (over-closed ends part ms at (leb-true (length ms) at e), f) (sending p code at)
+      go false e c f = rw (stays-closed ends part ms at (leb-false (length ms) at e)) (sending p code at)
 
   -- a burst begins, or what is on the line goes on
   preamble-stands : Stands mode (onLine 1 0 0) (Sending Preamble (preamble mode))
   unfolding partMs
   preamble-stands = sending preamble-1 0 0
 
-  pub begun-stands : {l : Line} {on : OnLine} (may : Bool) → Stands mode l on → Stands mode (line.begun may l) (begun mode may on)
+  pub begun-stands : {l : Line} {on : OnLine} (begins : Bool) → Stands mode l on
+      → Stands mode (line.begun begins l) (begun mode begins on)
   unfolding line.begun begun
   begun-stands true rests = preamble-stands
   begun-stands false rests = rests
@@ -125,7 +138,8 @@ module _ (mode : Mode) where
     pub waiting-is : y .waiting ≡ cond (x .takes) (drop 1 ws) ws
 
   -- a code begins: the front character sends one
-  begins-like : (c : ℕ) (cs : List ℕ) (l : Line) (s : Sender) (x : Sends) → isCode x ≡ true → LoadedLike (c ∷ cs) (line.codeBegins (alphabetOf mode) l s x) (codeBegins mode c cs s x)
+  begins-like : (c : ℕ) (cs : List ℕ) (l : Line) (s : Sender) (x : Sends) → isCode x ≡ true
+      → LoadedLike (c ∷ cs) (line.codeBegins (alphabetOf mode) l s x) (codeBegins mode c cs s x)
   unfolding line.codeBegins codeBegins partMs
   begins-like c cs l s Nothing h = absurd (true≢false (sym h))
   begins-like c cs l s (Code own k) h = go (eqb w 0)
@@ -133,15 +147,25 @@ module _ (mode : Mode) where
       w : ℕ
       w = shiftWanted (alphabetOf mode) s own
 
-      go : (b : Bool) → LoadedLike (c ∷ cs) (cond b (line.loaded (onLine 2 (k .0) 0) (line.senderAfterOwn (alphabetOf mode) s) true) (line.loaded (onLine 2 (shiftCode w) 0) (shifted s w) false)) (cond b (ownBegins mode c cs s k) (shiftBegins mode c cs s w))
+      own-code : LoadedLine
+      own-code = line.loaded (onLine 2 (k .0) 0) (senderAfterOwn (alphabetOf mode) s) true
+
+      shift-code : LoadedLine
+      shift-code = line.loaded (onLine 2 (shiftCode w) 0) (shifted s w) false
+
+      go : (b : Bool)
+          → LoadedLike (c ∷ cs) (cond b own-code shift-code)
+          (cond b (ownBegins mode c cs s k) (shiftBegins mode c cs s w))
       go true = record { line-is = sending own-2 (k .0) 0; sender-is = refl; waiting-is = refl }
       go false = record { line-is = sending shift-2 (shiftCode w) 0; sender-is = refl; waiting-is = refl }
 
-  stays-next : (ws : List ℕ) (part : Part) (ms : List ℕ) (at : ℕ) (s : Sender) → at < length ms → nextCode mode ws (Sending part (drop at ms)) s ≡ loaded ws (Sending part (drop at ms)) s []
+  stays-next : (ws : List ℕ) (part : Part) (ms : List ℕ) (at : ℕ) (s : Sender) → at < length ms
+      → nextCode mode ws (Sending part (drop at ms)) s ≡ loaded ws (Sending part (drop at ms)) s []
   unfolding nextCode
   stays-next ws part ms at s h = rw (drop-cons ms at 0 h) refl
 
-  over-none : (part : Part) (ms : List ℕ) (at : ℕ) (s : Sender) → length ms ≤ at → nextCode mode [] (Sending part (drop at ms)) s ≡ loaded [] (Sending part (drop at ms)) s []
+  over-none : (part : Part) (ms : List ℕ) (at : ℕ) (s : Sender) → length ms ≤ at
+      → nextCode mode [] (Sending part (drop at ms)) s ≡ loaded [] (Sending part (drop at ms)) s []
   unfolding nextCode
   over-none part ms at s h = rw (drop-of-length-le ms h) refl
 
@@ -155,7 +179,8 @@ module _ (mode : Mode) where
     none : (front : ℕ) → Heads 0 front []
     some : (c : ℕ) (cs : List ℕ) → isCode (sends (alphabetOf mode) c) ≡ true → Heads (suc (length cs)) c (c ∷ cs)
 
-  pub next-like : {l : Line} {on : OnLine} {waiting front : ℕ} {ws : List ℕ} (s : Sender) → Heads waiting front ws → Stands mode l on → LoadedLike ws (line.nextCode mode waiting front l s) (nextCode mode ws on s)
+  pub next-like : {l : Line} {on : OnLine} {waiting front : ℕ} {ws : List ℕ} (s : Sender) → Heads waiting front ws
+      → Stands mode l on → LoadedLike ws (line.nextCode mode waiting front l s) (nextCode mode ws on s)
   unfolding line.nextCode line.isOver nextCode
   next-like s h rests = record { line-is = rests; sender-is = refl; waiting-is = refl }
   next-like s h (sending {part} {n} p code at) = rw (no-burst p) (go h (leb (length ms) at) refl)
@@ -166,8 +191,17 @@ module _ (mode : Mode) where
       l : Line
       l = onLine n code at
 
+      a : Alphabet
+      a = alphabetOf mode
+
+      goes-on : (ws : List ℕ) → LoadedLike ws (line.loaded l s false) (loaded ws (Sending part (drop at ms)) s [])
+      goes-on ws = record { line-is = sending p code at; sender-is = refl; waiting-is = refl }
+
       go : {waiting front : ℕ} {ws : List ℕ} → Heads waiting front ws → (b : Bool) → leb (length ms) at ≡ b
-          → LoadedLike ws (cond (b && ltb 0 waiting) (line.codeBegins (alphabetOf mode) l s (sends (alphabetOf mode) front)) (line.loaded l s false)) (nextCode mode ws (Sending part (drop at ms)) s)
-      go {ws = ws} h false e = rw (stays-next ws part ms at s (leb-false (length ms) at e)) (record { line-is = sending p code at; sender-is = refl; waiting-is = refl })
-      go (none front) true e = rw (over-none part ms at s (leb-true (length ms) at e)) (record { line-is = sending p code at; sender-is = refl; waiting-is = refl })
-      go (some c cs g) true e = rw (lt-ltb 0 (suc (length cs)) (omega arith), over-some c cs part ms at s (leb-true (length ms) at e)) (begins-like c cs l s (sends (alphabetOf mode) c) g)
+          → LoadedLike ws (cond (b && ltb 0 waiting) (line.codeBegins a l s (sends a front)) (line.loaded l s false))
+          (nextCode mode ws (Sending part (drop at ms)) s)
+      go {ws = ws} h false e = rw (stays-next ws part ms at s (leb-false (length ms) at e)) (goes-on ws)
+      go (none front) true e = rw (over-none part ms at s (leb-true (length ms) at e)) (goes-on [])
+      go (some c cs g) true e =
+          rw (lt-ltb 0 (suc (length cs)) (omega arith), over-some c cs part ms at s (leb-true (length ms) at e))
+          (begins-like c cs l s (sends a c) g)

@@ -16,22 +16,28 @@ use Rattle.alphabet.specs.Modes.{modeNumber, modeOf, alphabetOf, highestLevel}
 use Rattle.alphabet.specs.Normal.{sends, isCode}
 use Rattle.reader.specs.declared.Reader.{Reader}
 use Rattle.reader.specs.Reader.{fresh}
+use Rattle.burst.specs.declared.OnLine.{OnLine as Line}
 use Rattle.burst.specs.declared.Loaded.{Loaded as LoadedLine}
-use Rattle.burst.specs.Rules.{mayBegin, inhibitedAfter, isSilent, isInhibited as inhibitedBy}
+use Rattle.burst.specs.Rules.{mayBegin, mayEnd, inhibitedAfter, isSilent, isInhibited}
 use Rattle.burst.specs.Line as line
 use Rattle.half_duplex.specs.Core as core
-use Rattle.half_duplex.specs.Core.{readerMs, eventMs, settled, coreFrom}
+use Rattle.half_duplex.specs.Core.{readerMs, eventMs, settledBy, coreFromBy, waitingAfter, settled, coreFrom}
+use Rattle.half_duplex.proofs.Range.{takes-waiting-by}
 use Rattle.queue.specs.Queue.{waits, waiters, waitingOf, taken}
 use Rattle.queue.proofs.Laws.{waiting-offered, waiting-taken}
 use Rattle.station.specs.declared.Station.{Station}
-use Rattle.station.specs.Station.{modeOfStation, alphabetOfStation, queueOf, freshStation, readerOffered, offeredTo, front, charsAfter, stationMs, sentMs, eventOf}
+use Rattle.station.specs.Station.{modeOfStation, alphabetOfStation, queueOf, station, freshStation, readerOffered}
+use Rattle.station.specs.Station.{offeredTo, front, charsAfter, stationMs, sentMs, eventOf}
 use Rattle.station.specs.Range.{inRange}
 use Rattle.station.specs.Entries.{answered, isMode, openOf, offerAnswer}
-use Rattle.station.proofs.Range.{core-in, front-waits, fresh-in, fresh-full, ms-in, ms-full, accepted, offered-in, offered-full}
-use Rattle.half_duplex.proofs.Range.{takes-waiting}
-use Rattle.demand3.specs.Model.{Model, Loaded, freshModel, offered, begun, nextCode, load, inBurst, oneGone, closed, isInhibited, silenceAfter, did, msAfter}
+use Rattle.station.proofs.Range.{core-in, front-waits, fresh-in, fresh-full, ms-in, ms-full}
+use Rattle.station.proofs.Range.{accepted, offered-in, offered-full}
+use Rattle.demand3.specs.Model.{Model, Loaded, freshModel, offered, begun, nextCode, loadBy, inBurst, oneGone}
+use Rattle.demand3.specs.Model.{closed, silenceAfter, beginsIn, load, endsIn}
 use Rattle.demand3.specs.Calls.{opened}
-use Rattle.demand3.proofs.Stands.{Stands, rests, LoadedLike, Heads, none, some, burst-same, level-same, gone-stands, closed-stands, begun-stands, next-like}
+use Rattle.demand3.proofs.Told.{didBy, inhibitedBy, msBy, readerBy}
+use Rattle.demand3.proofs.Stands.{Stands, rests, LoadedLike, Heads, none, some, burst-same, level-same}
+use Rattle.demand3.proofs.Stands.{gone-stands, closed-stands, begun-stands, next-like}
 
 -- the station's silence stops at 300: it is the model's, or both are at least 300
 pub data Capped : ℕ → ℕ → Type 0 where
@@ -83,15 +89,26 @@ number-in Dtmf = refl
 number-in Edt = refl
 
 -- those that wait are as many as the number says
-count-is : (s : Station) → length (s .chars) ≡ 256 → inRange s ≡ true → length (waitingOf (queueOf s)) ≡ s .core .waiting
+count-is : (s : Station) → length (s .chars) ≡ 256 → inRange s ≡ true
+    → length (waitingOf (queueOf s)) ≡ s .core .waiting
 count-is s full i = let h = core-in s i .waiting-in in length-take-le (s .core .waiting) (s .chars) (omega arith)
 
-heads : (mode : Mode) (n : ℕ) (cs : List ℕ) → n ≤ length cs → (1 ≤ n → isCode (sends (alphabetOf mode) (getD cs 0 0)) ≡ true) → Heads mode n (getD cs 0 0) (take n cs)
+heads : (mode : Mode) (n : ℕ) (cs : List ℕ) → n ≤ length cs
+    → (1 ≤ n → isCode (sends (alphabetOf mode) (getD cs 0 0)) ≡ true) → Heads mode n (getD cs 0 0) (take n cs)
 heads mode zero cs h w = none (getD cs 0 0)
 heads mode (suc n) [] h w = absurd (omega arith)
 heads mode (suc n) (c ∷ cs) h w =
     let e = length-take-le n cs (omega arith) in
     subst (λ (k : ℕ). Heads mode (suc k) c (c ∷ take n cs)) e (some c (take n cs) (w (omega arith)))
+
+-- a ms of a station that is told when a burst begins and ends
+abbrev pub settledOf : Bool → Station → LoadedLine
+settledOf begins s = settledBy begins (s .core) (front s)
+
+abbrev pub stationBy : Bool → Bool → Station → ℕ → Station
+stationBy begins ends s heard =
+    let l = settledOf begins s in
+    station (coreFromBy ends (s .core) l heard) (charsAfter (l .takes) (s .chars))
 
 module _ (mode : Mode) (s : Station) (m : Model) (r : Reader) (h : Like mode s m r) where
   pub mode-same : modeOfStation s ≡ mode
@@ -100,86 +117,136 @@ module _ (mode : Mode) (s : Station) (m : Model) (r : Reader) (h : Like mode s m
   pub count-same : s .core .waiting ≡ length (m .waiting)
   count-same = sym (count-is s (h .full) (h .in-range)) ∙ ap length (sym (h .waiting-is))
 
-  may-same : mayBegin (s .core .waiting) (s .core .silence) ≡ mayBegin (length (m .waiting)) (m .silence)
-  unfolding mayBegin
-  may-same = λ i. ltb 0 (count-same i) && sym (capped-may (h .silence-is)) i
+  front-sends : 1 ≤ s .core .waiting → isCode (sends (alphabetOf mode) (front s)) ≡ true
+  front-sends o =
+      let w = front-waits s (h .full) (h .in-range) o in
+      and-right (leb (front s) 0x7f) (isCode (sends (alphabetOf mode) (front s)))
+      (subst (λ (d : Mode). waits (alphabetOf d) (front s) ≡ true) mode-same w)
 
   heads-are : Heads mode (s .core .waiting) (front s) (m .waiting)
   heads-are =
-      let c = core-in s (h .in-range) .waiting-in in
+      let n = s .core .waiting in
+      let few = core-in s (h .in-range) .waiting-in in
       let f = h .full in
-      let w : 1 ≤ s .core .waiting → waits (alphabetOf mode) (front s) ≡ true = λ o. subst (λ (d : Mode). waits (alphabetOf d) (front s) ≡ true) mode-same (front-waits s f (h .in-range) o) in
-      subst (Heads mode (s .core .waiting) (front s)) (sym (h .waiting-is))
-      (heads mode (s .core .waiting) (s .chars) (omega arith) (λ o. and-right (leb (front s) 0x7f) (isCode (sends (alphabetOf mode) (front s))) (w o)))
+      subst (Heads mode n (front s)) (sym (h .waiting-is)) (heads mode n (s .chars) (omega arith) front-sends)
 
-  -- sending is settled
-  abbrev x : LoadedLine
-  x = settled (s .core) (front s)
+  -- ---- a ms that is told when a burst begins and ends, whoever tells it
+  module _ (begins : Bool) where
+    abbrev x : LoadedLine
+    x = settledOf begins s
 
-  abbrev y : Loaded
-  y = load mode m
+    abbrev y : Loaded
+    y = loadBy begins mode m
 
-  settled-like : LoadedLike mode (m .waiting) x y
-  unfolding settled load
-  settled-like =
-      let c = s .core in
-      let l = line.begun (mayBegin (c .waiting) (c .silence)) (c .line) in
-      let in-mode : line.nextCode mode (c .waiting) (front s) l (c .sender) ≡ x = sym (ap (λ (d : Mode). line.nextCode d (c .waiting) (front s) l (c .sender)) mode-same) in
-      let in-model : nextCode mode (m .waiting) (begun mode (mayBegin (c .waiting) (c .silence)) (m .onLine)) (c .sender) ≡ y = λ i. nextCode mode (m .waiting) (begun mode (may-same i) (m .onLine)) (h .sender-is i) in
-      subst (λ (z : LoadedLine). LoadedLike mode (m .waiting) z y) in-mode
-      (subst (LoadedLike mode (m .waiting) (line.nextCode mode (c .waiting) (front s) l (c .sender))) in-model
-      (next-like mode (c .sender) heads-are (begun-stands mode (mayBegin (c .waiting) (c .silence)) (h .line-is))))
+    -- sending is settled
+    settled-like : LoadedLike mode (m .waiting) x y
+    settled-like =
+        let c = s .core in
+        let l = line.begun begins (c .line) in
+        let on = begun mode begins (m .onLine) in
+        subst (λ (z : LoadedLine). LoadedLike mode (m .waiting) z y)
+        (λ i. line.nextCode (sym mode-same i) (c .waiting) (front s) l (c .sender))
+        (subst (LoadedLike mode (m .waiting) (line.nextCode mode (c .waiting) (front s) l (c .sender)))
+        (ap (nextCode mode (m .waiting) on) (h .sender-is))
+        (next-like mode (c .sender) heads-are (begun-stands mode begins (h .line-is))))
 
-  burst-is : line.inBurst (x .line) ≡ inBurst (y .onLine)
-  burst-is = burst-same mode (settled-like .line-is)
+    burst-is : line.inBurst (x .line) ≡ inBurst (y .onLine)
+    burst-is = burst-same mode (settled-like .line-is)
 
-  inhibited-same : core.inhibitedIn (s .core) (front s) ≡ isInhibited mode m
-  unfolding isInhibited
-  inhibited-same = λ i. inhibitedBy (burst-is i) (h .inhibited-is i)
+    inhibited-same : isInhibited (line.inBurst (x .line)) (s .core .inhibited) ≡ inhibitedBy mode begins m
+    unfolding inhibitedBy
+    inhibited-same = λ i. isInhibited (burst-is i) (h .inhibited-is i)
 
-  module _ (heard : ℕ) where
-    pub sent-same : sentMs s heard ≡ did mode m .sent
-    unfolding sentMs did
-    sent-same = ap (λ (d : Mode). line.levelOn d (x .line)) mode-same ∙ level-same mode (settled-like .line-is)
+    -- what is sent, what the ms ends in, those that wait after it
+    pub sent-by : line.levelOn (modeOfStation s) (x .line) ≡ didBy mode begins m .sent
+    unfolding didBy
+    sent-by = ap (λ (d : Mode). line.levelOn d (x .line)) mode-same ∙ level-same mode (settled-like .line-is)
 
-    pub event-same : eventOf s heard ≡ eventMs mode (isInhibited mode m) r heard
-    unfolding eventOf
-    event-same = λ i. eventMs (mode-same i) (inhibited-same i) (h .reader-is i) heard
+    pub event-by : (heard : ℕ)
+        → eventMs (modeOfStation s) (isInhibited (line.inBurst (x .line)) (s .core .inhibited)) (s .core .reader) heard
+        ≡ eventMs mode (inhibitedBy mode begins m) r heard
+    event-by heard = λ i. eventMs (mode-same i) (inhibited-same i) (h .reader-is i) heard
 
-    -- those that wait after the ms
-    waiting-after : y .waiting ≡ waitingOf (queueOf (stationMs s heard))
-    unfolding stationMs coreFrom taken
-    waiting-after = settled-like .waiting-is ∙ go (x .takes) refl
+    waiting-after : (ends : Bool) (heard : ℕ) → y .waiting ≡ waitingOf (queueOf (stationBy begins ends s heard))
+    unfolding taken
+    waiting-after ends heard = settled-like .waiting-is ∙ go (x .takes) refl
       where
-        go : (b : Bool) → x .takes ≡ b → cond b (drop 1 (m .waiting)) (m .waiting) ≡ take (core.waitingAfter b (s .core .waiting)) (charsAfter b (s .chars))
+        go : (b : Bool) → x .takes ≡ b
+            → cond b (drop 1 (m .waiting)) (m .waiting)
+            ≡ take (waitingAfter b (s .core .waiting)) (charsAfter b (s .chars))
         go true e =
-            let o = takes-waiting (s .core) (front s) e in
-            ap (drop 1) (h .waiting-is) ∙ sym (waiting-taken (alphabetOfStation s) (queueOf s) (h .full) o (core-in s (h .in-range) .waiting-in))
+            let o = takes-waiting-by begins (s .core) (front s) e in
+            let few = core-in s (h .in-range) .waiting-in in
+            ap (drop 1) (h .waiting-is) ∙ sym (waiting-taken (alphabetOfStation s) (queueOf s) (h .full) o few)
         go false e = h .waiting-is
 
-    pub ms-like : heard ≤ highestLevel mode → Like mode (stationMs s heard) (msAfter mode m heard) (readerMs mode (isInhibited mode m) r heard)
-    unfolding stationMs coreFrom msAfter
-    ms-like l =
-        let i = ms-in s heard (h .full) (h .in-range) (subst (λ (d : Mode). heard ≤ highestLevel d) (sym mode-same) l) in
-        let f = ms-full s heard (h .full) in
-        let n : core.waitingAfter (x .takes) (s .core .waiting) ≡ length (y .waiting) = sym (count-is (stationMs s heard) f i) ∙ ap length (sym waiting-after) in
+    pub ms-like-by : (ends : Bool) (heard : ℕ)
+        → inRange (stationBy begins ends s heard) ≡ true → length (stationBy begins ends s heard .chars) ≡ 256
+        → Like mode (stationBy begins ends s heard) (msBy mode begins ends m heard) (readerBy mode begins m r heard)
+    unfolding msBy inhibitedBy
+    ms-like-by ends heard i f =
+        let inhibited = inhibited-same in
+        let silent = isSilent (inhibitedBy mode begins m) heard in
         record {
           in-range = i;
           full = f;
           mode-is = h .mode-is;
-          waiting-is = waiting-after;
+          waiting-is = waiting-after ends heard;
           line-is =
-              subst (λ (d : Mode). Stands mode (line.closed d (core.waitingAfter (x .takes) (s .core .waiting)) (line.oneGone d (x .line))) (closed (y .waiting) (oneGone (y .onLine)))) (sym mode-same)
-              (subst (λ (k : ℕ). Stands mode (line.closed mode k (line.oneGone mode (x .line))) (closed (y .waiting) (oneGone (y .onLine)))) (sym n)
-              (closed-stands mode (y .waiting) (gone-stands mode (settled-like .line-is))));
+              subst (λ (l : Line). Stands mode l (closed ends (oneGone (y .onLine))))
+              (λ j. line.closed (sym mode-same j) ends (line.oneGone (sym mode-same j) (x .line)))
+              (closed-stands mode ends (gone-stands mode (settled-like .line-is)));
           sender-is = settled-like .sender-is;
-          silence-is = subst (λ (b : Bool). Capped (silenceAfter (isSilent (isInhibited mode m) heard) (m .silence)) (core.silenceAfter (isSilent b heard) (s .core .silence))) (sym inhibited-same) (capped-after (isSilent (isInhibited mode m) heard) (h .silence-is));
+          silence-is =
+              subst (λ (n : ℕ). Capped (silenceAfter silent (m .silence)) n)
+              (λ j. core.silenceAfter (isSilent (sym inhibited j) heard) (s .core .silence))
+              (capped-after silent (h .silence-is));
           inhibited-is = λ j. inhibitedAfter (burst-is j) (h .inhibited-is j);
-          reader-is = λ j. readerMs (mode-same j) (inhibited-same j) (h .reader-is j) heard;
+          reader-is = λ j. readerMs (mode-same j) (inhibited j) (h .reader-is j) heard;
         }
 
+  -- ---- a ms of a station by itself: its rules tell it what the model's tell the model
+  begins-same : core.beginsIn (s .core) ≡ beginsIn m
+  unfolding mayBegin
+  begins-same = λ i. ltb 0 (count-same i) && sym (capped-may (h .silence-is)) i
+
+  ends-same : (heard : ℕ) → inRange (stationMs s heard) ≡ true
+      → core.endsIn (s .core) (settled (s .core) (front s)) ≡ endsIn mode m
+  unfolding stationMs settled coreFrom load
+  ends-same heard i =
+      let b = core.beginsIn (s .core) in
+      let e = core.endsIn (s .core) (settledOf b s) in
+      ap mayEnd
+      (sym (count-is (stationMs s heard) (ms-full s heard (h .full)) i) ∙ ap length (sym (waiting-after b e heard))
+      ∙ ap (λ (b : Bool). length (loadBy b mode m .waiting)) begins-same)
+
+  module _ (heard : ℕ) where
+    pub sent-same : sentMs s heard ≡ didBy mode (beginsIn m) m .sent
+    unfolding sentMs settled
+    sent-same = sent-by (core.beginsIn (s .core)) ∙ ap (λ (b : Bool). didBy mode b m .sent) begins-same
+
+    pub event-same : eventOf s heard ≡ eventMs mode (inhibitedBy mode (beginsIn m) m) r heard
+    unfolding eventOf settled
+    event-same =
+        event-by (core.beginsIn (s .core)) heard
+        ∙ ap (λ (b : Bool). eventMs mode (inhibitedBy mode b m) r heard) begins-same
+
+    abbrev LikeBy : Bool → Bool → Type 0
+    LikeBy begins ends = Like mode (stationMs s heard) (msBy mode begins ends m heard) (readerBy mode begins m r heard)
+
+    pub ms-like : heard ≤ highestLevel mode → LikeBy (beginsIn m) (endsIn mode m)
+    unfolding stationMs settled coreFrom
+    ms-like l =
+        let k = subst (λ (d : Mode). heard ≤ highestLevel d) (sym mode-same) l in
+        let i = ms-in s heard (h .full) (h .in-range) k in
+        let b = core.beginsIn (s .core) in
+        let e = core.endsIn (s .core) (settledOf b s) in
+        let told = ms-like-by b e heard i (ms-full s heard (h .full)) in
+        subst (λ (begins : Bool). LikeBy begins (endsIn mode m)) begins-same (subst (LikeBy b) (ends-same heard i) told)
+
   -- an offer that succeeds
-  pub offer-like : (cs : List ℕ) → offerAnswer s cs ≡ 0 → Like mode (offeredTo s cs) (offered mode cs m) (readerOffered (alphabetOf mode) cs r)
+  pub offer-like : (cs : List ℕ) → offerAnswer s cs ≡ 0
+      → Like mode (offeredTo s cs) (offered mode cs m) (readerOffered (alphabetOf mode) cs r)
   unfolding offeredTo offered
   offer-like cs z =
       let t = accepted s cs z in
@@ -217,7 +284,8 @@ unfolding openOf
 opened-is n = go (eqb n 2) (eqb n 3) (eqb n 4) refl refl refl
   where
     -- 1, or no mode's number
-    first : (b : Bool) → isMode n ≡ b → eqb n 2 ≡ false → eqb n 3 ≡ false → eqb n 4 ≡ false → cond b (answered (freshStation n) 0) (answered (freshStation 1) 2) .station ≡ freshStation 1
+    first : (b : Bool) → isMode n ≡ b → eqb n 2 ≡ false → eqb n 3 ≡ false → eqb n 4 ≡ false
+        → cond b (answered (freshStation n) 0) (answered (freshStation 1) 2) .station ≡ freshStation 1
     first true e p q r =
         let l = leb-true 1 n (and-left (leb 1 n) (leb n 4) e) in
         let h = leb-true n 4 (and-right (leb 1 n) (leb n 4) e) in
@@ -228,7 +296,8 @@ opened-is n = go (eqb n 2) (eqb n 3) (eqb n 4) refl refl refl
         ap freshStation o
     first false e p q r = refl
 
-    go : (a b c : Bool) → eqb n 2 ≡ a → eqb n 3 ≡ b → eqb n 4 ≡ c → opened n ≡ freshStation (modeNumber (cond a Baudot50 (cond b Dtmf (cond c Edt Baudot45))))
+    go : (a b c : Bool) → eqb n 2 ≡ a → eqb n 3 ≡ b → eqb n 4 ≡ c
+        → opened n ≡ freshStation (modeNumber (cond a Baudot50 (cond b Dtmf (cond c Edt Baudot45))))
     go true b c p q r = ap opened (eqb-true n 2 p)
     go false true c p q r = ap opened (eqb-true n 3 q)
     go false false true p q r = ap opened (eqb-true n 4 r)

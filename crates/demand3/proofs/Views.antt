@@ -1,12 +1,11 @@
--- What a ms of the send model can begin with and end in: views that every proof over the model goes by. When a burst begins
--- and ends is left open in them.
+-- What a ms of a model that is told can begin with and end in: views that every proof over it goes by. In them it is
+-- left open when a burst begins and ends.
 use mathlib.Core.Path.{_≡_, refl, sym, subst}
-use mathlib.Core.Bool.{Bool, true, false, cond, true≢false}
+use mathlib.Core.Bool.{Bool, true, false, cond, _&&_, true≢false}
 use mathlib.Core.List.{List, [], _∷_, _++_}
 use Prim.Native.Nat.{ℕ}
 use native.Mathlib.Omega.{arith}
 use lib.Dec.{eqb, leb}
-use lib.ListN.{length}
 use borrow.Author.Tests.{leb-true}
 use Rattle.lists.proofs.Lists.{and-left, and-right}
 use Rattle.alphabet.specs.declared.Alphabet.{Alphabet}
@@ -17,16 +16,19 @@ use Rattle.alphabet.specs.Modes.{alphabetOf}
 use Rattle.alphabet.specs.Normal.{sends, isCode}
 use Rattle.baudot.specs.declared.Sender.{Sender}
 use Rattle.signal.specs.Signal.{preamble}
-use Rattle.burst.specs.Rules.{mayBegin, mayEnd, shiftWanted}
+use Rattle.burst.specs.Rules.{shiftWanted}
 use Rattle.queue.specs.Queue.{waits, waiters, allWait}
 use Rattle.queue.proofs.Laws.{waiters-wait}
-use Rattle.demand3.specs.Model.{Part, Preamble, OnLine, Idle, Sending, Model, Loaded, Step, Offer, Ms, offered, isCodePart, begun, loaded, shiftBegins, ownBegins, codeBegins, nextCode, load, closed, msAfter, modelAfter}
+use Rattle.demand3.specs.Model.{Part, Preamble, OnLine, Idle, Sending, Model, Loaded}
+use Rattle.demand3.specs.Model.{isCodePart, begun, loaded, shiftBegins, ownBegins, codeBegins, nextCode, closed}
+use Rattle.demand3.specs.Model.{offered, loadBy}
+use Rattle.demand3.proofs.Told.{Told, offer, ms, msBy, toldAfter}
 use Rattle.demand3.proofs.Laws.{Waits, SenderIn, LawsOf}
 
 -- the ms that are left of what is on the line
 abbrev pub left : OnLine → List ℕ
 left Idle = []
-left (Sending part ms) = ms
+left (Sending part xs) = xs
 
 abbrev pub AllWait : Mode → List ℕ → Type 0
 AllWait mode [] = Unit {0}
@@ -40,46 +42,56 @@ pub data Opens (mode : Mode) : OnLine → OnLine → Type 0 where
 -- a code begins, or what is on the line goes on
 pub data Begins (mode : Mode) : List ℕ → OnLine → Sender → Loaded → Type 0 where
   stays : {waiting : List ℕ} {on : OnLine} {s : Sender} → Begins mode waiting on s (loaded waiting on s [])
-  shifts : (part : Part) (c : ℕ) (cs : List ℕ) (s : Sender) (w : Waits (alphabetOf mode) c) → eqb (shiftWanted (alphabetOf mode) s (w .own)) 0 ≡ false
+  shifts : (part : Part) (c : ℕ) (cs : List ℕ) (s : Sender) (w : Waits (alphabetOf mode) c)
+      → eqb (shiftWanted (alphabetOf mode) s (w .own)) 0 ≡ false
       → Begins mode (c ∷ cs) (Sending part []) s (shiftBegins mode c cs s (shiftWanted (alphabetOf mode) s (w .own)))
-  owns : (part : Part) (c : ℕ) (cs : List ℕ) (s : Sender) (w : Waits (alphabetOf mode) c) → eqb (shiftWanted (alphabetOf mode) s (w .own)) 0 ≡ true
+  owns : (part : Part) (c : ℕ) (cs : List ℕ) (s : Sender) (w : Waits (alphabetOf mode) c)
+      → eqb (shiftWanted (alphabetOf mode) s (w .own)) 0 ≡ true
       → Begins mode (c ∷ cs) (Sending part []) s (ownBegins mode c cs s (w .code))
 
 -- the burst ends, or goes on
 pub data Closes : OnLine → OnLine → Type 0 where
-  ends : {part : Part} → Closes (Sending part []) Idle
+  closes : {part : Part} → Closes (Sending part []) Idle
   keeps : {on : OnLine} → Closes on on
 
-begun-view : (mode : Mode) (may : Bool) (on : OnLine) → Opens mode on (begun mode may on)
+begun-view : (mode : Mode) (begins : Bool) (on : OnLine) → Opens mode on (begun mode begins on)
 unfolding begun
 begun-view mode true Idle = opens
 begun-view mode false Idle = goes-on
-begun-view mode may (Sending part ms) = goes-on
+begun-view mode begins (Sending part xs) = goes-on
 
-code-view : (mode : Mode) (part : Part) (c : ℕ) (cs : List ℕ) (s : Sender) (w : Waits (alphabetOf mode) c) → Begins mode (c ∷ cs) (Sending part []) s (codeBegins mode c cs s (sends (alphabetOf mode) c))
+code-view : (mode : Mode) (part : Part) (c : ℕ) (cs : List ℕ) (s : Sender) (w : Waits (alphabetOf mode) c)
+    → Begins mode (c ∷ cs) (Sending part []) s (codeBegins mode c cs s (sends (alphabetOf mode) c))
 unfolding codeBegins
-code-view mode part c cs s w = subst (λ (x : Sends). Begins mode (c ∷ cs) (Sending part []) s (codeBegins mode c cs s x)) (sym (w .sent)) (go (eqb (shiftWanted (alphabetOf mode) s (w .own)) 0) refl)
+code-view mode part c cs s w =
+    subst (λ (x : Sends). Begins mode (c ∷ cs) (Sending part []) s (codeBegins mode c cs s x)) (sym (w .sent))
+    (go (eqb wanted 0) refl)
   where
-    go : (b : Bool) → eqb (shiftWanted (alphabetOf mode) s (w .own)) 0 ≡ b
-        → Begins mode (c ∷ cs) (Sending part []) s (cond b (ownBegins mode c cs s (w .code)) (shiftBegins mode c cs s (shiftWanted (alphabetOf mode) s (w .own))))
+    wanted : ℕ
+    wanted = shiftWanted (alphabetOf mode) s (w .own)
+
+    go : (b : Bool) → eqb wanted 0 ≡ b
+        → Begins mode (c ∷ cs) (Sending part []) s
+        (cond b (ownBegins mode c cs s (w .code)) (shiftBegins mode c cs s wanted))
     go true e = owns part c cs s w e
     go false e = shifts part c cs s w e
 
-next-view : (mode : Mode) (waiting : List ℕ) (on : OnLine) (s : Sender) → AllWait mode waiting → Begins mode waiting on s (nextCode mode waiting on s)
+next-view : (mode : Mode) (waiting : List ℕ) (on : OnLine) (s : Sender) → AllWait mode waiting
+    → Begins mode waiting on s (nextCode mode waiting on s)
 unfolding nextCode
 next-view mode waiting Idle s h = stays
-next-view mode waiting (Sending part (x ∷ ms)) s h = stays
+next-view mode waiting (Sending part (x ∷ xs)) s h = stays
 next-view mode [] (Sending part []) s h = stays
 next-view mode (c ∷ cs) (Sending part []) s h = code-view mode part c cs s (h .0)
 
-pub closed-view : (waiting : List ℕ) (on : OnLine) → Closes on (closed waiting on)
+pub closed-view : (ends : Bool) (on : OnLine) → Closes on (closed ends on)
 unfolding closed
-closed-view waiting Idle = keeps
-closed-view waiting (Sending part (x ∷ ms)) = keeps
-closed-view waiting (Sending part []) = go (mayEnd (isCodePart part) (length waiting))
+closed-view ends Idle = keeps
+closed-view ends (Sending part (x ∷ xs)) = keeps
+closed-view ends (Sending part []) = go (isCodePart part && ends)
   where
     go : (b : Bool) → Closes (Sending part []) (cond b Idle (Sending part []))
-    go true = ends
+    go true = closes
     go false = keeps
 
 -- what each ms keeps: those that wait send something, and the sender is one that the rule can have
@@ -96,7 +108,9 @@ waiter a c h = go (sends a c) refl (and-right (leb c 0x7f) (isCode (sends a c)) 
   where
     go : (x : Sends) → sends a c ≡ x → isCode x ≡ true → Waits a c
     go Nothing e z = absurd (true≢false (sym z))
-    go (Code own k) e z = let l = leb-true c 0x7f (and-left (leb c 0x7f) (isCode (sends a c)) h) in record { char-in = omega arith; own = own; code = k; sent = e }
+    go (Code own k) e z =
+        let l = leb-true c 0x7f (and-left (leb c 0x7f) (isCode (sends a c)) h) in
+        record { char-in = omega arith; own = own; code = k; sent = e }
 
 all-wait : (mode : Mode) (cs : List ℕ) → allWait (alphabetOf mode) cs ≡ true → AllWait mode cs
 unfolding allWait
@@ -107,26 +121,34 @@ all-wait mode (c ∷ cs) h =
 
 pub fine-offered : (mode : Mode) (cs : List ℕ) (m : Model) → Fine mode m → Fine mode (offered mode cs m)
 unfolding offered
-fine-offered mode cs m f = let a = alphabetOf mode in record { waits = waits-append mode (m .waiting) (waiters a cs) (f .waits) (all-wait mode (waiters a cs) (waiters-wait a cs)); sender-in = f .sender-in }
+fine-offered mode cs m f =
+    let ws = waiters (alphabetOf mode) cs in
+    let all = all-wait mode ws (waiters-wait (alphabetOf mode) cs) in
+    record { waits = waits-append mode (m .waiting) ws (f .waits) all; sender-in = f .sender-in }
 
 module _ (mode : Mode) (L : LawsOf mode) where
-  fine-begins : {waiting : List ℕ} {on : OnLine} {s : Sender} {l : Loaded} → Begins mode waiting on s l → AllWait mode waiting → SenderIn (alphabetOf mode) s → AllWait mode (l .waiting) × SenderIn (alphabetOf mode) (l .sender)
+  fine-begins : {waiting : List ℕ} {on : OnLine} {s : Sender} {l : Loaded} → Begins mode waiting on s l
+      → AllWait mode waiting → SenderIn (alphabetOf mode) s
+      → AllWait mode (l .waiting) × SenderIn (alphabetOf mode) (l .sender)
   fine-begins stays h i = (h, i)
   fine-begins (shifts part c cs s w e) h i = (h, L .shift-sender s c w i e)
   fine-begins (owns part c cs s w e) h i = (h .1, L .own-sender s c w i e)
 
-  pub load-view : (m : Model) → Fine mode m → (on : OnLine) × Opens mode (m .onLine) on × Begins mode (m .waiting) on (m .sender) (load mode m)
-  unfolding load
-  load-view m f =
-      let b = mayBegin (length (m .waiting)) (m .silence) in
-      (begun mode b (m .onLine), begun-view mode b (m .onLine), next-view mode (m .waiting) (begun mode b (m .onLine)) (m .sender) (f .waits))
+  pub load-view : (begins : Bool) (m : Model) → Fine mode m
+      → (on : OnLine) × Opens mode (m .onLine) on × Begins mode (m .waiting) on (m .sender) (loadBy begins mode m)
+  load-view begins m f =
+      let on = begun mode begins (m .onLine) in
+      (on, begun-view mode begins (m .onLine), next-view mode (m .waiting) on (m .sender) (f .waits))
 
-  pub fine-ms : (m : Model) (x : ℕ) → Fine mode m → Fine mode (msAfter mode m x)
-  unfolding msAfter
-  fine-ms m x f = let k = fine-begins (load-view m f .2) (f .waits) (f .sender-in) in record { waits = k .0; sender-in = k .1 }
+  pub fine-ms : (begins ends : Bool) (m : Model) (x : ℕ) → Fine mode m → Fine mode (msBy mode begins ends m x)
+  unfolding msBy
+  fine-ms begins ends m x f =
+      let k = fine-begins (load-view begins m f .2) (f .waits) (f .sender-in) in
+      record { waits = k .0; sender-in = k .1 }
 
-  pub fine-after : (steps : List Step) (m : Model) → Fine mode m → Fine mode (modelAfter mode m steps)
-  unfolding modelAfter
+  pub fine-after : (steps : List Told) (m : Model) → Fine mode m → Fine mode (toldAfter mode m steps)
+  unfolding toldAfter
   fine-after [] m f = f
-  fine-after (Offer cs ∷ steps) m f = fine-after steps (offered mode cs m) (fine-offered mode cs m f)
-  fine-after (Ms x ∷ steps) m f = fine-after steps (msAfter mode m x) (fine-ms m x f)
+  fine-after (offer cs ∷ steps) m f = fine-after steps (offered mode cs m) (fine-offered mode cs m f)
+  fine-after (ms begins ends x ∷ steps) m f =
+      fine-after steps (msBy mode begins ends m x) (fine-ms begins ends m x f)

@@ -1,18 +1,13 @@
 -- Document 01, "Demand 3 is a single claim": lists of offers and runs. Each call is played by the definitions that the contracts
 -- of the station's entries cite, on the station that the last call returned or left.
-use Prim.Native.Nat.{ℕ, zero, suc, _+_, _-_}
-use mathlib.Core.Bool.{Bool, cond, _&&_}
+use Prim.Native.Nat.{ℕ, zero, suc, _-_}
+use mathlib.Core.Bool.{Bool, cond}
 use mathlib.Core.List.{List, [], _∷_, _++_, map}
-use lib.Dec.{eqb, leb}
+use lib.Dec.{eqb}
 use lib.ListN.{length, take}
-use Rattle.lists.specs.Lists.{allAtMost}
-use Rattle.alphabet.specs.declared.Mode.{Mode}
-use Rattle.alphabet.specs.Modes.{alphabetOf, highestLevel}
-use Rattle.alphabet.specs.Normal.{allChars}
-use Rattle.queue.specs.Queue.{waiters}
 use Rattle.station.specs.declared.Station.{Station}
 use Rattle.station.specs.Entries.{openOf, offerOf, ranOf, sentAfter, wordsAfter}
-use Rattle.demand3.specs.Model.{Model, Step, Offer, Ms, modelAfter, heardIn}
+use Rattle.demand3.specs.Model.{Step, Offer, Ms, msIn}
 
 -- An offer of some bytes. A run on some heard ms, with a sent slice and a word slice. Each is of any length and content.
 pub data Call : Type 0 where
@@ -78,10 +73,6 @@ unfoldable pub stepsBy : Station → List Call → List Step
 stepsBy s [] = []
 stepsBy s (c ∷ cs) = stepsFor s c ++ stepsBy (left s c) cs
 
--- How many ms there are in some steps.
-abbrev pub msIn : List Step → ℕ
-msIn steps = length (heardIn steps)
-
 -- A call that succeeds, cut after n ms: a run on the first n ms that it heard.
 abbrev pub cutIf : Call → ℕ → Call
 cutIf (OfferCall text) n = OfferCall text
@@ -95,16 +86,3 @@ unfoldable pub upTo : Station → List Call → ℕ → List Call
 upTo s [] n = []
 upTo s (c ∷ cs) zero = []
 upTo s (c ∷ cs) (suc n) = cutFor s c (suc n) ∷ upTo (left s c) cs (suc n - msIn (stepsFor s c))
-
--- Besides: which calls succeed, told by the send model. Questions 3 and 4, the latter by those that wait in the model; 5 to 8.
--- (After calls on a fresh station the answer to question 1 is yes.)
-unfoldable pub accepts : Mode → Model → Call → Bool
-accepts mode m (OfferCall text) = allChars text && leb (length (m .waiting) + length (waiters (alphabetOf mode) text)) 256
-accepts mode m (RunCall heard sent words) =
-    leb (length heard) 4_096 && allAtMost (highestLevel mode) heard && leb (length heard) (length sent) && leb (length heard) (length words)
-
-unfoldable pub modelSteps : Mode → Model → List Call → List Step
-modelSteps mode m [] = []
-modelSteps mode m (c ∷ cs) =
-    let steps = cond (accepts mode m c) (stepsIf c) [] in
-    steps ++ modelSteps mode (modelAfter mode m steps) cs

@@ -10,10 +10,9 @@ use Rattle.alphabet.specs.declared.Mode.{Mode}
 use Rattle.alphabet.specs.Modes.{modeOf, alphabetOf}
 use Rattle.alphabet.specs.Normal.{normalForm, allChars}
 use Rattle.reader.specs.Words.{characterWord}
-use Rattle.demand3.specs.Model.{Step, Did, freshModel, modelAfter, does, sentIn, takenIn, heardIn}
+use Rattle.demand3.specs.Model.{Step, Did, freshModel, modelAfter, does, heardIn, msIn, OffersNone, sentIn, takenIn}
 use Rattle.demand3.specs.Reading.{synchronizedAfter, mostBefore, NoBurst, EndsIdle}
-use Rattle.demand3.specs.BothModels.{OffersNone}
-use Rattle.demand3.specs.Calls.{Call, RunCall, opened, succeeds, leftBy, sentBy, wordsBy, stepsBy, msIn, upTo}
+use Rattle.demand3.specs.Calls.{Call, RunCall, opened, succeeds, leftBy, sentBy, wordsBy, stepsBy, upTo}
 
 -- D3: "every list of offers and runs on station A and every such list on station B, refused calls among them", "whatever A
 -- hears": any calls. 01: "One clock numbers the ms of both."
@@ -90,7 +89,8 @@ pub record Premises (d : Lists) : Type 0 where
   -- D3: "no offer to it that holds a character succeeds"
   pub offers-none : OffersNone since
   -- D3: "from those 40 ms on B hears exactly what A sends". 01: "up to the one asked about".
-  pub hears : between (d .openB) (d .start + 260) (d .asked + 1) (heardB d) ≡ between (d .openA) (d .start + 260) (d .asked + 1) (sentA d)
+  pub hears : between (d .openB) (d .start + 260) (d .asked + 1) (heardB d)
+      ≡ between (d .openA) (d .start + 260) (d .asked + 1) (sentA d)
 
 -- 01: "what A takes after the rest". What A's model does from there up to the ms asked about.
 abbrev pub followsA : Lists → List Did
@@ -101,7 +101,8 @@ followsA d = between (d .openA) (d .start + 300) (d .asked + 1) (didsA d)
 abbrev pub synchronized : Lists → ℕ
 synchronized d = synchronizedAfter (theMode d) (followsA d)
 
--- D3: "the words of kind 0 for the normal form of the characters" that A's model has "by then taken after it, in the order taken".
+-- D3: "the words of kind 0 for the normal form of the characters" that A's model has "by then taken after it, in the order
+-- taken".
 abbrev pub wordsDue : Lists → List ℕ
 wordsDue d = map characterWord (normalForm (theAlphabet d) (takenIn (drop (synchronized d) (followsA d))))
 
@@ -128,8 +129,10 @@ pub record Same (cs ds : List Call) (mode : ℕ) : Type 0 where
 
 abbrev pub CutInTwo : Type 0
 CutInTwo = (mode : ℕ) (past next : List Call) (xs ys sent words sent′ words′ : List ℕ)
-    → succeeds (leftBy (opened mode) past) (RunCall (xs ++ ys) sent words) ≡ true → length ys ≤ length sent′ → length ys ≤ length words′
-    → Same (past ++ (RunCall (xs ++ ys) sent words ∷ next)) (past ++ (RunCall xs sent words ∷ RunCall ys sent′ words′ ∷ next)) mode
+    → succeeds (leftBy (opened mode) past) (RunCall (xs ++ ys) sent words) ≡ true
+    → length ys ≤ length sent′ → length ys ≤ length words′
+    → Same (past ++ (RunCall (xs ++ ys) sent words ∷ next))
+    (past ++ (RunCall xs sent words ∷ RunCall ys sent′ words′ ∷ next)) mode
 
 -- D3: "taking the normal form twice equals taking it once", in every mode.
 abbrev pub NormalTwice : Type 0

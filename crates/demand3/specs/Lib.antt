@@ -1,6 +1,5 @@
 pub mod Model
 pub mod Reading
-pub mod BothModels
 pub mod Calls
 pub mod Demand3
 pub mod Examples

@@ -1,7 +1,8 @@
 -- Document 01, "Demand 3 is a single claim": the send model (there: a station's book), ms by ms. It is kept from offers that
 -- succeed and heard ms alone, and never looks at a station.
 use Prim.Native.Nat.{ℕ, suc}
-use mathlib.Core.Bool.{Bool, true, false, cond}
+use mathlib.Core.Path.{_≡_}
+use mathlib.Core.Bool.{Bool, true, false, cond, _&&_}
 use mathlib.Core.List.{List, [], _∷_, _++_, map}
 use lib.Dec.{eqb}
 use lib.ListN.{length}
@@ -14,7 +15,7 @@ use Rattle.alphabet.specs.Normal.{sends}
 use Rattle.baudot.specs.declared.Sender.{Sender}
 use Rattle.baudot.specs.Sending.{fresh, shiftCode, shifted}
 use Rattle.signal.specs.Signal.{quiet, signal, preamble}
-use Rattle.burst.specs.Rules.{freeMs, mayBegin, mayEnd, isInhibited as inhibitedBy, inhibitedAfter, isSilent, shiftWanted, senderAfterOwn}
+use Rattle.burst.specs.Rules.{freeMs, mayBegin, mayEnd, shiftWanted, senderAfterOwn, isInhibited, inhibitedAfter, isSilent}
 use Rattle.queue.specs.Queue.{waiters}
 
 -- What is on the line in a burst: the preamble (there: lead), a shift code (there: case code), a character's own code.
@@ -55,10 +56,10 @@ isCodePart Preamble = false
 isCodePart ShiftCode = true
 isCodePart OwnCode = true
 
--- In no burst, one begins with its preamble if it may.
+-- In no burst, one begins with its preamble where it is to begin.
 unfoldable pub begun : Mode → Bool → OnLine → OnLine
-begun mode may Idle = cond may (Sending Preamble (preamble mode)) Idle
-begun mode may (Sending part left) = Sending part left
+begun mode begins Idle = cond begins (Sending Preamble (preamble mode)) Idle
+begun mode begins (Sending part left) = Sending part left
 
 -- What a ms starts with: those waiting, what is on the line, the sender, and what is taken.
 pub record Loaded : Type 0 where
@@ -92,9 +93,10 @@ nextCode mode waiting (Sending part (x ∷ left)) s = loaded waiting (Sending pa
 nextCode mode [] (Sending part []) s = loaded [] (Sending part []) s []
 nextCode mode (c ∷ cs) (Sending part []) s = codeBegins mode c cs s (sends (alphabetOf mode) c)
 
--- Within each ms, sending is settled first.
-unfoldable pub load : Mode → Model → Loaded
-load mode m = nextCode mode (m .waiting) (begun mode (mayBegin (length (m .waiting)) (m .silence)) (m .onLine)) (m .sender)
+-- A ms is told when a burst begins and ends: `begins`, one is to begin now if there is none; `ends`, this one is to end with
+-- this code. Within each ms, sending is settled first.
+abbrev pub loadBy : Bool → Mode → Model → Loaded
+loadBy begins mode m = nextCode mode (m .waiting) (begun mode begins (m .onLine)) (m .sender)
 
 -- The level that is sent: quiet outside a burst.
 unfoldable pub levelOn : OnLine → ℕ
@@ -118,17 +120,13 @@ ended Idle = []
 ended (Sending part []) = part ∷ []
 ended (Sending part (x ∷ left)) = []
 
--- If the last ms of a part has come, the burst ends with that ms if it may.
-unfoldable pub closed : List ℕ → OnLine → OnLine
-closed waiting Idle = Idle
-closed waiting (Sending part []) = cond (mayEnd (isCodePart part) (length waiting)) Idle (Sending part [])
-closed waiting (Sending part (x ∷ left)) = Sending part (x ∷ left)
+-- If a code's last ms has come (the preamble is none), the burst ends with that ms where it is to end.
+unfoldable pub closed : Bool → OnLine → OnLine
+closed ends Idle = Idle
+closed ends (Sending part []) = cond (isCodePart part && ends) Idle (Sending part [])
+closed ends (Sending part (x ∷ left)) = Sending part (x ∷ left)
 
--- The receiver is inhibited in the ms.
-unfoldable pub isInhibited : Mode → Model → Bool
-isInhibited mode m = inhibitedBy (inBurst (load mode m .onLine)) (m .inhibitedMs)
-
--- Silence grows by a ms without signal; otherwise it is 0 again.
+-- Then silence grows by that ms if it was heard as 0 or is inhibited; otherwise it is 0 again.
 abbrev pub silenceAfter : Bool → ℕ → ℕ
 silenceAfter silent silence = cond silent (suc silence) 0
 
@@ -139,23 +137,43 @@ pub record Did : Type 0 where
   pub taken : List ℕ
   pub ended : List Part
 
-unfoldable pub did : Mode → Model → Did
-did mode m =
-    let l = load mode m in
-    record { sent = levelOn (l .onLine); burst = inBurst (l .onLine); taken = l .taken; ended = ended (oneGone (l .onLine)) }
+-- By what the ms starts with: what it does, whether the receiver is inhibited in it, and the model after it.
+abbrev pub didFrom : Loaded → Did
+didFrom l = record {
+  sent = levelOn (l .onLine);
+  burst = inBurst (l .onLine);
+  taken = l .taken;
+  ended = ended (oneGone (l .onLine));
+}
 
--- The model after a ms.
+abbrev pub inhibitedFrom : Model → Loaded → Bool
+inhibitedFrom m l = isInhibited (inBurst (l .onLine)) (m .inhibitedMs)
+
+abbrev pub modelFrom : Bool → Model → Loaded → ℕ → Model
+modelFrom ends m l heard = record {
+  waiting = l .waiting;
+  onLine = closed ends (oneGone (l .onLine));
+  sender = l .sender;
+  silence = silenceAfter (isSilent (inhibitedFrom m l) heard) (m .silence);
+  inhibitedMs = inhibitedAfter (inBurst (l .onLine)) (m .inhibitedMs);
+}
+
+-- A station by itself: a burst begins with characters waiting and at least 300 ms of silence, and ends if none waits.
+abbrev pub beginsIn : Model → Bool
+beginsIn m = mayBegin (length (m .waiting)) (m .silence)
+
+unfoldable pub load : Mode → Model → Loaded
+load mode m = loadBy (beginsIn m) mode m
+
+abbrev pub endsIn : Mode → Model → Bool
+endsIn mode m = mayEnd (length (load mode m .waiting))
+
+-- What its ms does, and its model after it.
+unfoldable pub did : Mode → Model → Did
+did mode m = didFrom (load mode m)
+
 unfoldable pub msAfter : Mode → Model → ℕ → Model
-msAfter mode m heard =
-    let l = load mode m in
-    let burst = inBurst (l .onLine) in
-    record {
-      waiting = l .waiting;
-      onLine = closed (l .waiting) (oneGone (l .onLine));
-      sender = l .sender;
-      silence = silenceAfter (isSilent (isInhibited mode m) heard) (m .silence);
-      inhibitedMs = inhibitedAfter burst (m .inhibitedMs);
-    }
+msAfter mode m heard = modelFrom (endsIn mode m) m (load mode m) heard
 
 -- What a model is kept from: an offer that succeeds, and a ms with the level heard.
 pub data Step : Type 0 where
@@ -178,6 +196,16 @@ unfoldable pub heardIn : List Step → List ℕ
 heardIn [] = []
 heardIn (Offer cs ∷ steps) = heardIn steps
 heardIn (Ms heard ∷ steps) = heard ∷ heardIn steps
+
+-- How many ms there are in them.
+abbrev pub msIn : List Step → ℕ
+msIn steps = length (heardIn steps)
+
+-- No offer that holds a character succeeds.
+unfoldable pub OffersNone : List Step → Type 0
+OffersNone [] = Unit {0}
+OffersNone (Offer cs ∷ steps) = (cs ≡ []) × OffersNone steps
+OffersNone (Ms heard ∷ steps) = OffersNone steps
 
 -- The levels sent and the characters taken in some ms, in order.
 abbrev pub sentIn : List Did → List ℕ
