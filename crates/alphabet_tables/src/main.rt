@@ -88,47 +88,47 @@ fn print_code(a: Alphabet, shift: u8, code: LineCode) {
     }
 }
 
-fn print_char(a: Alphabet, c: u8)
-    requires { ⌜ c < 128 ⌝ }
+fn print_char(a: Alphabet, c: Char)
+    requires { ⌜ c .0 < 128 ⌝ }
 {
     print_name(a);
-    print_hex(c);
+    print_hex(c.0);
     print(b" sends ");
-    let s = alphabet::table::lookup(a, Char(c));
+    let s = alphabet::table::lookup(a, c);
     let Sends::Code { shift, code } = s else {
         print(b"- reads - normal -\n");
         return;
     };
     print_code(a, shift, code);
     print(b" normal ");
-    print_reads(alphabet::table::normal(a, Char(c)));
+    print_reads(alphabet::table::normal(a, c));
     print(b"\n")
 }
 
 fn print_alphabet(a: Alphabet) {
     let mut c: u8 = 0;
     while c < 128 {
-        print_char(a, c);
+        print_char(a, Char(c));
         c += 1;
     }
 }
 
-fn print_row(k: u8)
-    requires { ⌜ k < 32 ⌝ }
+fn print_row(k: LineCode)
+    requires { ⌜ k .0 < 32 ⌝ }
 {
     print(b"code ");
-    print_five(k);
+    print_five(k.0);
     print(b" letters ");
-    print_reads(alphabet::table::read_baudot(1, LineCode(k)));
+    print_reads(alphabet::table::read_baudot(1, k));
     print(b" figures ");
-    print_reads(alphabet::table::read_baudot(2, LineCode(k)));
+    print_reads(alphabet::table::read_baudot(2, k));
     print(b"\n");
 }
 
 fn print_codes() {
     let mut k: u8 = 0;
     while k < 32 {
-        print_row(k);
+        print_row(LineCode(k));
         k += 1;
     }
 }
