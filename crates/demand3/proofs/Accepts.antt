@@ -51,7 +51,7 @@ four-asked true false c d = refl
 four-asked false b c d = refl
 
 module _ (mode : Mode) where
-  accepts-is : (c : Call) (s : Station) (m : Model) (r : Reader) → Like mode s m r → succeeds s c ≡ accepts mode m c
+  pub accepts-is : (c : Call) (s : Station) (m : Model) (r : Reader) → Like mode s m r → succeeds s c ≡ accepts mode m c
   unfolding accepts offerAnswer runAnswer room
   accepts-is (OfferCall text) s m r h =
       let fits = leb (length (m .waiting) + length (waiters (alphabetOf mode) text)) 256 in

@@ -53,7 +53,7 @@ eventsInhibited mode (suc n) r (x ∷ xs) = nothing ∷ eventsInhibited mode n (
 -- period, it is in no burst. The reader is in range at the first of them, whatever it heard before, and is inhibited in
 -- the first n of them, if at all. (That A was in no burst in the 260 ms before them, too, is not needed here: B's own
 -- inhibited ms run out in them.)
-pub record Premises (mode : Mode) (past on : List Told) (r : Reader) (n : ℕ) : Type 0 where
+pub record AfterIdle (mode : Mode) (past on : List Told) (r : Reader) (n : ℕ) : Type 0 where
   pub forty-ms : 40 ≤ toldMs on
   pub idle : NoBurst (take 40 (toldDoes mode (toldAfter mode freshModel past) on))
   pub reader-in : ReaderIn mode r
@@ -74,7 +74,7 @@ pub record Reads (mode : Mode) (ds : List Did) (es : List Event) : Type 0 where
 -- The reader hears all that A sends from the first of the 40 ms on. `on` is any list of steps, so it ends in any later
 -- ms.
 abbrev pub ReadsAfterIdle : Mode → Type 0
-ReadsAfterIdle mode = (past on : List Told) (r : Reader) (n : ℕ) → Premises mode past on r n
+ReadsAfterIdle mode = (past on : List Told) (r : Reader) (n : ℕ) → AfterIdle mode past on r n
     → let ds = toldDoes mode (toldAfter mode freshModel past) on in
     Reads mode (drop 40 ds) (drop 40 (eventsInhibited mode n r (sentIn ds)))
 
@@ -235,7 +235,7 @@ fresh-sender Edt = tt
 fresh-fine : (mode : Mode) → Fine mode freshModel
 fresh-fine mode = record { waits = tt; sender-in = fresh-sender mode }
 
-module _ (mode : Mode) (past on : List Told) (r : Reader) (n : ℕ) (p : Premises mode past on r n) (c : Cut 40 on) where
+module _ (mode : Mode) (past on : List Told) (r : Reader) (n : ℕ) (p : AfterIdle mode past on r n) (c : Cut 40 on) where
   abbrev m : Model
   m = toldAfter mode freshModel past
 

@@ -29,6 +29,7 @@ closes-left closes = refl
 closes-left keeps = refl
 
 module _ (mode : Mode) (L : LawsOf mode) where
+  -- the reader is synchronized with the sender
   abbrev InStep : Sender → Reader → Type 0
   InStep s r = Synchronized (alphabetOf mode) s r
 

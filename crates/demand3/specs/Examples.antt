@@ -22,7 +22,8 @@ pub record Holds (e : Example) : Type 0 where
   pub premises : Premises (e .lists)
   pub ends-idle : EndsIdle (followsA (e .lists))
   pub before-is : takenIn (take (synchronized (e .lists)) (followsA (e .lists))) ≡ e .before
-  pub words-are : wordsBefore (e .lists) (e .lists .asked + 1) ≡ wordsBefore (e .lists) (e .lists .start + 300 + synchronized (e .lists)) ++ e .words
+  pub words-are : wordsBefore (e .lists) (e .lists .asked + 1)
+      ≡ wordsBefore (e .lists) (e .lists .start + 300 + synchronized (e .lists)) ++ e .words
 
 -- n ms, heard as x; a run on some ms, with slices that are just long enough
 abbrev pub ms : ℕ → ℕ → List ℕ
@@ -50,7 +51,9 @@ callsA45 =
 
 -- what A sends from ms 1740 on
 unfoldable pub line45 : List ℕ
-line45 = ms 40 0 ++ preamble Baudot45 ++ signals Baudot45 (0b10000 ∷ 0b11000 ∷ 0b11000 ∷ 0b11011 ∷ 0b10111 ∷ 0b11111 ∷ 0b00011 ∷ []) ++ 0 ∷ []
+line45 =
+    ms 40 0 ++ preamble Baudot45
+    ++ signals Baudot45 (0b10000 ∷ 0b11000 ∷ 0b11000 ∷ 0b11011 ∷ 0b10111 ∷ 0b11111 ∷ 0b00011 ∷ []) ++ 0 ∷ []
 
 unfoldable pub callsB45 : List Call
 callsB45 =
