@@ -109,7 +109,8 @@ module _ {S : Type 0} (P : S → Type 0) where
       after-keeps-most step m k (step s x) xs (at-most-tail m x xs e) (k s x (at-most-head m x xs e) p)
 
 -- lists that each input gives, end to end
-pub joined-append : {S : Type 0} {I : Type 0} {O : Type 0} (step : S → I → S) (out : S → I → List O) (s : S) (xs ys : List I)
+pub joined-append : {S : Type 0} {I : Type 0} {O : Type 0} (step : S → I → S) (out : S → I → List O)
+    → (s : S) (xs ys : List I)
     → joined step out s (xs ++ ys) ≡ joined step out s xs ++ joined step out (stateAfter step s xs) ys
 unfolding stateAfter joined
 joined-append step out s [] ys = refl
