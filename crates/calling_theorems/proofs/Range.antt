@@ -1,13 +1,13 @@
 -- Range is kept: a fresh state is in range, and so is the state after every run on one.
 use mathlib.Core.Path.{_≡_, refl}
 use mathlib.Core.Bool.{true, _&&_}
-use mathlib.Core.List.{List, [], _∷_}
+use mathlib.Core.List.{List}
 use Prim.Native.Nat.{ℕ, _+_, _≤_, _<_}
 use native.Mathlib.Omega.{arith}
 use borrow.Author.Tests.{le-leb, lt-ltb, leb-true, ltb-true, eqb-true}
 use lib.Dec.{eqb, leb, ltb}
-use Rattle.lists.specs.Steps.{stateAfter}
-use Rattle.lists.proofs.Lists.{either, either-by, and-left, and-right, at-most-head, at-most-tail}
+use Rattle.lists.proofs.Lists.{either, either-by, and-left, and-right}
+use Rattle.lists.proofs.Steps.{after-keeps-most}
 use Rattle.calling.specs.declared.Calling.{Calling}
 use Rattle.calling.specs.declared.Ran.{Ran}
 use Rattle.calling.specs.Timetable.{timetable, total, period, placeAfter}
@@ -111,13 +111,6 @@ ms-in-range s h t r =
     })
     r
 
-all-in-range : (s : Calling) (hs : List ℕ) → allTones hs ≡ true → CallingIn s → CallingIn (after s hs)
-unfolding stateAfter
-all-in-range s [] e r = r
-all-in-range s (h ∷ hs) e r =
-    let now = ms-in-range s h (at-most-head lastTone h hs e) r in
-    all-in-range (callingMs s h) hs (at-most-tail lastTone h hs e) now
-
 -- a fresh state is in range
 pub fresh-in-range : inRange fresh ≡ true
 unfolding timetable total period lengths lengthIn lengthOf fresh inRange
@@ -125,7 +118,8 @@ fresh-in-range = refl
 
 -- the tones of a run that succeeds keep range
 pub after-in-range : (s : Calling) (hs : List ℕ) → allTones hs ≡ true → inRange s ≡ true → inRange (after s hs) ≡ true
-after-in-range s hs e r = calling-is (after s hs) (all-in-range s hs e (calling-in s r))
+after-in-range s hs e r =
+    calling-is (after s hs) (after-keeps-most CallingIn callingMs lastTone ms-in-range s hs e (calling-in s r))
 
 -- every run keeps range, whatever it is given and whatever it answers
 pub run-in-range : (s : Calling) (ts : List ℕ) (room : ℕ) → inRange s ≡ true → inRange (ranOf s ts room .state) ≡ true

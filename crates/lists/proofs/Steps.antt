@@ -1,11 +1,14 @@
 -- Machines over lists that stand one behind the other, at a place of a list, and over lists of calls.
 use mathlib.Core.Path.{_≡_, _∙_, refl, sym, ap}
-use mathlib.Core.List.{List, [], _∷_, _++_}
+use mathlib.Core.Bool.{true}
+use mathlib.Core.List.{List, [], _∷_, _++_, append-assoc}
 use Prim.Native.Nat.{ℕ, suc, _+_, _≤_, _<_}
 use native.Mathlib.Numerals.{add-one}
 use lib.ListN.{length, getD, drop, set, replicate, drop-of-length-le, length-set}
 use lib.Seq.{sets, drop-cons}
+use Rattle.lists.specs.Lists.{allAtMost}
 use Rattle.lists.specs.Steps.{stateAfter, outputs, joined}
+use Rattle.lists.proofs.Lists.{at-most-head, at-most-tail}
 
 -- from the state s, the list xs ends in os, one for each input, and leaves the state t
 pub record Takes {S : Type 0} {I : Type 0} {O : Type 0} (step : S → I → S) (out : S → I → O) (s : S) (xs : List I)
@@ -89,6 +92,31 @@ module _ {S : Type 0} {I : Type 0} {O : Type 0} (step : S → I → S) (out : S 
       pub left-slice : length xs ≤ i → os ≡ sets os₀ 0 (outputs step out s₀ xs)
       unfolding outputs
       left-slice h = sym (ap (λ (ys : List I). sets os i (outputs step out s ys)) (drop-of-length-le xs h)) ∙ l .slice
+
+-- what every step keeps is kept; the same where the inputs are numbers up to m
+module _ {S : Type 0} (P : S → Type 0) where
+  pub after-keeps : {I : Type 0} (step : S → I → S) → ((s : S) (x : I) → P s → P (step s x))
+      → (s : S) (xs : List I) → P s → P (stateAfter step s xs)
+  unfolding stateAfter
+  after-keeps step k s [] p = p
+  after-keeps step k s (x ∷ xs) p = after-keeps step k (step s x) xs (k s x p)
+
+  pub after-keeps-most : (step : S → ℕ → S) (m : ℕ) → ((s : S) (x : ℕ) → x ≤ m → P s → P (step s x))
+      → (s : S) (xs : List ℕ) → allAtMost m xs ≡ true → P s → P (stateAfter step s xs)
+  unfolding stateAfter
+  after-keeps-most step m k s [] e p = p
+  after-keeps-most step m k s (x ∷ xs) e p =
+      after-keeps-most step m k (step s x) xs (at-most-tail m x xs e) (k s x (at-most-head m x xs e) p)
+
+-- lists that each input gives, end to end
+pub joined-append : {S : Type 0} {I : Type 0} {O : Type 0} (step : S → I → S) (out : S → I → List O)
+    → (s : S) (xs ys : List I)
+    → joined step out s (xs ++ ys) ≡ joined step out s xs ++ joined step out (stateAfter step s xs) ys
+unfolding stateAfter joined
+joined-append step out s [] ys = refl
+joined-append {O = O} step out s (x ∷ xs) ys =
+    ap (λ (l : List O). out s x ++ l) (joined-append step out (step s x) xs ys)
+    ∙ sym (append-assoc (out s x) (joined step out (step s x) xs) _)
 
 -- Calls on a machine: each leaves the state after what it hears, and says what the machine gives for that. Calls on the
 -- parts of a list then equal one on the whole, and refused calls, which hear nothing, may stand among them.

@@ -97,7 +97,19 @@ fn inhibit(l: Listener) -> Listener
     }
 }
 
-fn hear_all(l: Listener, level: u8, count: u8) -> Listener
+// One ms, inhibited or heard.
+fn one_ms(l: Listener, inhibited: bool, level: u8) -> Listener
+    requires { ⌜ ReaderIn (l .mode) (l .reader) ⌝ }
+    requires { ⌜ level ≤ 16 ⌝ }
+    ensures { λ r. ⌜ ReaderIn (r .mode) (r .reader) ⌝ }
+{
+    if inhibited {
+        return inhibit(l);
+    }
+    hear(l, level)
+}
+
+fn all_ms(l: Listener, inhibited: bool, level: u8, count: u8) -> Listener
     requires { ⌜ ReaderIn (l .mode) (l .reader) ⌝ }
     requires { ⌜ level ≤ 16 ⌝ }
     ensures { λ r. ⌜ ReaderIn (r .mode) (r .reader) ⌝ }
@@ -105,20 +117,7 @@ fn hear_all(l: Listener, level: u8, count: u8) -> Listener
     let mut x = l;
     let mut i: u8 = 0;
     while i < count {
-        x = hear(x, level);
-        i += 1;
-    }
-    x
-}
-
-fn inhibit_all(l: Listener, count: u8) -> Listener
-    requires { ⌜ ReaderIn (l .mode) (l .reader) ⌝ }
-    ensures { λ r. ⌜ ReaderIn (r .mode) (r .reader) ⌝ }
-{
-    let mut x = l;
-    let mut i: u8 = 0;
-    while i < count {
-        x = inhibit(x);
+        x = one_ms(x, inhibited, level);
         i += 1;
     }
     x
@@ -140,8 +139,8 @@ fn read_pair(l: Listener, first: u8, second: u8) -> Listener
     ensures { λ r. ⌜ ReaderIn (r .mode) (r .reader) ⌝ }
 {
     match first {
-        b'0'..=b'@' => hear_all(l, first - b'0', count(second)),
-        b'i' => inhibit_all(l, count(second)),
+        b'0'..=b'@' => all_ms(l, false, first - b'0', count(second)),
+        b'i' => all_ms(l, true, 0, count(second)),
         b'm' => begin_or_keep(l, second),
         _ => l,
     }
