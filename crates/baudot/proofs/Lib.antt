@@ -1,3 +1,4 @@
 pub mod SendingRule
 pub mod Fresh
 pub mod CountingRule
+pub mod Range

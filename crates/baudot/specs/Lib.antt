@@ -2,3 +2,4 @@ pub mod Sending
 pub mod Reading
 pub mod Counting
 pub mod Entries
+pub mod code

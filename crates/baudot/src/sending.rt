@@ -3,7 +3,7 @@ use crate::Sender;
 use alphabet::LineCode;
 ghost use mathlib.Core.Path.{_≡_};
 ghost use Prim.Native.Nat.{_≤_};
-ghost use Rattle.baudot.specs.Sending.{shiftCode, wanted, Running};
+ghost use Rattle.baudot.specs.Sending.{shiftCode, wanted, inRange, Running};
 
 // The most characters between two shift codes.
 pub const CHARACTERS_PER_SHIFT: u8 = 72;
@@ -31,4 +31,14 @@ pub fn wanted(s: Sender, own: u8) -> u8
         return s.shift;
     }
     0
+}
+
+// Question 1 of a sender.
+pub fn in_range(s: Sender) -> bool
+    ensures { λ r. ⌜ r ≡ inRange s ⌝ }
+{
+    if 2 < s.shift {
+        return false;
+    }
+    s.count <= CHARACTERS_PER_SHIFT
 }

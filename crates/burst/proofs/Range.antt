@@ -16,13 +16,14 @@ use Rattle.alphabet.specs.Modes.{alphabetOf, codes}
 use Rattle.alphabet.specs.Normal.{sends}
 use Rattle.alphabet.proofs.Ranges.{leastShift, some-shift, range-of}
 use Rattle.baudot.specs.declared.Sender.{Sender}
-use Rattle.baudot.specs.Sending.{sender, differs, wanted, shiftCode, shifted, inRange as senderIn}
+use Rattle.baudot.specs.Sending.{sender, differs, wanted, shiftCode, shifted}
 use Rattle.burst.specs.declared.OnLine.{OnLine}
 use Rattle.burst.specs.declared.Loaded.{Loaded}
 use Rattle.burst.specs.Rules.{shiftWanted, senderAfterOwn}
 use Rattle.burst.specs.Line.{onLine, further, idle, inBurst, isCode, partMs, isOver, begun, loaded, codeBegins, nextCode, oneGone, closed}
 use Rattle.burst.specs.Range.{lineIn}
-use Rattle.burst.specs.code.Bounds.{LineIn, SenderIn, SendsIn}
+use Rattle.baudot.specs.code.Bounds.{SenderIn}
+use Rattle.burst.specs.code.Bounds.{LineIn, SendsIn}
 
 -- ---- question 1 in facts
 
@@ -40,15 +41,6 @@ line-in mode l e =
 
 pub line-is : (mode : Mode) (l : OnLine) → LineIn mode l → lineIn mode l ≡ true
 line-is mode l h = rw (le-leb (l .part) 2 (h .part-in), lt-ltb (l .code .0) (codes (alphabetOf mode)) (h .code-in), le-leb (l .at) (length (partMs mode l)) (h .at-in)) refl
-
-pub sender-in : (s : Sender) → senderIn s ≡ true → SenderIn s
-sender-in s e =
-    let a = leb (s .shift) 2 in
-    let b = leb (s .count) 72 in
-    record { shift-in = leb-true (s .shift) 2 (and-left a b e); count-in = leb-true (s .count) 72 (and-right a b e) }
-
-pub sender-is : (s : Sender) → SenderIn s → senderIn s ≡ true
-sender-is s h = rw (le-leb (s .shift) 2 (h .shift-in), le-leb (s .count) 72 (h .count-in)) refl
 
 pub record LoadedIn (mode : Mode) (x : Loaded) : Type 0 where
   pub line-in : LineIn mode (x .line)

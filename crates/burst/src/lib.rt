@@ -8,11 +8,12 @@ use baudot::Sender;
 ghost use mathlib.Core.Path.{_≡_};
 ghost use Prim.Native.Nat.{_+_, _≤_, _<_};
 ghost use lib.ListN.{length};
-ghost use Rattle.baudot.specs.Sending.{wanted, inRange as senderIn};
+ghost use Rattle.baudot.specs.Sending.{wanted};
 ghost use Rattle.burst.specs.Rules.{shiftWanted, senderAfterOwn};
 ghost use Rattle.burst.specs.Line.{idle, partMs, isOver, begun, codeBegins, nextCode, levelOn, oneGone, ended, closed};
 ghost use Rattle.burst.specs.Range.{lineIn};
-ghost use Rattle.burst.specs.code.Bounds.{LineIn, SenderIn, SendsIn};
+ghost use Rattle.baudot.specs.code.Bounds.{SenderIn};
+ghost use Rattle.burst.specs.code.Bounds.{LineIn, SendsIn};
 
 pub mod rules;
 
@@ -252,14 +253,4 @@ pub fn in_range(mode: Mode, l: OnLine) -> bool
         return false;
     }
     l.at <= part_ms(mode, l)
-}
-
-// Question 1 of a sender.
-pub fn sender_in_range(s: Sender) -> bool
-    ensures { λ r. ⌜ r ≡ senderIn s ⌝ }
-{
-    if 2 < s.shift {
-        return false;
-    }
-    s.count <= baudot::sending::CHARACTERS_PER_SHIFT
 }

@@ -15,7 +15,8 @@ use Rattle.burst.specs.declared.Loaded.{Loaded}
 use Rattle.burst.specs.Rules.{isInhibited, isSilent}
 use Rattle.burst.specs.Line.{inBurst, begun, oneGone}
 use Rattle.burst.specs.Range.{lineIn}
-use Rattle.burst.proofs.Range.{line-in, line-is, sender-in, sender-is, LoadedIn, begun-in, next-in, gone-in, closed-in, next-takes}
+use Rattle.baudot.proofs.Range.{sender-in, sender-is}
+use Rattle.burst.proofs.Range.{line-in, line-is, LoadedIn, begun-in, next-in, gone-in, closed-in, next-takes}
 use Rattle.half_duplex.specs.declared.Core.{Core}
 use Rattle.half_duplex.specs.Core.{silenceAfter, modeIn, settledBy, settled, beginsIn, endsIn, waitingAfter, coreFromBy, coreFrom, coreAfter}
 use Rattle.half_duplex.specs.Range.{timersIn, partsIn, coreIn}
@@ -71,9 +72,15 @@ module _ (c : Core) where
   pub core-is : 1 ≤ c .mode → c .mode ≤ 4 → CoreIn c → coreIn c ≡ true
   unfolding coreIn
   core-is m n i =
-      rw (le-leb 1 (c .mode) m, le-leb (c .mode) 4 n, le-leb (c .silence) 300 (i .silence-in),
-        le-leb (c .inhibited) 300 (i .inhibited-in), line-is (modeIn c) (c .line) (i .line-in),
-        sender-is (c .sender) (i .sender-in), reader-is (modeIn c) (c .reader) (i .reader-in)) refl
+      rw (
+        le-leb 1 (c .mode) m,
+        le-leb (c .mode) 4 n,
+        le-leb (c .silence) 300 (i .silence-in),
+        le-leb (c .inhibited) 300 (i .inhibited-in),
+        line-is (modeIn c) (c .line) (i .line-in),
+        sender-is (c .sender) (i .sender-in),
+        reader-is (modeIn c) (c .reader) (i .reader-in),
+      ) refl
 
 -- ---- what a ms starts with
 

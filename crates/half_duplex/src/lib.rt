@@ -186,7 +186,7 @@ fn parts_in(c: Core) -> bool
         return false;
     }
     let s = c.sender;
-    if !burst::sender_in_range(s) {
+    if !baudot::sending::in_range(s) {
         return false;
     }
     let r = c.reader;

@@ -27,7 +27,8 @@ use Rattle.burst.specs.declared.Loaded.{Loaded}
 use Rattle.burst.specs.Rules.{mayBegin, mayEnd, shiftWanted}
 use Rattle.burst.specs.Line.{further, onLine, inBurst, partMs, isOver, codeBegins, nextCode, ended, closed}
 use Rattle.half_duplex.specs.Core.{core, modeIn, settled, waitingAfter}
-use Rattle.burst.specs.code.Bounds.{SenderIn, SendsIn}
+use Rattle.baudot.specs.code.Bounds.{SenderIn}
+use Rattle.burst.specs.code.Bounds.{SendsIn}
 use Rattle.burst.proofs.Laws.{code-ms, code-next}
 use Rattle.burst.proofs.Range.{LoadedIn, blank-in, sends-in, begins-in}
 use Rattle.queue.proofs.Moves.{moved-place}

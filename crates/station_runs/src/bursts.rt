@@ -2,9 +2,9 @@
 use crate::Stretched;
 use alphabet::Char;
 use alphabet::Mode;
-use half_duplex::Core;
 use burst::OnLine;
 use burst::rules;
+use half_duplex::Core;
 ghost use mathlib.Core.Path.{_≡_};
 ghost use mathlib.Core.Bool.{true, cond, _&&_};
 ghost use mathlib.Core.List.{List};

@@ -2,8 +2,8 @@
 use crate::Stretched;
 use alphabet::Char;
 use alphabet::Mode;
-use half_duplex::Core;
 use burst::Loaded;
+use half_duplex::Core;
 ghost use mathlib.Core.Path.{_≡_};
 ghost use mathlib.Core.Bool.{true, false};
 ghost use mathlib.Core.List.{List};

@@ -6,7 +6,6 @@ use Rattle.alphabet.specs.declared.Mode.{Mode}
 use Rattle.alphabet.specs.declared.Sends.{Sends}
 use Rattle.alphabet.specs.declared.Sends.the-variants.{Nothing, Code}
 use Rattle.alphabet.specs.Modes.{alphabetOf, codes}
-use Rattle.baudot.specs.declared.Sender.{Sender}
 use Rattle.burst.specs.declared.OnLine.{OnLine}
 use Rattle.burst.specs.Line.{partMs}
 
@@ -15,11 +14,6 @@ pub record LineIn (mode : Mode) (l : OnLine) : Type 0 where
   pub part-in : l .part ≤ 2
   pub code-in : l .code .0 < codes (alphabetOf mode)
   pub at-in : l .at ≤ length (partMs mode l)
-
--- the shift is 0 fresh, 1 letters, 2 figures; the count at most 72
-pub record SenderIn (s : Sender) : Type 0 where
-  pub shift-in : s .shift ≤ 2
-  pub count-in : s .count ≤ 72
 
 -- a code of the alphabet, of a shift that is letters, figures or both
 pub record CodeIn (a : Alphabet) (own n : ℕ) : Type 0 where

@@ -38,10 +38,16 @@ line-after-requires c κs = let s = c .before .before .before .before .before .b
 returns : tie.Need-returns
 returns c =
     let deaf = c .before .before .before .before .before .before .before in
-    simp (c .line-after .ensures, c .before .of .ensures, c .before .before .inhibited-after .ensures,
-      c .before .before .before .silence-after .ensures, c .before .before .before .before .is-silent .ensures,
-      c .before .before .before .before .before .waiting-after .ensures, deaf .is-inhibited .ensures,
-      deaf .before .before .before .pre .1)
+    simp (
+      c .line-after .ensures,
+      c .before .of .ensures,
+      c .before .before .inhibited-after .ensures,
+      c .before .before .before .silence-after .ensures,
+      c .before .before .before .before .is-silent .ensures,
+      c .before .before .before .before .before .waiting-after .ensures,
+      deaf .is-inhibited .ensures,
+      deaf .before .before .before .pre .1,
+    )
 
 pub core-from-spec : {M : Type 1} → statement M
 core-from-spec =

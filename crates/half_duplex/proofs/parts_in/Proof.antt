@@ -10,9 +10,9 @@ use borrow.Author.Needs.{needs}
 use Rattle.half_duplex.proofs.parts_in.Statement.{statement}
 use Rattle.half_duplex.proofs.parts_in.Tie as tie
 use Rattle.alphabet.proofs.Mode.of.Reads as of-reads
-use Rattle.burst.proofs.in_range.Reads as in-range-reads
-use Rattle.burst.proofs.sender_in_range.Reads as sender-in-range-reads
-use Rattle.reader.proofs.in_range.Reads as in-range-reads′
+use Rattle.burst.proofs.in_range.Reads as line-reads
+use Rattle.baudot.proofs.sending.in_range.Reads as sender-reads
+use Rattle.reader.proofs.in_range.Reads as reader-reads
 
 abbrev start : tie.After-in-range → tie.Start
 start c = c .before .before .before
@@ -30,27 +30,27 @@ in-range-requires c κs = search needs
 returns : tie.Need-returns
 returns c = simp (sym (on-line (c .before)) ∙ not-true (c .before .in-range .result) (c .if1 .taken))
 
-sender-in-range-requires : tie.Need-sender-in-range-requires
-sender-in-range-requires c κs = search needs
+in-range-requires-2 : tie.Need-in-range-requires-2
+in-range-requires-2 c κs = search needs
 
 returns-2 : tie.Need-returns-2
 returns-2 c =
     let l = c .before .before .before .before in
     let a = sym (on-line l) ∙ not-false (l .in-range .result) (c .before .before .before .if1 .left) in
-    let s = c .before .sender-in-range in
+    let s = c .before .in-range2 in
     simp (a, sym (s .ensures) ∙ not-true (s .result) (c .if2 .taken))
 
-in-range-requires-2 : tie.Need-in-range-requires-2
-in-range-requires-2 c κs = search needs
+in-range-requires-3 : tie.Need-in-range-requires-3
+in-range-requires-3 c κs = search needs
 
 returns-3 : tie.Need-returns-3
 returns-3 c =
     let l = c .before .before .before .before .before .before in
     let a = sym (on-line l) ∙ not-false (l .in-range .result) (c .before .before .before .before .before .if1 .left) in
-    let s = c .before .before .before .sender-in-range in
+    let s = c .before .before .before .in-range2 in
     let b = sym (s .ensures) ∙ not-false (s .result) (c .before .before .if2 .left) in
     let r = ap (λ (d : Mode). readerIn d (start l .args .c .reader)) (l .before .before .of .ensures) in
-    c .in-range2 .ensures ∙ r ∙ last-decides (both a b)
+    c .in-range3 .ensures ∙ r ∙ last-decides (both a b)
 
 pub parts-in-spec : {M : Type 1} → statement M
 parts-in-spec =
@@ -59,7 +59,7 @@ parts-in-spec =
     of-requires
     in-range-requires
     returns
-    sender-in-range-requires
-    returns-2
     in-range-requires-2
+    returns-2
+    in-range-requires-3
     returns-3)

@@ -12,8 +12,11 @@ returns-2 c = simp (le-leb 1 _ (c .before .before .if1 .left), lt-leb _ 4 (c .if
 
 returns-3 : tie.Need-returns-3
 returns-3 c =
-    simp (le-leb 1 _ (c .before .before .before .before .if1 .left), le-leb _ 4 (c .before .before .if2 .left),
-      lt-leb _ 300 (c .if3 .taken))
+    simp (
+      le-leb 1 _ (c .before .before .before .before .if1 .left),
+      le-leb _ 4 (c .before .before .if2 .left),
+      lt-leb _ 300 (c .if3 .taken),
+    )
 
 returns-4 : tie.Need-returns-4
 returns-4 c =

@@ -2,7 +2,8 @@
 use Prim.Native.Nat.{_≤_}
 use Rattle.reader.specs.code.Bounds.{ReaderIn}
 use Rattle.burst.specs.Rules.{freeMs, afterMs}
-use Rattle.burst.specs.code.Bounds.{LineIn, SenderIn}
+use Rattle.baudot.specs.code.Bounds.{SenderIn}
+use Rattle.burst.specs.code.Bounds.{LineIn}
 use Rattle.half_duplex.specs.declared.Core.{Core}
 use Rattle.half_duplex.specs.Core.{modeIn}
 

@@ -1,7 +1,7 @@
 -- `all_ms` keeps the reader in range, and ends.
 use Prim.Native.Nat.{_-_, _≤_}
 use borrow.Author.Needs.{needs}
-use Rattle.reader.specs.Range.{ReaderIn}
+use Rattle.reader.specs.code.Bounds.{ReaderIn}
 use Rattle.reader_words.proofs.all_ms.Statement.{statement}
 use Rattle.reader_words.proofs.all_ms.Tie as tie
 

@@ -30,8 +30,12 @@ returns-2 : tie.Need-returns-2
 unfolding inRange
 returns-2 c =
     let h = c .before .before .before .before .in-range in
-    simp (sym (h .ensures) ∙ not-false (h .result) (c .before .before .before .if1 .left), c .in-range2 .ensures,
-      c .before .alphabet .ensures, c .before .before .of .ensures)
+    simp (
+      sym (h .ensures) ∙ not-false (h .result) (c .before .before .before .if1 .left),
+      c .in-range2 .ensures,
+      c .before .alphabet .ensures,
+      c .before .before .of .ensures,
+    )
 
 pub in-range-spec : {M : Type 1} → statement M
 in-range-spec =

@@ -282,7 +282,7 @@ loop-again c =
     let r = code-fits b in
     let m = ms d in
     let es = d .before .before .before .put-whole .ensures
-        ∙ ap (λ (d : Mode). sets (l .loop .sent) (l .loop .at) (signal d (code b))) (alphabet-of l .before .of .ensures) in
+    ∙ ap (λ (d : Mode). sets (l .loop .sent) (l .loop .at) (signal d (code b))) (alphabet-of l .before .of .ensures) in
     let q = b .code-begins .result .line in
     let over = onLine (q .part) (q .code .0) (d .duration .result) in
     let ends = c .ended .ensures ∙ ap (λ (e : Bool). ended true e over) (c .before .may-end .ensures) in
