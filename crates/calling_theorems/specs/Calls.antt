@@ -13,21 +13,20 @@ pub record Call : Type 0 where
   pub tones : List ℕ
   pub slice : List ℕ
 
-module _ (s : Calling) (c : Call) where
-  abbrev pub answered : ℕ
-  answered = answerTo s (c .tones) (length (c .slice))
+abbrev pub answered : Calling → Call → ℕ
+answered s c = answerTo s (c .tones) (length (c .slice))
 
-  -- The state that it leaves.
-  abbrev pub left : Calling
-  left = ranOf s (c .tones) (length (c .slice)) .state
+-- The state that it leaves.
+abbrev pub left : Calling → Call → Calling
+left s c = ranOf s (c .tones) (length (c .slice)) .state
 
-  -- What it hears: its tones, and nothing if it is refused.
-  abbrev pub hears : List ℕ
-  hears = cond (eqb answered 0) (c .tones) []
+-- What it hears: its tones, and nothing if it is refused.
+abbrev pub hears : Calling → Call → List ℕ
+hears s c = cond (eqb (answered s c) 0) (c .tones) []
 
-  -- What it sends: as many ms from the front of its slice as it hears.
-  abbrev pub says : List ℕ
-  says = take (length hears) (sentAfter s (c .tones) (c .slice))
+-- What it sends: as many ms from the front of its slice as it hears.
+abbrev pub says : Calling → Call → List ℕ
+says s c = take (length (hears s c)) (sentAfter s (c .tones) (c .slice))
 
 -- The state after a list of calls, each on the state that the last one left; what they hear and what they send, end to end.
 abbrev pub leftBy : Calling → List Call → Calling

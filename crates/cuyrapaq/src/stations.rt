@@ -16,9 +16,9 @@ pub struct StationRan {
 pub extern "C" fn cq_station_open(station: &mut Station, mode: u8) -> u8
     ensures { λ r. ⌜ (r ≡ openOf mode .answer) × (now (station .exit) ≡ openOf mode .station) ⌝ }
 {
-    let r = station::open(&mut station.chars, mode);
-    station.core = r.core;
-    r.answer
+    let opened = station::open(&mut station.chars, mode);
+    station.core = opened.core;
+    opened.answer
 }
 
 // An offer to the station that the host lends: 0 or the number of the refusal.
@@ -28,9 +28,9 @@ pub extern "C" fn cq_station_offer(station: &mut Station, text: &[u8]) -> u8
         × (now (station .exit) ≡ offerOf (now (station .entry)) (now (text .entry)) .station) ⌝ }
 {
     let c = station.core;
-    let r = station::offer(c, &mut station.chars, text);
-    station.core = r.core;
-    r.answer
+    let offered = station::offer(c, &mut station.chars, text);
+    station.core = offered.core;
+    offered.answer
 }
 
 // A run on the station that the host lends: the sent ms and the words of the ms that are heard.
@@ -50,10 +50,10 @@ pub extern "C" fn cq_station_run(
         × (now (words .exit) ≡ wordsAfter (now (station .entry)) (now (heard .entry)) (length (now (sent .entry))) (now (words .entry))))) ⌝ }
 {
     let c = station.core;
-    let r = station_entry::run(c, &mut station.chars, heard, sent, words);
-    station.core = r.core;
+    let ran = station_entry::run(c, &mut station.chars, heard, sent, words);
+    station.core = ran.core;
     StationRan {
-        answer: r.answer,
-        words: r.words,
+        answer: ran.answer,
+        words: ran.words,
     }
 }

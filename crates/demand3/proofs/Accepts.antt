@@ -5,6 +5,7 @@ use mathlib.Core.List.{List, [], _∷_, _++_}
 use Prim.Native.Nat.{ℕ, _+_}
 use lib.Dec.{eqb, leb}
 use lib.ListN.{length}
+use Rattle.lists.specs.Steps.{joined}
 use Rattle.lists.specs.Lists.{allAtMost}
 use Rattle.alphabet.specs.declared.Mode.{Mode}
 use Rattle.alphabet.specs.Modes.{modeOf, alphabetOf, highestLevel}
@@ -16,26 +17,12 @@ use Rattle.station.specs.declared.Station.{Station}
 use Rattle.station.specs.Station.{modeOfStation, alphabetOfStation, queueOf}
 use Rattle.station.specs.Entries.{offerAnswer, runAnswer}
 use Rattle.demand3.specs.Model.{Model, Step, freshModel, modelAfter}
+use Rattle.demand3.specs.Accepts.{accepts, modelSteps}
 use Rattle.demand3.specs.Calls.{Call, OfferCall, RunCall, opened, left, succeeds, stepsFor, stepsIf, stepsBy}
 use Rattle.demand3.proofs.Told.{toldAfter, toldReader}
 use Rattle.demand3.proofs.OwnRules.{own-after}
 use Rattle.demand3.proofs.StationLike.{Like, mode-same, count-same, opened-like}
 use Rattle.demand3.proofs.Calls.{offer-succeeds, run-succeeds, toldFor, call-like}
-
--- Questions 3 and 4, the latter by those that wait in the model; 5 to 8. (After calls on a fresh station the answer to
--- question 1 is yes.)
-unfoldable pub accepts : Mode → Model → Call → Bool
-accepts mode m (OfferCall text) =
-    allChars text && leb (length (m .waiting) + length (waiters (alphabetOf mode) text)) 256
-accepts mode m (RunCall heard sent words) =
-    leb (length heard) 4_096 && allAtMost (highestLevel mode) heard && leb (length heard) (length sent)
-    && leb (length heard) (length words)
-
-unfoldable pub modelSteps : Mode → Model → List Call → List Step
-modelSteps mode m [] = []
-modelSteps mode m (c ∷ cs) =
-    let steps = cond (accepts mode m c) (stepsIf c) [] in
-    steps ++ modelSteps mode (modelAfter mode m steps) cs
 
 -- the answers to questions 3 and 4, and 5 to 8
 two-asked : (a b : Bool) → eqb (cond a (cond b 0 4) 3) 0 ≡ (a && b)
@@ -71,7 +58,7 @@ module _ (mode : Mode) where
 
   model-steps : (cs : List Call) (s : Station) (m : Model) (r : Reader) → Like mode s m r
       → stepsBy s cs ≡ modelSteps mode m cs
-  unfolding stepsBy modelSteps
+  unfolding joined modelSteps
   model-steps [] s m r h = refl
   model-steps (c ∷ cs) s m r h =
       let steps = stepsFor s c in

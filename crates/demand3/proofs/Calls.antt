@@ -11,7 +11,7 @@ use lib.ListN.{length, take, drop, length-take, take-append-drop}
 use lib.Seq.{take-nil, take-all, take-at, take-append-seam}
 use borrow.Author.Tests.{eqb-true, eqb-false, leb-true, leb-false}
 use Rattle.lists.specs.Lists.{allAtMost}
-use Rattle.lists.specs.Steps.{stateAfter, outputs}
+use Rattle.lists.specs.Steps.{stateAfter, outputs, joined}
 use Rattle.lists.proofs.Lists.{at-most-head, at-most-tail, at-most-more, at-most-append}
 use Rattle.alphabet.specs.declared.Mode.{Mode}
 use Rattle.alphabet.specs.Modes.{highestLevel}
@@ -273,7 +273,7 @@ module _ (mode : Mode) where
   -- the first call, and the others
   told-calls : (c : Call) (cs : List Call) (s : Station) (m : Model)
       → toldBy m s (c ∷ cs) ≡ toldFor m s c ++ toldBy (toldAfter mode m (toldFor m s c)) (left s c) cs
-  unfolding stepsBy
+  unfolding joined
   told-calls c cs s m = own-append mode (stepsFor s c) (stepsBy (left s c) cs) m
 
   pub record CallsLike (cs : List Call) (s : Station) (m : Model) (told : List Told) : Type 0 where
@@ -282,7 +282,7 @@ module _ (mode : Mode) where
 
   pub calls-like : (cs : List Call) (s : Station) (m : Model) (r : Reader) → Like mode s m r
       → CallsLike cs s m (toldBy m s cs)
-  unfolding sentBy stepsBy toldOf toldDoes toldHeard allAtMost
+  unfolding joined toldOf toldDoes toldHeard allAtMost
   calls-like [] s m r h = record { sent-are = refl; levels = refl }
   calls-like (c ∷ cs) s m r h =
       let g = call-like c s m r h in
@@ -302,7 +302,7 @@ module _ (mode : Mode) where
   -- the words up to a cut after n ms
   pub words-up-to : (cs : List Call) (n : ℕ) (s : Station) (m : Model) (r : Reader) → Like mode s m r
       → wordsBy s (upTo s cs n) ≡ wordsOf (take n (toldEvents mode m r (toldBy m s cs)))
-  unfolding upTo wordsBy stepsBy toldOf toldEvents wordsOf
+  unfolding upTo joined toldOf toldEvents wordsOf
   words-up-to [] n s m r h = no-words n
   words-up-to (c ∷ cs) zero s m r h = refl
   words-up-to (c ∷ cs) (suc n) s m r h =

@@ -5,6 +5,7 @@ use Prim.Native.Nat.{ℕ, _≤_}
 use native.Mathlib.Omega.{arith}
 use lib.ListN.{length, length-append}
 use borrow.Author.Tests.{leb-true}
+use Rattle.lists.specs.Steps.{joined, stateAfter}
 use Rattle.station.specs.declared.Station.{Station}
 use Rattle.station.specs.Station.{stationAfter}
 use Rattle.station.proofs.Range.{offer-full, runs, run-full}
@@ -80,7 +81,7 @@ module _ {X : Type 0} (of : Station → Call → List X) (by : Station → List 
   around : (past next : List Call) (c a b : Call) (s : Station) → let t = leftBy s past in
       left (left t a) b ≡ left t c → of t c ≡ of t a ++ of (left t a) b
       → by s (past ++ (c ∷ next)) ≡ by s (past ++ (a ∷ b ∷ next))
-  unfolding leftBy
+  unfolding stateAfter
   around [] next c a b s l e =
       step s c next ∙ (λ i. e i ++ by (sym l i) next)
       ∙ append-assoc (of s a) (of (left s a) b) (by (left (left s a) b) next)
@@ -91,14 +92,14 @@ module _ {X : Type 0} (of : Station → Call → List X) (by : Station → List 
 
 -- every station of a list has 256 places
 left-full : (cs : List Call) (s : Station) → length (s .chars) ≡ 256 → length (leftBy s cs .chars) ≡ 256
-unfolding leftBy
+unfolding stateAfter
 left-full [] s f = f
 left-full (OfferCall text ∷ cs) s f = left-full cs (left s (OfferCall text)) (offer-full s text f)
 left-full (RunCall heard sent words ∷ cs) s f =
     left-full cs (left s (RunCall heard sent words)) (run-full s heard (length sent) (length words) f)
 
 pub cut-in-two : CutInTwo
-unfolding wordsBy sentBy stepsBy
+unfolding joined
 cut-in-two n past next xs ys sent words sent′ words′ e u v =
     let o = opened n in
     let s = leftBy o past in

@@ -43,7 +43,8 @@ use Rattle.demand3.specs.Examples.{callsAKeys, callsBKeys, dtmf, callsAE
 use Rattle.demand3.proofs.Told.{inhibitedBy, msBy, toldEvents}
 use Rattle.demand3.proofs.Cuts.{behind, does-length}
 use Rattle.demand3.proofs.OwnRules.{toldOf, own-does, own-heard}
-use Rattle.demand3.proofs.Accepts.{accepts, modelSteps, steps-are}
+use Rattle.demand3.specs.Accepts.{accepts, modelSteps}
+use Rattle.demand3.proofs.Accepts.{steps-are}
 use Rattle.demand3.proofs.Demand3.{same-words, sends-as-model, words-are, demand-3}
 
 -- ---- tests

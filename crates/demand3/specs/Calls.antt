@@ -2,9 +2,10 @@
 -- of the station's entries cite, on the station that the last call returned or left.
 use Prim.Native.Nat.{ℕ, zero, suc, _-_}
 use mathlib.Core.Bool.{Bool, cond}
-use mathlib.Core.List.{List, [], _∷_, _++_, map}
+use mathlib.Core.List.{List, [], _∷_, map}
 use lib.Dec.{eqb}
 use lib.ListN.{length, take}
+use Rattle.lists.specs.Steps.{stateAfter, joined}
 use Rattle.station.specs.declared.Station.{Station}
 use Rattle.station.specs.Entries.{openOf, offerOf, ranOf, sentAfter, wordsAfter}
 use Rattle.demand3.specs.Model.{Step, Offer, Ms, msIn}
@@ -57,21 +58,17 @@ abbrev pub stepsFor : Station → Call → List Step
 stepsFor s c = cond (succeeds s c) (stepsIf c) []
 
 -- A list of calls: the station that it leaves; what its successful runs hand out, end to end; the steps of its model.
-unfoldable pub leftBy : Station → List Call → Station
-leftBy s [] = s
-leftBy s (c ∷ cs) = leftBy (left s c) cs
+abbrev pub leftBy : Station → List Call → Station
+leftBy s cs = stateAfter left s cs
 
-unfoldable pub sentBy : Station → List Call → List ℕ
-sentBy s [] = []
-sentBy s (c ∷ cs) = sentFor s c ++ sentBy (left s c) cs
+abbrev pub sentBy : Station → List Call → List ℕ
+sentBy s cs = joined left sentFor s cs
 
-unfoldable pub wordsBy : Station → List Call → List ℕ
-wordsBy s [] = []
-wordsBy s (c ∷ cs) = wordsFor s c ++ wordsBy (left s c) cs
+abbrev pub wordsBy : Station → List Call → List ℕ
+wordsBy s cs = joined left wordsFor s cs
 
-unfoldable pub stepsBy : Station → List Call → List Step
-stepsBy s [] = []
-stepsBy s (c ∷ cs) = stepsFor s c ++ stepsBy (left s c) cs
+abbrev pub stepsBy : Station → List Call → List Step
+stepsBy s cs = joined left stepsFor s cs
 
 -- A call that succeeds, cut after n ms: a run on the first n ms that it heard.
 abbrev pub cutIf : Call → ℕ → Call
