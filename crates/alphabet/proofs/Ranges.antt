@@ -21,8 +21,11 @@ use Rattle.alphabet.specs.Print.{Row, leftRows, rightRows, rows, bitsFro
 use Rattle.alphabet.specs.TableA2.{a2}
 use Rattle.alphabet.specs.TableB1.{b1}
 use Rattle.alphabet.specs.TableB2.{b2}
-use Rattle.alphabet.specs.Baudot.{inBothShifts, belongsToLetters, ownShift, printedFor, isNull, printedAt, sendBaudot}
-use Rattle.alphabet.specs.Dtmf.{isMark, withMark, codeFrom, marksThenDigit, among, notStruck, remaining, names, firstSign, named, drawn, readIn, readDtmf, sendIn, hasRow, sendFrom, sendDtmf}
+use Rattle.alphabet.specs.Baudot.{inBothShifts, belongsToLetters, ownShift, printedFor, isNull, printedAt}
+use Rattle.alphabet.specs.Baudot.{sendBaudot}
+use Rattle.alphabet.specs.Dtmf.{isMark, withMark, codeFrom, marksThenDigit, among, notStruck, remaining}
+use Rattle.alphabet.specs.Dtmf.{names, firstSign, named, drawn, readIn, readDtmf}
+use Rattle.alphabet.specs.Dtmf.{sendIn, hasRow, sendFrom, sendDtmf}
 use Rattle.alphabet.specs.Normal.{sends}
 use Rattle.alphabet.specs.Modes.{codes}
 
@@ -75,7 +78,8 @@ printed-below n m (r ∷ rs) z t =
 own-shift-in : (c k : ℕ) → (1 ≤ ownShift c k) × (ownShift c k ≤ 3)
 own-shift-in c k =
     let P : ℕ → Type 0 = λ (n : ℕ). (1 ≤ n) × (n ≤ 3) in
-    either P (inBothShifts k) 3 _ (omega arith, omega arith) (either P (belongsToLetters c) 1 2 (omega arith, omega arith) (omega arith, omega arith))
+    let letters = either P (belongsToLetters c) 1 2 (omega arith, omega arith) (omega arith, omega arith) in
+    either P (inBothShifts k) 3 _ (omega arith, omega arith) letters
 
 baudot-fits : (c : ℕ) → Fits Baudot (sendBaudot c)
 unfolding sendBaudot
@@ -83,14 +87,20 @@ baudot-fits c =
     let k = bits (printedFor c) in
     let s = own-shift-in c k in
     either (Fits Baudot) (isNull (printedFor c)) Nothing (Code (ownShift c k) (record { 0 = k })) nothing
-    (a-code _ _ (record { shift-least = s .0; shift-most = s .1; code-in = printed-below 32 _ (rows a2) (omega arith) a2-test }))
+    (a-code _ _ (record {
+      shift-least = s .0;
+      shift-most = s .1;
+      code-in = printed-below 32 _ (rows a2) (omega arith) a2-test;
+    }))
 
 -- ---- DTMF: a code of any keys is below 256
 
 key-most : (c : ℕ) → keyOf c ≤ 12
 key-most c =
     let P : ℕ → Type 0 = λ (n : ℕ). n ≤ 12 in
-    either P (eqb c 0x30) 10 _ (omega arith) (either P (eqb c 0x2a) 11 _ (omega arith) (either P (eqb c 0x23) 12 _ (omega arith) (go (leb 0x31 c && leb c 0x39) refl)))
+    either P (eqb c 0x30) 10 _ (omega arith)
+    (either P (eqb c 0x2a) 11 _ (omega arith)
+    (either P (eqb c 0x23) 12 _ (omega arith) (go (leb 0x31 c && leb c 0x39) refl)))
   where
     go : (b : Bool) → (leb 0x31 c && leb c 0x39) ≡ b → cond b (c - 0x30) 0 ≤ 12
     go true e = let h = leb-true c 0x39 (and-right (leb 0x31 c) (leb c 0x39) e) in omega arith
@@ -113,26 +123,33 @@ code-below p (c then s) h =
     either (λ (n : ℕ). n < 256) (isMark k) _ _ (code-below (withMark p k) s (mark-most p k m)) (omega arith)
 
 dtmf-code : (s : String) → Fits Dtmf (Code 3 (record { 0 = codeFrom 0 (keys s) }))
-dtmf-code s = a-code 3 (record { 0 = codeFrom 0 (keys s) }) (record { shift-least = omega arith; shift-most = omega arith; code-in = code-below 0 s (omega arith) })
+dtmf-code s =
+    a-code 3 (record { 0 = codeFrom 0 (keys s) })
+    (record { shift-least = omega arith; shift-most = omega arith; code-in = code-below 0 s (omega arith) })
 
 row-fits : (c : ℕ) (x : Sends) → Fits Dtmf x → (rs : List Row) → Fits Dtmf (sendIn c x rs)
 unfolding sendIn
 row-fits c x f [] = f
 row-fits c x f (r ∷ rs) =
-    either (Fits Dtmf) (eqb (drawn (r .sign)) c) (Code 3 (record { 0 = codeFrom 0 (keys (r .from)) })) (sendIn c x rs) (dtmf-code (r .from)) (row-fits c x f rs)
+    either (Fits Dtmf) (eqb (drawn (r .sign)) c) (Code 3 (record { 0 = codeFrom 0 (keys (r .from)) })) (sendIn c x rs)
+    (dtmf-code (r .from)) (row-fits c x f rs)
 
 dtmf-fits : (c : ℕ) → Fits Dtmf (sendDtmf c)
 unfolding sendFrom sendDtmf
 dtmf-fits c =
     let s = printedAt c (rows b2) in
-    let f = either (Fits Dtmf) (hasRow s remaining) (Code 3 (record { 0 = codeFrom 0 (keys s) })) Nothing (dtmf-code s) nothing in
+    let k : Sends = Code 3 (record { 0 = codeFrom 0 (keys s) }) in
+    let f = either (Fits Dtmf) (hasRow s remaining) k Nothing (dtmf-code s) nothing in
     either (Fits Dtmf) (eqb c 0x00) Nothing _ nothing (row-fits c _ f remaining)
 
 fits : (a : Alphabet) (c : ℕ) → c < 128 → Fits a (sends a c)
 unfolding sends
 fits Baudot c h = baudot-fits c
 fits Dtmf c h = dtmf-fits c
-fits Edt c h = either (Fits Edt) (leb c 0x7f) (Code 3 (record { 0 = c })) Nothing (a-code 3 (record { 0 = c }) (record { shift-least = omega arith; shift-most = omega arith; code-in = h })) nothing
+fits Edt c h =
+    let k : LineCode = record { 0 = c } in
+    let r : InRange Edt 3 k = record { shift-least = omega arith; shift-most = omega arith; code-in = h } in
+    either (Fits Edt) (leb c 0x7f) (Code 3 k) Nothing (a-code 3 k r) nothing
 
 -- a code that a character sends is in range
 pub range-of : (a : Alphabet) (c : ℕ) → c < 128 → (s : ℕ) (k : LineCode) → sends a c ≡ Code s k → InRange a s k
@@ -162,7 +179,8 @@ unfolding charsBelow readIn
 read-row n [] t = tt
 read-row n (r ∷ rs) t =
     let b = ltb (drawn (r .sign)) 128 in
-    either (λ (x : Reads). T (charOrNone x)) (eqb (codeFrom 0 (keys (r .from))) n) (Character (record { 0 = drawn (r .sign) })) (readIn n rs)
+    let k = codeFrom 0 (keys (r .from)) in
+    either (λ (x : Reads). T (charOrNone x)) (eqb k n) (Character (record { 0 = drawn (r .sign) })) (readIn n rs)
     (both-left b (charsBelow rs) t) (read-row n rs (both-right b (charsBelow rs) t))
 
 pub dtmf-read : (n : ℕ) → T (charOrNone (readDtmf n))
