@@ -1,7 +1,7 @@
 // T.50 characters, line codes and modes: what a character sends, what a code reads as.
 ghost use mathlib.Core.Path.{_≡_};
 ghost use Prim.Native.Nat.{_≤_, _<_};
-ghost use Rattle.alphabet.specs.Modes.{modeNumber, modeOf, elementOf, preambleOf, alphabetOf, codes, frameCodes, highestLevel};
+ghost use Rattle.alphabet.specs.Modes.{modeNumber, modeOf, preambleOf, alphabetOf, codes, frameCodes, highestLevel};
 ghost use Rattle.alphabet.specs.code.Numbers.{longest, lastSample};
 
 pub mod dtmf;
@@ -115,18 +115,6 @@ impl Mode {
             Mode::Baudot50 => 2,
             Mode::Dtmf => 3,
             Mode::Edt => 4,
-        }
-    }
-
-    // The ms of an element; 0 in DTMF, which has none, and in EDT, where it is no whole number.
-    pub fn element(self) -> u16
-        ensures { λ r. ⌜ r ≡ elementOf self ⌝ }
-    {
-        match self {
-            Mode::Baudot45 => Self::BAUDOT_45_ELEMENT,
-            Mode::Baudot50 => Self::BAUDOT_50_ELEMENT,
-            Mode::Dtmf => 0,
-            Mode::Edt => 0,
         }
     }
 

@@ -1,7 +1,7 @@
 -- Machines over lists that stand one behind the other, at a place of a list, and over lists of calls.
 use mathlib.Core.Path.{_≡_, _∙_, refl, sym, ap}
 use mathlib.Core.Bool.{true}
-use mathlib.Core.List.{List, [], _∷_, _++_, append-assoc}
+use mathlib.Core.List.{List, [], _∷_, _++_}
 use Prim.Native.Nat.{ℕ, suc, _+_, _≤_, _<_}
 use native.Mathlib.Numerals.{add-one}
 use lib.ListN.{length, getD, drop, set, replicate, drop-of-length-le, length-set}
@@ -107,16 +107,6 @@ module _ {S : Type 0} (P : S → Type 0) where
   after-keeps-most step m k s [] e p = p
   after-keeps-most step m k s (x ∷ xs) e p =
       after-keeps-most step m k (step s x) xs (at-most-tail m x xs e) (k s x (at-most-head m x xs e) p)
-
--- lists that each input gives, end to end
-pub joined-append : {S : Type 0} {I : Type 0} {O : Type 0} (step : S → I → S) (out : S → I → List O)
-    → (s : S) (xs ys : List I)
-    → joined step out s (xs ++ ys) ≡ joined step out s xs ++ joined step out (stateAfter step s xs) ys
-unfolding stateAfter joined
-joined-append step out s [] ys = refl
-joined-append {O = O} step out s (x ∷ xs) ys =
-    ap (λ (l : List O). out s x ++ l) (joined-append step out (step s x) xs ys)
-    ∙ sym (append-assoc (out s x) (joined step out (step s x) xs) _)
 
 -- Calls on a machine: each leaves the state after what it hears, and says what the machine gives for that. Calls on the
 -- parts of a list then equal one on the whole, and refused calls, which hear nothing, may stand among them.

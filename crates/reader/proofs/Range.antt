@@ -61,10 +61,6 @@ reader-is mode r h =
       le-leb (r .prefix) 15 (h .prefix-in),
     ) refl
 
--- where all the tests before the last one passed, the last one decides
-pub last-decides : (a b c d e : Bool) → a ≡ true → b ≡ true → c ≡ true → d ≡ true → e ≡ (a && b && c && d && e)
-last-decides a b c d e p q r s = rw (p, q, r, s) refl
-
 -- a shift that is read is letters or figures
 abbrev ShiftIn : ℕ → Type 0
 ShiftIn s = (1 ≤ s) × (s ≤ 2)

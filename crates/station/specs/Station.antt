@@ -12,7 +12,7 @@ use Rattle.alphabet.specs.Baudot.{letters}
 use Rattle.alphabet.specs.Modes.{alphabetOf}
 use Rattle.reader.specs.declared.Event.{Event}
 use Rattle.reader.specs.declared.Reader.{Reader}
-use Rattle.reader.specs.Reader.{reader}
+use Rattle.reader.specs.Reader.{withShift}
 use Rattle.reader.specs.Words.{wordsOf}
 use Rattle.half_duplex.specs.declared.Core.{Core}
 use Rattle.half_duplex.specs.Core.{core, freshCore, modeIn, settled, sentIn, eventIn, coreAfter}
@@ -42,7 +42,7 @@ hasDel [] = false
 hasDel (c ∷ cs) = eqb c 0x7f || hasDel cs
 
 abbrev pub readerOffered : Alphabet → List ℕ → Reader → Reader
-readerOffered Baudot cs r = cond (hasDel cs) (reader (r .frame) (r .keys) letters (r .prefix)) r
+readerOffered Baudot cs r = cond (hasDel cs) (withShift r letters) r
 readerOffered Dtmf cs r = r
 readerOffered Edt cs r = r
 

@@ -2,7 +2,7 @@
 use mathlib.Core.Path.{_∙_, sym}
 use borrow.Author.Tests.{le-leb, lt-leb, not-true, not-false}
 use borrow.Author.Needs.{needs}
-use Rattle.reader.proofs.Range.{last-decides}
+use Rattle.lists.proofs.Lists.{both, last-decides}
 use Rattle.reader.proofs.in_range.Statement.{statement}
 use Rattle.reader.proofs.in_range.Tie as tie
 use Rattle.frames.proofs.in_range.Reads as in-range-reads
@@ -45,7 +45,8 @@ returns-5 c =
     let f = sym (l .before .in-range .ensures) ∙ not-false (l .before .in-range .result) (l .if1 .left) in
     let m = c .before .before .before .before .before in
     let k = sym (m .before .in-range2 .ensures) ∙ not-false (m .before .in-range2 .result) (m .if2 .left) in
-    last-decides _ _ _ _ _ f k (le-leb 1 _ (c .before .before .before .if3 .left)) (le-leb _ 2 (c .before .if4 .left))
+    let low = le-leb 1 _ (c .before .before .before .if3 .left) in
+    last-decides (both (both (both f k) low) (le-leb _ 2 (c .before .if4 .left)))
 
 pub in-range-spec : {M : Type 1} → statement M
 in-range-spec =
