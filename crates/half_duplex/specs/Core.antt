@@ -30,6 +30,25 @@ core waiting silence inhibitedMs line sender reader mode = record {
   mode = mode;
 }
 
+-- A core with another of its parts.
+abbrev pub withWaiting : Core → ℕ → Core
+withWaiting c n = core n (c .silence) (c .inhibited) (c .line) (c .sender) (c .reader) (c .mode)
+
+abbrev pub withSilence : Core → ℕ → Core
+withSilence c n = core (c .waiting) n (c .inhibited) (c .line) (c .sender) (c .reader) (c .mode)
+
+abbrev pub withInhibited : Core → ℕ → Core
+withInhibited c n = core (c .waiting) (c .silence) n (c .line) (c .sender) (c .reader) (c .mode)
+
+abbrev pub withLine : Core → OnLine → Core
+withLine c l = core (c .waiting) (c .silence) (c .inhibited) l (c .sender) (c .reader) (c .mode)
+
+abbrev pub withSender : Core → Sender → Core
+withSender c s = core (c .waiting) (c .silence) (c .inhibited) (c .line) s (c .reader) (c .mode)
+
+abbrev pub withReader : Core → Reader → Core
+withReader c r = core (c .waiting) (c .silence) (c .inhibited) (c .line) (c .sender) r (c .mode)
+
 -- A fresh line is free.
 abbrev pub freshCore : ℕ → Core
 freshCore mode = core 0 freeMs 0 idle freshSender freshReader mode

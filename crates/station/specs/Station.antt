@@ -15,7 +15,7 @@ use Rattle.reader.specs.declared.Reader.{Reader}
 use Rattle.reader.specs.Reader.{withShift}
 use Rattle.reader.specs.Words.{wordsOf}
 use Rattle.half_duplex.specs.declared.Core.{Core}
-use Rattle.half_duplex.specs.Core.{core, freshCore, modeIn, settled, sentIn, eventIn, coreAfter}
+use Rattle.half_duplex.specs.Core.{withWaiting, withReader, freshCore, modeIn, settled, sentIn, eventIn, coreAfter}
 use Rattle.queue.specs.Queue.{Queue, queue, offered, moved}
 use Rattle.station.specs.declared.Station.{Station}
 
@@ -48,7 +48,7 @@ readerOffered Edt cs r = r
 
 -- A station with another queue and another reader.
 abbrev pub coreWith : Core → ℕ → Reader → Core
-coreWith c waiting r = core waiting (c .silence) (c .inhibited) (c .line) (c .sender) r (c .mode)
+coreWith c waiting r = withReader (withWaiting c waiting) r
 
 -- An offer that succeeds puts its characters that send something behind those waiting.
 unfoldable pub offeredTo : Station → List ℕ → Station

@@ -14,7 +14,8 @@ use Rattle.burst.specs.declared.OnLine.{OnLine}
 use Rattle.burst.specs.declared.Loaded.{Loaded}
 use Rattle.burst.specs.Rules.{freeMs, afterMs, mayEnd, isSilent}
 use Rattle.burst.specs.Line.{further, closed}
-use Rattle.half_duplex.specs.Core.{core, modeIn, silenceAfter, waitingAfter}
+use Rattle.half_duplex.specs.Core.{withWaiting, withSilence, withInhibited, withLine, withSender, withReader}
+use Rattle.half_duplex.specs.Core.{modeIn, silenceAfter, waitingAfter}
 
 -- The silence after n ms without signal, and after ms that the receiver hears.
 abbrev pub silenceFor : ℕ → ℕ → ℕ
@@ -44,40 +45,24 @@ burstLeft inhibitedMs (suc n) = afterMs
 
 -- In which what a ms starts with is loaded already.
 unfoldable pub loadedCore : Core → Loaded → Core
-loadedCore c l =
-    core (waitingAfter (l .takes) (c .waiting)) (c .silence) (c .inhibited) (l .line) (l .sender) (c .reader) (c .mode)
+loadedCore c l = withSender (withLine (withWaiting c (waitingAfter (l .takes) (c .waiting))) (l .line)) (l .sender)
+
+-- After n inhibited ms, of which so many are still to come.
+abbrev pub deafCore : Core → ℕ → ℕ → Core
+deafCore c n left = withReader (withInhibited (withSilence c (silenceFor (c .silence) n)) left) (deafReader (c .reader) n)
 
 -- After n ms of a part; after n inhibited ms in no burst; after ms that the receiver hears.
 unfoldable pub sentFor : Core → ℕ → Core
 sentFor c n =
-    core (c .waiting)
-    (silenceFor (c .silence) n)
-    (burstLeft (c .inhibited) n)
-    (closed (modeIn c) (mayEnd (c .waiting)) (further (c .line) n))
-    (c .sender)
-    (deafReader (c .reader) n)
-    (c .mode)
+    withLine (deafCore c n (burstLeft (c .inhibited) n)) (closed (modeIn c) (mayEnd (c .waiting)) (further (c .line) n))
+
+unfoldable pub deafFor : Core → ℕ → Core
+deafFor c n = deafCore c n (c .inhibited - n)
+
+unfoldable pub listened : Core → ℕ → Reader → Core
+listened c silence r = withReader (withSilence c silence) r
 
 -- After whole codes: so many characters are taken, a sender, what is on the line, and the ms that went.
 unfoldable pub codedCore : Core → ℕ → Sender → OnLine → ℕ → Core
 codedCore c taken sender line n =
-    core (c .waiting - taken)
-    (silenceFor (c .silence) n)
-    (burstLeft (c .inhibited) n)
-    line
-    sender
-    (deafReader (c .reader) n)
-    (c .mode)
-
-unfoldable pub deafFor : Core → ℕ → Core
-deafFor c n =
-    core (c .waiting)
-    (silenceFor (c .silence) n)
-    (c .inhibited - n)
-    (c .line)
-    (c .sender)
-    (deafReader (c .reader) n)
-    (c .mode)
-
-unfoldable pub listened : Core → ℕ → Reader → Core
-listened c silence r = core (c .waiting) silence (c .inhibited) (c .line) (c .sender) r (c .mode)
+    withSender (withLine (withWaiting (deafCore c n (burstLeft (c .inhibited) n)) (c .waiting - taken)) line) sender
