@@ -1,5 +1,5 @@
-//! `line_words input` writes heard ms for the readers of all modes: clean codes, and codes damaged
-//! in every way that a rule speaks of. `line_words words` reads such a text from standard input and
+//! `reader_words input` writes heard ms for the readers of all modes: clean codes, and codes damaged
+//! in every way that a rule speaks of. `reader_words words` reads such a text from standard input and
 //! prints what the readers make of it: `mode M` for a fresh reader, and for each word its ms and
 //! its value.
 
@@ -25,7 +25,7 @@ fn main() -> io::Result<()> {
             io::stdin().read_to_end(&mut text)?;
             words(&text).unwrap_or_else(|| stop("this is no such input"))
         }
-        _ => stop("usage: line_words input, or line_words words"),
+        _ => stop("usage: reader_words input, or reader_words words"),
     };
     io::stdout().write_all(&output)
 }
