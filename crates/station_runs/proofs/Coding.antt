@@ -52,7 +52,8 @@ use Rattle.station_runs.proofs.Fold.{after-none, sent-none, words-none}
 -- ---- the characters that wait
 
 -- each of those that wait is a character that waits
-wait-at : (a : Alphabet) (n : ℕ) (cs : List ℕ) (k : ℕ) → k < n → k < length cs → allWait a (take n cs) ≡ true → waits a (getD cs k 0) ≡ true
+wait-at : (a : Alphabet) (n : ℕ) (cs : List ℕ) (k : ℕ) → k < n → k < length cs → allWait a (take n cs) ≡ true
+    → waits a (getD cs k 0) ≡ true
 unfolding allWait
 wait-at a zero cs k h l w = absurd (omega arith)
 wait-at a (suc n) [] k h l w = absurd (omega arith)
@@ -103,7 +104,8 @@ deaf-join r m (suc n) h =
 burst-join : (i m n : ℕ) → 1 ≤ n → burstLeft (burstLeft i m) n ≡ burstLeft i (m + n)
 burst-join i m n h = sym (burst-some (burstLeft i m) n h) ∙ burst-some i (m + n) (omega arith)
 
-waiting-join : (waiting taken : ℕ) (takes : Bool) → waitingAfter takes (waiting - taken) ≡ waiting - cond takes (taken + 1) taken
+waiting-join : (waiting taken : ℕ) (takes : Bool)
+    → waitingAfter takes (waiting - taken) ≡ waiting - cond takes (taken + 1) taken
 waiting-join waiting taken true = omega arith
 waiting-join waiting taken false = refl
 
@@ -135,7 +137,8 @@ pub record Begins (mode : Mode) (q : Loaded) : Type 0 where
   pub code-in : q .line .code .0 < codes (alphabetOf mode)
   pub sender-in : SenderIn (q .sender)
 
-begins : (mode : Mode) (l : OnLine) (s : Sender) → SenderIn s → (x : Sends) → isCode x ≡ true → SendsIn (alphabetOf mode) x → Begins mode (codeBegins (alphabetOf mode) l s x)
+begins : (mode : Mode) (l : OnLine) (s : Sender) → SenderIn s → (x : Sends) → isCode x ≡ true
+    → SendsIn (alphabetOf mode) x → Begins mode (codeBegins (alphabetOf mode) l s x)
 unfolding codeBegins
 begins mode l s j Nothing e h = absurd (false≢true e)
 begins mode l s j (Code own k) e h =
@@ -166,7 +169,8 @@ some-ms Dtmf k h = let n = dtmf-120 k in let m = key-count k h in let f = some-c
 some-ms Edt k h = let n = edt-100 k in omega arith
 
 -- a list by its places
-pub tabulate-drop : (xs : List ℕ) (a n i : ℕ) → a + i + n ≡ length xs → tabulate (λ (k : ℕ). getD xs (a + k) 0) n i ≡ drop (a + i) xs
+pub tabulate-drop : (xs : List ℕ) (a n i : ℕ) → a + i + n ≡ length xs
+    → tabulate (λ (k : ℕ). getD xs (a + k) 0) n i ≡ drop (a + i) xs
 unfolding tabulate
 tabulate-drop xs a zero i h = let l : length xs ≤ a + i = omega arith in sym (drop-of-length-le xs l)
 tabulate-drop xs a (suc n) i h =
@@ -174,7 +178,8 @@ tabulate-drop xs a (suc n) i h =
     ap (λ (l : List ℕ). getD xs (a + i) 0 ∷ l) (tabulate-drop xs a n (suc i) (omega arith) ∙ ap (λ (m : ℕ). drop m xs) e) ∙ sym (drop-cons xs (a + i) 0 (omega arith))
 
 module _ (mode : Mode) (l : OnLine) (z : l .at ≡ 0) (p : l .part ≡ 2) where
-  whole-levels : signal mode (l .code .0) ≡ tabulate (λ (k : ℕ). getD (signal mode (l .code .0)) (l .at + k) 0) (length (signal mode (l .code .0))) 0
+  whole-levels : signal mode (l .code .0)
+      ≡ tabulate (λ (k : ℕ). getD (signal mode (l .code .0)) (l .at + k) 0) (length (signal mode (l .code .0))) 0
   whole-levels =
       let d : l .at + 0 ≡ 0 = omega arith in
       sym (tabulate-drop (signal mode (l .code .0)) (l .at) (length (signal mode (l .code .0))) 0 (omega arith) ∙ ap (λ (m : ℕ). drop m (signal mode (l .code .0))) d)
@@ -186,7 +191,8 @@ pub record Goes (taken waiting most room : ℕ) : Type 0 where
   pub more : taken < waiting
   pub fits : most ≤ room
 
-pub goes : (taken waiting most room : ℕ) (b : Bool) → b ≡ (ltb taken waiting && leb most room) → b ≡ true → Goes taken waiting most room
+pub goes : (taken waiting most room : ℕ) (b : Bool) → b ≡ (ltb taken waiting && leb most room) → b ≡ true
+    → Goes taken waiting most room
 goes taken waiting most room b e t =
     let x = ltb taken waiting in
     let y = leb most room in
@@ -210,7 +216,8 @@ module _ (heard chars sent₀ : List ℕ) (c : Core) (i : ℕ) (within : i ≤ l
   abbrev start : Station
   start = station c chars
 
-  pub coded-start : SenderIn (c .sender) → c .silence ≤ 300 → isOver (modeIn c) (c .line) ≡ true → Coded heard chars sent₀ c i sent₀ 0 (c .sender) (c .line) i
+  pub coded-start : SenderIn (c .sender) → c .silence ≤ 300 → isOver (modeIn c) (c .line) ≡ true
+      → Coded heard chars sent₀ c i sent₀ 0 (c .sender) (c .line) i
   unfolding codedCore deafReader burstLeft
   coded-start j h o =
       let n : between i i heard ≡ [] = let z : i - i ≡ 0 = omega arith in ap (λ (m : ℕ). take m (drop i heard)) z in
@@ -301,7 +308,8 @@ module _ (heard chars sent₀ : List ℕ) (c : Core) (i : ℕ) (within : i ≤ l
         abbrev next : Core
         next = sentFor (loadedCore now q) ms
 
-        written-levels : sent' ≡ sets sent₁ at (tabulate (λ (k : ℕ). getD (signal (modeIn c) (q .line .code .0)) (q .line .at + k) 0) (at + ms - at) 0)
+        written-levels : sent'
+            ≡ sets sent₁ at (tabulate (λ (k : ℕ). getD (signal (modeIn c) (q .line .code .0)) (q .line .at + k) 0) (at + ms - at) 0)
         written-levels =
             let n : length (signal (modeIn c) (q .line .code .0)) ≡ at + ms - at = omega arith in
             es ∙ ap (sets sent₁ at) (whole-levels (modeIn c) (q .line) (q-begins .at-0) (q-begins .part-2)
@@ -336,7 +344,8 @@ module _ (heard chars sent₀ : List ℕ) (c : Core) (i : ℕ) (within : i ≤ l
             sym (ap (λ (m : ℕ). isOver (modeIn c) (onLine (q .line .part) (q .line .code .0) m)) n)
             ∙ sym (gone-over (modeIn c) (q .line) more ms ms (omega arith) (omega arith)) ∙ eq-eqb ms ms refl
 
-        whole-closed : (ends : Bool) → ended true ends (onLine (q .line .part) (q .line .code .0) ms) ≡ closed (modeIn c) ends (further (q .line) ms)
+        whole-closed : (ends : Bool)
+            → ended true ends (onLine (q .line .part) (q .line .code .0) ms) ≡ closed (modeIn c) ends (further (q .line) ms)
         unfolding closed
         whole-closed ends =
             let z = q-begins .at-0 in
@@ -350,7 +359,8 @@ module _ (heard chars sent₀ : List ℕ) (c : Core) (i : ℕ) (within : i ≤ l
         not-ended taken' x = rw (ne-eqb (c .waiting - taken') 0 (λ (z : c .waiting - taken' ≡ 0). omega arith), and-false) refl
 
         pub coded-turn : (taken' : ℕ) → taken' ≡ cond (q .takes) (taken + 1) taken
-            → (line' : OnLine) → line' ≡ ended true (mayEnd (c .waiting - taken')) (onLine (q .line .part) (q .line .code .0) ms)
+            → (line' : OnLine)
+            → line' ≡ ended true (mayEnd (c .waiting - taken')) (onLine (q .line .part) (q .line .code .0) ms)
             → Coded heard chars sent₀ c i sent' taken' (q .sender) line' (at + ms)
         coded-turn taken' et line' el =
             let low = d .low in
@@ -387,7 +397,8 @@ module _ (heard chars sent₀ : List ℕ) (c : Core) (i : ℕ) (within : i ≤ l
   -- a stretch of whole codes
   module _ (sent₁ : List ℕ) (taken : ℕ) (s : Sender) (line : OnLine) (at : ℕ) (d : Coded heard chars sent₀ c i sent₁ taken s line at) where
     -- at least one code is sent
-    pub goes-far : (most : ℕ) (b : Bool) → b ≡ (ltb taken (c .waiting) && leb most (length heard - at)) → b ≡ false → 1 ≤ c .waiting → i + most ≤ length heard → i < at
+    pub goes-far : (most : ℕ) (b : Bool) → b ≡ (ltb taken (c .waiting) && leb most (length heard - at)) → b ≡ false
+        → 1 ≤ c .waiting → i + most ≤ length heard → i < at
     goes-far most b e stops w room = go (eqb at i) refl
       where
         go : (x : Bool) → eqb at i ≡ x → i < at
@@ -398,7 +409,8 @@ module _ (heard chars sent₀ : List ℕ) (c : Core) (i : ℕ) (within : i ≤ l
         go false f = let n = eqb-false at i f in let l = d .low in omega (arith, n)
 
     pub coded-stretch : i < at → (e : Core) → e ≡ codedCore c taken s line (at - i)
-        → (n : ℕ) (words : List ℕ) → Stretches heard c chars sent₀ words i n (record { core = e; at = at; words = n }) sent₁ words
+        → (n : ℕ) (words : List ℕ)
+        → Stretches heard c chars sent₀ words i n (record { core = e; at = at; words = n }) sent₁ words
     coded-stretch low e ee n words =
         let z = ap length (d .words) in
         record {

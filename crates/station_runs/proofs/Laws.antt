@@ -56,7 +56,8 @@ unfolding tabulate
 tabulate-later f zero i = refl
 tabulate-later f (suc n) i = ap (λ (l : List ℕ). f (suc i) ∷ l) (tabulate-later f n (suc i))
 
-pub walk : (f : ℕ → Station) (levels : ℕ → ℕ) (xs : List ℕ) → ((k x : ℕ) → k < length xs → Step (f k) x (f (suc k)) (levels k)) → Walk (f 0) xs (f (length xs)) levels
+pub walk : (f : ℕ → Station) (levels : ℕ → ℕ) (xs : List ℕ)
+    → ((k x : ℕ) → k < length xs → Step (f k) x (f (suc k)) (levels k)) → Walk (f 0) xs (f (length xs)) levels
 unfolding stateAfter outputs wordsOf tabulate
 walk f levels [] h = record { after = refl; sent = refl; words = refl }
 walk f levels (x ∷ xs) h =
@@ -75,7 +76,8 @@ unfolding begun
 begun-same may l e = rw e refl
 
 module _ (c : Core) (given : ℕ) where
-  settled-by : (mayBegin (c .waiting) (c .silence) && not (inBurst (c .line))) ≡ false → isOver (modeIn c) (c .line) ≡ false → settled c given ≡ loaded (c .line) (c .sender) false
+  settled-by : (mayBegin (c .waiting) (c .silence) && not (inBurst (c .line))) ≡ false
+      → isOver (modeIn c) (c .line) ≡ false → settled c given ≡ loaded (c .line) (c .sender) false
   unfolding settled
   settled-by e f =
       ap (λ (l : OnLine). nextCode (modeIn c) (c .waiting) given l (c .sender)) (begun-same (mayBegin (c .waiting) (c .silence)) (c .line) e)
@@ -85,9 +87,11 @@ module _ (c : Core) (given : ℕ) where
 record Settled (s : Station) (x : ℕ) : Type 0 where
   after : stationMs s x ≡ station (coreFrom (s .core) (loaded (s .core .line) (s .core .sender) false) x) (s .chars)
   sent : sentMs s x ≡ levelOn (modeIn (s .core)) (s .core .line)
-  event : eventOf s x ≡ eventMs (modeIn (s .core)) (isInhibited (inBurst (s .core .line)) (s .core .inhibited)) (s .core .reader) x
+  event : eventOf s x
+      ≡ eventMs (modeIn (s .core)) (isInhibited (inBurst (s .core .line)) (s .core .inhibited)) (s .core .reader) x
 
-one-settled : (s : Station) (x : ℕ) → settled (s .core) (front s) ≡ loaded (s .core .line) (s .core .sender) false → Settled s x
+one-settled : (s : Station) (x : ℕ) → settled (s .core) (front s) ≡ loaded (s .core .line) (s .core .sender) false
+    → Settled s x
 unfolding stationMs sentMs eventOf
 one-settled s x e = record {
   after = ap (λ (l : Loaded). station (coreFrom (s .core) l x) (charsAfter (l .takes) (s .chars))) e;
@@ -103,7 +107,8 @@ record Same (s t : Station) (x : ℕ) : Type 0 where
   sent : sentMs s x ≡ sentMs t x
   event : eventOf s x ≡ eventOf t x
 
-loaded-same : (c : Core) (chars : List ℕ) (l : Loaded) → l ≡ settled c (front (station c chars)) → inBurst (l .line) ≡ true → isOver (modeIn c) (l .line) ≡ false
+loaded-same : (c : Core) (chars : List ℕ) (l : Loaded) → l ≡ settled c (front (station c chars))
+    → inBurst (l .line) ≡ true → isOver (modeIn c) (l .line) ≡ false
     → (x : ℕ) → Same (station c chars) (station (loadedCore c l) (charsAfter (l .takes) chars)) x
 unfolding stationMs sentMs eventOf coreFrom loadedCore
 loaded-same c chars l e b f x =
@@ -121,8 +126,10 @@ pub record Alike (s t : Station) (xs : List ℕ) : Type 0 where
   pub sent : sentBy s xs ≡ sentBy t xs
   pub words : wordsBy s xs ≡ wordsBy t xs
 
-pub loaded-alike : (c : Core) (chars : List ℕ) (l : Loaded) → l ≡ settled c (front (station c chars)) → inBurst (l .line) ≡ true → isOver (modeIn c) (l .line) ≡ false
-    → (xs : List ℕ) → 1 ≤ length xs → Alike (station c chars) (station (loadedCore c l) (charsAfter (l .takes) chars)) xs
+pub loaded-alike : (c : Core) (chars : List ℕ) (l : Loaded) → l ≡ settled c (front (station c chars))
+    → inBurst (l .line) ≡ true → isOver (modeIn c) (l .line) ≡ false
+    → (xs : List ℕ) → 1 ≤ length xs
+    → Alike (station c chars) (station (loadedCore c l) (charsAfter (l .takes) chars)) xs
 unfolding stateAfter outputs wordsOf
 loaded-alike c chars l e b f [] h = absurd (omega arith)
 loaded-alike c chars l e b f (x ∷ xs) h =
@@ -191,7 +198,8 @@ may-not waiting silence h = go (ltb 0 waiting) refl
 silence-below : (s n : ℕ) → s + n < 300 → silenceFor s n < 300
 silence-below s n h = rw (lt-ltb (s + n) 300 h) h
 
-idle-settled : (c : Core) (given : ℕ) → c .line .part ≡ 0 → (1 ≤ c .waiting → c .silence < 300) → settled c given ≡ loaded (c .line) (c .sender) false
+idle-settled : (c : Core) (given : ℕ) → c .line .part ≡ 0 → (1 ≤ c .waiting → c .silence < 300)
+    → settled c given ≡ loaded (c .line) (c .sender) false
 idle-settled c given e h = settled-by c given (rw (may-not (c .waiting) (c .silence) h) refl) (idle-over (c .line) e (modeIn c))
 
 -- ---- inhibited ms in no burst
@@ -222,7 +230,8 @@ module _ (c : Core) (chars : List ℕ) (e : c .line .part ≡ 0) where
       let z : c .inhibited - 0 ≡ c .inhibited = omega arith in
       λ j. core (c .waiting) (s j) (z j) (c .line) (c .sender) (c .reader) (c .mode)
 
-  pub deaf-walk : (xs : List ℕ) → length xs ≤ c .inhibited → c .silence ≤ 300 → (1 ≤ c .waiting → c .silence + length xs ≤ 300)
+  pub deaf-walk : (xs : List ℕ) → length xs ≤ c .inhibited → c .silence ≤ 300
+      → (1 ≤ c .waiting → c .silence + length xs ≤ 300)
       → Walk (station c chars) xs (station (deafFor c (length xs)) chars) (λ (k : ℕ). 0)
   deaf-walk xs h s w =
       let go : Walk (station (deafFor c 0) chars) xs (station (deafFor c (length xs)) chars) (λ (k : ℕ). 0) =
@@ -241,7 +250,8 @@ module _ (mode : Mode) (l : OnLine) (h : l .at < length (partMs mode l)) where
       go false e = refl
 
   -- it is over when all are gone
-  pub gone-over : (n left : ℕ) → l .at + left ≡ length (partMs mode l) → n ≤ left → eqb n left ≡ isOver mode (further l n)
+  pub gone-over : (n left : ℕ) → l .at + left ≡ length (partMs mode l) → n ≤ left
+      → eqb n left ≡ isOver mode (further l n)
   unfolding isOver partMs
   gone-over n left e few = go (eqb n left) refl ∙ sym (ap (λ (b : Bool). b && leb (length (partMs mode l)) (l .at + n)) left-burst)
     where
@@ -296,7 +306,8 @@ module _ (c : Core) (chars : List ℕ) (b : inBurst (c .line) ≡ true) where
       let p = ap (λ (m : ℕ). closed (modeIn c) (mayEnd (c .waiting)) (onLine (c .line .part) (c .line .code .0) m)) z ∙ stays-left (modeIn c) (c .line) (mayEnd (c .waiting)) f in
       λ j. core (c .waiting) (s j) (c .inhibited) (p j) (c .sender) (c .reader) (c .mode)
 
-  pub part-walk : (xs : List ℕ) → c .line .at + length xs ≤ length (partMs (modeIn c) (c .line)) → c .silence ≤ 300 → isOver (modeIn c) (c .line) ≡ false
+  pub part-walk : (xs : List ℕ) → c .line .at + length xs ≤ length (partMs (modeIn c) (c .line)) → c .silence ≤ 300
+      → isOver (modeIn c) (c .line) ≡ false
       → Walk (station c chars) xs (station (sentFor c (length xs)) chars) (partLevel (modeIn c) (c .line))
   part-walk xs v s f =
       let levels = partLevel (modeIn c) (c .line) in
@@ -307,7 +318,8 @@ module _ (c : Core) (chars : List ℕ) (b : inBurst (c .line) ≡ true) where
 -- ---- ms that the receiver hears
 
 pub record Listens (c : Core) (chars : List ℕ) (silence : ℕ) (r : Reader) (xs : List ℕ) : Type 0 where
-  pub after : stationAfter (station (listened c silence r) chars) xs ≡ station (listened c (silenceOver silence xs) (readerAfter (modeIn c) r xs)) chars
+  pub after : stationAfter (station (listened c silence r) chars) xs
+      ≡ station (listened c (silenceOver silence xs) (readerAfter (modeIn c) r xs)) chars
   pub sent : sentBy (station (listened c silence r) chars) xs ≡ replicate (length xs) 0
   pub words : wordsBy (station (listened c silence r) chars) xs ≡ words (modeIn c) r xs
 
@@ -322,7 +334,8 @@ silence-less false s = omega arith
 
 module _ (c : Core) (chars : List ℕ) (e : c .line .part ≡ 0) (i : c .inhibited ≡ 0) where
   record Hears (silence : ℕ) (r : Reader) (x : ℕ) : Type 0 where
-    after : stationMs (station (listened c silence r) chars) x ≡ station (listened c (silenceNext silence x) (hear (modeIn c) r x .reader)) chars
+    after : stationMs (station (listened c silence r) chars) x
+        ≡ station (listened c (silenceNext silence x) (hear (modeIn c) r x .reader)) chars
     sent : sentMs (station (listened c silence r) chars) x ≡ 0
     event : eventOf (station (listened c silence r) chars) x ≡ hear (modeIn c) r x .event
 
@@ -343,7 +356,8 @@ module _ (c : Core) (chars : List ℕ) (e : c .line .part ≡ 0) (i : c .inhibit
         event = o .event ∙ (rw t refl);
       }
 
-  pub listens : (silence : ℕ) (r : Reader) (xs : List ℕ) → (1 ≤ c .waiting → silence + length xs ≤ 300) → Listens c chars silence r xs
+  pub listens : (silence : ℕ) (r : Reader) (xs : List ℕ) → (1 ≤ c .waiting → silence + length xs ≤ 300)
+      → Listens c chars silence r xs
   unfolding stateAfter outputs wordsOf
   listens silence r [] w = record { after = refl; sent = refl; words = refl }
   listens silence r (x ∷ xs) w =

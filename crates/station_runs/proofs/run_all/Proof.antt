@@ -86,7 +86,8 @@ loop-again c =
     let s = start-of (loop-of k) in
     let p = s .pre .1 .1 in
     let h = at-most-more (s .args .bound) (highestLevel (modeIn (s .args .c))) (s .args .heard .now) (p .1 .0) (p .0) in
-    left-turn _ _ _ _ _ _ _ _ _ _ (loop-of k .loop .inv) h _ _ _ _ (k .taken-since .ensures) (stretch-of c .stretch .ensures)
+    let t = stretch-of c .stretch .ensures in
+    left-turn _ _ _ _ _ _ _ _ _ _ (loop-of k .loop .inv) h _ _ _ _ (k .taken-since .ensures) t
 
 taken-since-requires-2 : tie.Need-taken-since-requires-2 Inv-loop μ-loop
 taken-since-requires-2 c κs = let f = c .before .before .loop .inv .fewer in omega arith

@@ -16,11 +16,14 @@ use Rattle.station_runs.proofs.bursts.follows.Tie as tie
 abbrev from : tie.Start → Bool → Bool
 from s b = b && (ltb 0 (s .args .c .waiting) && leb (longest (modeIn (s .args .c))) (s .args .room))
 
--- the part is over if the code found it so
+abbrev start-of : tie.After-is-over → tie.Start
+start-of c = c .before .before .before
+
+-- the part is over as the code found it
 over-is : (c : tie.After-is-over)
-    → isOver (modeIn (c .before .before .before .args .c)) (c .before .before .before .args .c .line) ≡ c .is-over .result
+    → isOver (modeIn (start-of c .args .c)) (start-of c .args .c .line) ≡ c .is-over .result
 over-is c =
-    let line = c .before .before .before .args .c .line in
+    let line = start-of c .args .c .line in
     sym (ap (λ (m : Mode). isOver m line) (c .before .before .of .ensures)) ∙ sym (c .is-over .ensures)
 
 of-requires : tie.Need-of-requires
@@ -32,7 +35,7 @@ is-over-requires c κs = search needs
 returns : tie.Need-returns
 returns c =
     let o = c .before in
-    sym (ap (from (o .before .before .before)) (over-is o ∙ not-true (o .is-over .result) (c .if1 .taken)))
+    sym (ap (from (start-of o)) (over-is o ∙ not-true (o .is-over .result) (c .if1 .taken)))
 
 cast-goes-on : tie.Need-cast-goes-on
 cast-goes-on c = search needs
@@ -49,7 +52,7 @@ goes-on-requires c κs = search needs
 returns-2 : tie.Need-returns-2
 returns-2 c =
     let o = c .before .before .before .before in
-    let s = o .before .before .before in
+    let s = start-of o in
     let most = c .before .longest .ensures ∙ ap longest (o .before .before .of .ensures) in
     c .goes-on .ensures
     ∙ ap (λ (m : ℕ). ltb 0 (s .args .c .waiting) && leb m (s .args .room)) most

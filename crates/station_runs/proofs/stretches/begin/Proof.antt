@@ -105,7 +105,8 @@ send-requires c κs =
     let m = ms-of (l .before) in
     let p = start-of m .pre in
     let h = p .1 .1 in
-    let s = loaded-sends _ _ (p .0) (p .1 .0) _ (settle-of m .settle .ensures) (more (l .before)) _ (l .loaded .ensures) in
+    let e = settle-of m .settle .ensures in
+    let s = loaded-sends _ _ (p .0) (p .1 .0) _ e (more (l .before)) _ (l .loaded .ensures) in
     let k = part-ms-is (l .before) in
     let g = l .before .if1 .left in
     let left = s .left in
@@ -120,8 +121,8 @@ returns-2 c =
     let m = ms-of (l .before) in
     let s = start-of m in
     λ (chars : List ℕ) (e : getD chars 0 0 ≡ s .args .front .0).
-    begin-stretch _ _ chars _ _ _ _ _ (settle-of m .settle .ensures ∙ sym (ap (settled (s .args .c)) e)) (more (l .before))
-    _ (l .loaded .ensures) _ _ _ (send-of c .send .ensures _ _)
+    begin-stretch _ _ chars _ _ _ _ _ (settle-of m .settle .ensures ∙ sym (ap (settled (s .args .c)) e))
+    (more (l .before)) _ (l .loaded .ensures) _ _ _ (send-of c .send .ensures _ _)
 
 pub begin-spec : {M : Type 1} → statement M
 begin-spec =

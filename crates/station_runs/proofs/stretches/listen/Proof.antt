@@ -157,8 +157,9 @@ returns-2 c =
     let n = s .args .n in
     λ (chars : List ℕ).
     listen-stretch _ _ chars _ _ _ _ _ (f .low) (f .high) _ (s .pre .0 .silence-in) (p .0) (p .1 .1 .0) (f .free)
-    _ (c .before .before .silence-over .ensures) _ (h .0 ∙ ap (λ (m : Mode). readerAfter m r xs) o) (c .listened2 .ensures)
-    _ (fill-of idle .fill .ensures) _ (h .1 .0 ∙ ap (λ (m : Mode). n + length (words m r xs)) o)
+    _ (c .before .before .silence-over .ensures) _ (h .0 ∙ ap (λ (m : Mode). readerAfter m r xs) o)
+    (c .listened2 .ensures) _ (fill-of idle .fill .ensures)
+    _ (h .1 .0 ∙ ap (λ (m : Mode). n + length (words m r xs)) o)
     _ (h .1 .1 ∙ ap (λ (m : Mode). sets (s .args .words .now) n (words m r xs)) o)
 
 pub listen-spec : {M : Type 1} → statement M
