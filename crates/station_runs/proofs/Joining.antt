@@ -51,7 +51,8 @@ pub record Sends (c : Core) (l : Loaded) (d : Core) : Type 0 where
   pub left : d .line .at + (length (partMs (modeIn c) (l .line)) - l .line .at) ≡ length (partMs (modeIn d) (d .line))
 
 pub loaded-sends : (c : Core) (given : ℕ) → CoreIn c → (1 ≤ c .waiting → given < 128)
-    → (l : Loaded) → l ≡ settled c given → l .line .at < length (partMs (modeIn c) (l .line)) → (d : Core) → d ≡ loadedCore c l → Sends c l d
+    → (l : Loaded) → l ≡ settled c given → l .line .at < length (partMs (modeIn c) (l .line))
+    → (d : Core) → d ≡ loadedCore c l → Sends c l d
 unfolding loadedCore
 loaded-sends c given i h l e m d ed =
     let j = subst (LoadedIn (modeIn c)) (sym e) (settled-in c given i h) in
