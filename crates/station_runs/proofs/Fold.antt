@@ -45,14 +45,16 @@ module _ (s : Station) where
 left-of : (heard : List ℕ) (i to : ℕ) → i ≤ to → drop i heard ≡ between i to heard ++ drop to heard
 left-of heard i to h =
     let e : i + (to - i) ≡ to = omega arith in
-    sym (take-append-drop (to - i) (drop i heard)) ∙ ap (λ (l : List ℕ). between i to heard ++ l) (drop-drop (to - i) i heard ∙ ap (λ (m : ℕ). drop m heard) e)
+    let others = drop-drop (to - i) i heard ∙ ap (λ (m : ℕ). drop m heard) e in
+    sym (take-append-drop (to - i) (drop i heard)) ∙ ap (λ (l : List ℕ). between i to heard ++ l) others
 
 -- The characters that wait beside a core, of those that waited beside the core c₀.
 abbrev pub rest : Core → List ℕ → Core → List ℕ
 rest c₀ chars₀ c = movedBy (c₀ .waiting - c .waiting) chars₀
 
 -- The ms heard are run from the core c₀ on; at the place i this is left.
-pub record Left (heard chars₀ sent₀ words₀ : List ℕ) (c₀ : Core) (chars sent₁ words₁ : List ℕ) (c : Core) (i n : ℕ) : Type 0 where
+pub record Left (heard chars₀ sent₀ words₀ : List ℕ) (c₀ : Core)
+    (chars sent₁ words₁ : List ℕ) (c : Core) (i n : ℕ) : Type 0 where
   pub sent-size : length sent₁ ≡ length sent₀
   pub words-size : length words₁ ≡ length words₀
   pub full : length chars ≡ 256
@@ -64,10 +66,12 @@ pub record Left (heard chars₀ sent₀ words₀ : List ℕ) (c₀ : Core) (char
   pub after : stationAfter (station c chars) (drop i heard) ≡ stationAfter (station c₀ chars₀) heard
   pub sent : sets sent₁ i (sentBy (station c chars) (drop i heard)) ≡ sets sent₀ 0 (sentBy (station c₀ chars₀) heard)
   pub place : n + length (wordsBy (station c chars) (drop i heard)) ≡ length (wordsBy (station c₀ chars₀) heard)
-  pub words : sets words₁ n (wordsBy (station c chars) (drop i heard)) ≡ sets words₀ 0 (wordsBy (station c₀ chars₀) heard)
+  pub words : sets words₁ n (wordsBy (station c chars) (drop i heard))
+      ≡ sets words₀ 0 (wordsBy (station c₀ chars₀) heard)
 
 module _ (heard chars₀ sent₀ words₀ : List ℕ) (c₀ : Core) where
-  pub left-start : inRange (station c₀ chars₀) ≡ true → length chars₀ ≡ 256 → Left heard chars₀ sent₀ words₀ c₀ (rest c₀ chars₀ c₀) sent₀ words₀ c₀ 0 0
+  pub left-start : inRange (station c₀ chars₀) ≡ true → length chars₀ ≡ 256
+      → Left heard chars₀ sent₀ words₀ c₀ (rest c₀ chars₀ c₀) sent₀ words₀ c₀ 0 0
   unfolding movedBy
   left-start i f =
       let none : 0 ≡ c₀ .waiting - c₀ .waiting = omega arith in
@@ -86,13 +90,15 @@ module _ (heard chars₀ sent₀ words₀ : List ℕ) (c₀ : Core) where
         words = refl;
       })
 
-  module _ (sent₁ words₁ : List ℕ) (c : Core) (i n : ℕ) (l : Left heard chars₀ sent₀ words₀ c₀ (rest c₀ chars₀ c) sent₁ words₁ c i n) where
+  module _ (sent₁ words₁ : List ℕ) (c : Core) (i n : ℕ)
+      (l : Left heard chars₀ sent₀ words₀ c₀ (rest c₀ chars₀ c) sent₁ words₁ c i n) where
     abbrev chars : List ℕ
     chars = rest c₀ chars₀ c
 
     -- one stretch more
     pub left-turn : allAtMost (highestLevel (modeIn c₀)) heard ≡ true
-        → (x : Stretched) (sent' words' : List ℕ) (k : ℕ) → k ≡ c₀ .waiting - c .waiting → Stretches heard c (movedBy k chars₀) sent₁ words₁ i n x sent' words'
+        → (x : Stretched) (sent' words' : List ℕ) (k : ℕ) → k ≡ c₀ .waiting - c .waiting
+        → Stretches heard c (movedBy k chars₀) sent₁ words₁ i n x sent' words'
         → Left heard chars₀ sent₀ words₀ c₀ (rest c₀ chars₀ (x .core)) sent' words' (x .core) (x .at) (x .words)
     left-turn levels x sent' words' m em given =
         let t = subst (λ (k : ℕ). Stretches heard c (movedBy k chars₀) sent₁ words₁ i n x sent' words') em given in
@@ -102,7 +108,9 @@ module _ (heard chars₀ sent₀ words₀ : List ℕ) (c₀ : Core) where
         let less = taken .fewer in
         let before = l .fewer in
         let same = ap (λ (k : Core). k .waiting) (t .after) in
-        let sum : (c₀ .waiting - c .waiting) + (c .waiting - stationAfter s xs .core .waiting) ≡ c₀ .waiting - x .core .waiting = omega arith in
+        let w₀ = c₀ .waiting in
+        let w = c .waiting in
+        let sum : (w₀ - w) + (w - stationAfter s xs .core .waiting) ≡ w₀ - x .core .waiting = omega arith in
         let chars' = rest c₀ chars₀ (x .core) in
         let moves = taken .moves ∙ moved-by-more _ _ chars₀ ∙ ap (λ (k : ℕ). movedBy k chars₀) sum in
         let whole : station (x .core) chars' ≡ stationAfter s xs = λ j. station (t .after j) (sym moves j) in
@@ -117,7 +125,8 @@ module _ (heard chars₀ sent₀ words₀ : List ℕ) (c₀ : Core) where
         let few = few-words s xs in
         let room = l .room in
         let place = t .place in
-        let heights : allAtMost (highestLevel (modeIn c)) xs ≡ true = rw (l .mode) (at-most-take _ (x .at - i) (drop i heard) (at-most-drop _ heard i levels)) in
+        let heights : allAtMost (highestLevel (modeIn c)) xs ≡ true =
+        rw (l .mode) (at-most-take _ (x .at - i) (drop i heard) (at-most-drop _ heard i levels)) in
         let sl : length (sentBy s xs) ≡ x .at - i = sent-length s xs ∙ size in
         let sa : x .at ≡ i + length (sentBy s xs) = omega arith in
         let st : sentBy s xs ++ us ≡ sentBy s (drop i heard) =
@@ -133,10 +142,23 @@ module _ (heard chars₀ sent₀ words₀ : List ℕ) (c₀ : Core) where
           room = omega arith;
           in-range = ap inRange whole ∙ after-in s xs (l .full) (l .in-range) heights;
           mode = ap modeOfStation whole ∙ mode-after s xs ∙ l .mode;
-          after = ap (λ (z : Station). stationAfter z ys) whole ∙ sym (k .station) ∙ sym (ap (stationAfter s) a) ∙ l .after;
-          sent = (λ j. sets (t .sent j) (sa j) us) ∙ sym (sets-append sent₁ i (sentBy s xs) us) ∙ ap (sets sent₁ i) st ∙ l .sent;
-          place = ap (λ (m : ℕ). m + length vs) place ∙ add-assoc n (length ws) (length vs) ∙ sym (ap (λ (m : ℕ). n + m) (length-append ws vs)) ∙ ap (λ (z : List ℕ). n + length z) wt ∙ l .place;
-          words = (λ j. sets (t .words j) (place j) vs) ∙ sym (sets-append words₁ n ws vs) ∙ ap (sets words₁ n) wt ∙ l .words;
+          after = ap (λ (z : Station). stationAfter z ys) whole
+              ∙ sym (k .station)
+              ∙ sym (ap (stationAfter s) a)
+              ∙ l .after;
+          sent = (λ j. sets (t .sent j) (sa j) us)
+              ∙ sym (sets-append sent₁ i (sentBy s xs) us)
+              ∙ ap (sets sent₁ i) st
+              ∙ l .sent;
+          place = ap (λ (m : ℕ). m + length vs) place
+              ∙ add-assoc n (length ws) (length vs)
+              ∙ sym (ap (λ (m : ℕ). n + m) (length-append ws vs))
+              ∙ ap (λ (z : List ℕ). n + length z) wt
+              ∙ l .place;
+          words = (λ j. sets (t .words j) (place j) vs)
+              ∙ sym (sets-append words₁ n ws vs)
+              ∙ ap (sets words₁ n) wt
+              ∙ l .words;
         }
 
     -- nothing is left

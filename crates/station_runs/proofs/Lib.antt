@@ -2,4 +2,4 @@ pub mod Laws
 pub mod Joining
 pub mod Fold
 pub mod Coding
-pub mod Resting
+pub mod Idle

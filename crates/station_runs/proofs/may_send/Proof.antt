@@ -18,7 +18,8 @@ may-begin-requires c κs = search needs
 returns-2 : tie.Need-returns-2
 returns-2 c =
     let s = c .before .before .before .args .c in
-    c .may-begin .ensures ∙ sym (ap (λ (b : Bool). not b || mayBegin (s .waiting) (s .silence)) (eq-eqb (s .line .part) 0 (c .before .if1 .left)))
+    let e = eq-eqb (s .line .part) 0 (c .before .if1 .left) in
+    c .may-begin .ensures ∙ sym (ap (λ (b : Bool). not b || mayBegin (s .waiting) (s .silence)) e)
 
 pub may-send-spec : {M : Type 1} → statement M
 may-send-spec = tie.close (tie.spec returns may-begin-requires returns-2)

@@ -19,10 +19,34 @@ use Rattle.station_runs.proofs.run_all.Statement.{statement}
 use Rattle.station_runs.proofs.run_all.Tie as tie
 
 abbrev Inv-loop : tie.InvT-loop
-Inv-loop c chars heard bound sent₀ words₀ core₀ i₀ n₀ sent words core i n = Left heard chars sent₀ words₀ c (rest c chars core) sent words core i n
+Inv-loop c chars heard bound sent₀ words₀ core₀ i₀ n₀ sent words core i n =
+    Left heard chars sent₀ words₀ c (rest c chars core) sent words core i n
 
 abbrev μ-loop : tie.MeasureT-loop
 μ-loop c chars heard bound sent₀ words₀ core₀ i₀ n₀ sent words core i n = length heard - i
+
+-- ---- the moments of the walk
+
+abbrev start-of : tie.At-loop Inv-loop μ-loop → tie.Start Inv-loop μ-loop
+start-of c = c .before .before .before .before .before
+
+abbrev loop-of : tie.After-taken-since Inv-loop μ-loop → tie.At-loop Inv-loop μ-loop
+loop-of c = c .before .before
+
+abbrev taken-of : tie.After-stretch Inv-loop μ-loop → tie.After-taken-since Inv-loop μ-loop
+taken-of c = c .before .before .before .before
+
+abbrev stretch-of : tie.After-core Inv-loop μ-loop → tie.After-stretch Inv-loop μ-loop
+stretch-of c = c .before .before .before .before .before
+
+-- when all are run
+abbrev moved-of : tie.After-slice-known6 Inv-loop μ-loop → tie.After-move-up-by Inv-loop μ-loop
+moved-of c = c .before .before
+
+abbrev end-of : tie.After-slice-known6 Inv-loop μ-loop → tie.After-loop Inv-loop μ-loop
+end-of c = moved-of c .before .before .before
+
+-- ---- the needs
 
 loop-holds : tie.Need-loop-holds Inv-loop μ-loop
 loop-holds c = let p = c .before .before .before .before .pre in left-start _ _ _ _ _ (p .0) (p .1 .0)
@@ -32,27 +56,38 @@ taken-since-requires c κs = c .before .loop .inv .fewer
 
 stretch-requires : tie.Need-stretch-requires Inv-loop μ-loop
 stretch-requires c κs =
-    let s = c .before .before .before .before .before .before .before .before .before .before in
+    let k = c .before .before .before in
+    let s = start-of (loop-of k) in
     let p = s .pre in
-    let l = c .before .before .before .before .before .loop .inv in
+    let l = loop-of k .loop .inv in
     let ss = l .sent-size in
     let ws = l .words-size in
     let r = l .room in
     let f = l .fewer in
-    let t = c .before .before .before .taken-since .ensures in
+    let t = k .taken-since .ensures in
     let h = highest-16 (modeIn (s .args .c)) in
     let b = p .1 .1 .1 .0 in
-    let w : s .args .c .waiting ≤ 256 = station-in (station (s .args .c) (s .args .chars .now)) (p .0) .core-in .waiting-in in
-    (subst (λ (k : ℕ). inRange (station (c .before .before .before .before .before .loop .core) (movedBy k (s .args .chars .now))) ≡ true) (sym t) (l .in-range), (p .1 .0, (omega arith, (p .1 .1 .0, (omega arith, (c .before .before .before .before .loop-test .taken, (omega arith, omega arith)))))))
+    let now = station (s .args .c) (s .args .chars .now) in
+    let w : s .args .c .waiting ≤ 256 = station-in now (p .0) .core-in .waiting-in in
+    let core = loop-of k .loop .core in
+    let e = subst (λ (m : ℕ). inRange (station core (movedBy m (s .args .chars .now))) ≡ true) (sym t) (l .in-range) in
+    let i = k .before .loop-test .taken in
+    (e, (p .1 .0, (omega arith, (p .1 .1 .0, (omega arith, (i, (omega arith, omega arith)))))))
 
 loop-less : tie.Need-loop-less Inv-loop μ-loop
-loop-less c = let t = c .before .before .before .before .before .stretch .ensures .low in let h = c .before .before .before .before .before .before .before .before .before .before .loop-test .taken in omega arith
+loop-less c =
+    let t = stretch-of c .stretch .ensures .low in
+    let h = taken-of (stretch-of c) .before .loop-test .taken in
+    omega arith
 
 loop-again : tie.Need-loop-again Inv-loop μ-loop
 loop-again c =
-    let s = c .before .before .before .before .before .before .before .before .before .before .before .before .before .before .before .before in
-    let h = at-most-more (s .args .bound) (highestLevel (modeIn (s .args .c))) (s .args .heard .now) (s .pre .1 .1 .1 .0) (s .pre .1 .1 .0) in
-    left-turn _ _ _ _ _ _ _ _ _ _ (c .before .before .before .before .before .before .before .before .before .before .before .loop .inv) h _ _ _ _ (c .before .before .before .before .before .before .before .before .before .taken-since .ensures) (c .before .before .before .before .before .stretch .ensures)
+    let k = taken-of (stretch-of c) in
+    let s = start-of (loop-of k) in
+    let p = s .pre .1 .1 in
+    let h = at-most-more (s .args .bound) (highestLevel (modeIn (s .args .c))) (s .args .heard .now) (p .1 .0) (p .0) in
+    let t = stretch-of c .stretch .ensures in
+    left-turn _ _ _ _ _ _ _ _ _ _ (loop-of k .loop .inv) h _ _ _ _ (k .taken-since .ensures) t
 
 taken-since-requires-2 : tie.Need-taken-since-requires-2 Inv-loop μ-loop
 taken-since-requires-2 c κs = let f = c .before .before .loop .inv .fewer in omega arith
@@ -61,21 +96,27 @@ move-up-by-requires : tie.Need-move-up-by-requires Inv-loop μ-loop
 move-up-by-requires c κs = search needs
 
 same-length : tie.Need-same-length Inv-loop μ-loop
-same-length c = ap length (c .before .before .move-up-by .ensures) ∙ moved-by-length _ _
+same-length c = ap length (moved-of c .move-up-by .ensures) ∙ moved-by-length _ _
 
 same-length-2 : tie.Need-same-length-2 Inv-loop μ-loop
-same-length-2 c = c .before .before .before .before .before .before .loop .inv .sent-size
+same-length-2 c = end-of c .before .loop .inv .sent-size
 
 same-length-3 : tie.Need-same-length-3 Inv-loop μ-loop
-same-length-3 c = c .before .before .before .before .before .before .loop .inv .words-size
+same-length-3 c = end-of c .before .loop .inv .words-size
 
 returns : tie.Need-returns Inv-loop μ-loop
 returns c =
-    let l = c .before .before .before .before .before .before .loop .inv in
-    let h = c .before .before .before .before .before .loop-test .left in
+    let m = moved-of c in
+    let start = start-of (end-of c .before) in
+    let l = end-of c .before .loop .inv in
+    let h = end-of c .loop-test .left in
     let s = left-station _ _ _ _ _ _ _ _ _ _ l h in
-    let chars = c .before .before .move-up-by .ensures ∙ ap (λ (k : ℕ). movedBy k (c .before .before .before .before .before .before .before .before .before .before .before .args .chars .now)) (c .before .before .before .taken-since2 .ensures) in
-    (ap (λ (x : Station). x .core) s, (left-place _ _ _ _ _ _ _ _ _ _ l h, (chars ∙ ap (λ (x : Station). x .chars) s, (left-sent _ _ _ _ _ _ _ _ _ _ l h, left-words _ _ _ _ _ _ _ _ _ _ l h))))
+    let place = left-place _ _ _ _ _ _ _ _ _ _ l h in
+    let sent = left-sent _ _ _ _ _ _ _ _ _ _ l h in
+    let words = left-words _ _ _ _ _ _ _ _ _ _ l h in
+    let moved = ap (λ (k : ℕ). movedBy k (start .args .chars .now)) (m .before .taken-since2 .ensures) in
+    let chars = m .move-up-by .ensures ∙ moved ∙ ap (λ (x : Station). x .chars) s in
+    (ap (λ (x : Station). x .core) s, (place, (chars, (sent, words))))
 
 pub run-all-spec : {M : Type 1} → statement M
 run-all-spec =

@@ -21,6 +21,19 @@ use Rattle.half_duplex_runs.proofs.Laws.{sends-not}
 use Rattle.station_runs.proofs.stretch.Statement.{statement}
 use Rattle.station_runs.proofs.stretch.Tie as tie
 
+-- ---- the moments of the walk
+
+abbrev start-of : tie.After-follows → tie.Start
+start-of c = c .before .before .before .before .before
+
+abbrev start-of-may : tie.After-may-send → tie.Start
+start-of-may c = start-of (c .before .before)
+
+abbrev begin-of : tie.After-slice-known5 → tie.After-begin
+begin-of c = c .before .before .before .before
+
+-- ---- the needs
+
 abbrev now : tie.Start → Station
 now c = station (c .args .c) (movedBy (c .args .taken) (c .args .chars .now))
 
@@ -35,15 +48,18 @@ follows-requires c κs = search needs
 
 codes-requires : tie.Need-codes-requires
 codes-requires c κs =
-    let t = c .before .before .before .before .before .before .before in
+    let t = start-of (c .before .before) in
     let p = t .pre in
     let q = p .1 .1 .1 in
+    let most = longest (modeIn (t .args .c)) in
+    let left = length (t .args .heard .now) - t .args .i in
     let over = isOver (modeIn (t .args .c)) (t .args .c .line) in
     let wait = ltb 0 (t .args .c .waiting) in
-    let room = leb (longest (modeIn (t .args .c))) (length (t .args .heard .now) - t .args .i) in
+    let room = leb most left in
     let e : (over && (wait && room)) ≡ true = sym (c .before .before .follows .ensures) ∙ c .before .if1 .taken in
-    let w = ltb-true 0 (t .args .c .waiting) (and-left wait room (and-right over (wait && room) e)) in
-    let r = leb-true (longest (modeIn (t .args .c))) (length (t .args .heard .now) - t .args .i) (and-right wait room (and-right over (wait && room) e)) in
+    let f = and-right over (wait && room) e in
+    let w = ltb-true 0 (t .args .c .waiting) (and-left wait room f) in
+    let r = leb-true most left (and-right wait room f) in
     let h = q .1 .1 .0 in
     (p .0, (p .1 .0, (p .1 .1 .0, (and-left over (wait && room) e, (omega arith, (omega arith, q .1 .1 .1 .0))))))
 
@@ -61,11 +77,14 @@ front-after-requires c κs = search needs
 
 begin-requires : tie.Need-begin-requires
 begin-requires c κs =
-    let t = c .before .before .before .before .before .before .before .before .before .before .before in
+    let front = c .before .before in
+    let t = start-of-may (front .before .before) in
     let p = t .pre in
     let q = p .1 .1 .1 in
     let f = front-in (now t) (moved-by-length (t .args .taken) (t .args .chars .now) ∙ p .1 .0) (p .0) in
-    (core-in t, ((λ (w : 1 ≤ t .args .c .waiting). let b = f w in let e = c .before .before .front-after .ensures in omega arith), (q .1 .1 .0, (q .1 .1 .1 .0, omega arith))))
+    let e = front .front-after .ensures in
+    let h = q .1 .1 in
+    (core-in t, ((λ (w : 1 ≤ t .args .c .waiting). let b = f w in omega arith), (h .0, (h .1 .0, omega arith))))
 
 same-length-2 : tie.Need-same-length-2
 same-length-2 c = search needs
@@ -74,14 +93,17 @@ same-length-3 : tie.Need-same-length-3
 same-length-3 c = search needs
 
 returns-2 : tie.Need-returns-2
-returns-2 c = c .before .before .before .before .begin .ensures _ (sym (c .before .before .before .before .before .before .before .front-after .ensures))
+returns-2 c =
+    let b = begin-of c in
+    b .begin .ensures _ (sym (b .before .before .before .front-after .ensures))
 
 wait-requires : tie.Need-wait-requires
 wait-requires c κs =
-    let t = c .before .before .before .before .before .before .before .before .before .before .before in
+    let n = c .before .before .before in
+    let t = start-of-may (n .before) in
     let q = t .pre .1 .1 .1 in
     let i = c .before .if3 .taken in
-    let m = sends-not (t .args .c) (sym (c .before .before .before .before .may-send .ensures) ∙ c .before .before .before .if2 .left) in
+    let m = sends-not (t .args .c) (sym (n .before .may-send .ensures) ∙ n .if2 .left) in
     (core-in t, (m .0, (m .1, (omega arith, (q .1 .1 .0, q .1 .1 .1 .0)))))
 
 same-length-4 : tie.Need-same-length-4
@@ -92,8 +114,9 @@ returns-3 c = c .before .before .wait .ensures _ _
 
 listen-requires : tie.Need-listen-requires
 listen-requires c κs =
-    let t = c .before .before .before .before .before .before .before .before .before .before .before .before in
-    let m = sends-not (t .args .c) (sym (c .before .before .before .before .before .may-send .ensures) ∙ c .before .before .before .before .if2 .left) in
+    let n = c .before .before .before .before in
+    let t = start-of-may (n .before) in
+    let m = sends-not (t .args .c) (sym (n .before .may-send .ensures) ∙ n .if2 .left) in
     (core-in t, (m .0, (m .1, (c .before .before .if3 .left, t .pre .1 .1 .1))))
 
 same-length-5 : tie.Need-same-length-5

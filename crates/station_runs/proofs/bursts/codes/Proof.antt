@@ -1,6 +1,7 @@
 -- `codes` meets its contract.
 use mathlib.Core.Path.{_≡_, _∙_, sym, ap, subst}
 use mathlib.Core.Bool.{Bool, true}
+use mathlib.Core.List.{List}
 use Prim.Native.Nat.{ℕ, _+_, _-_, _≤_, _<_}
 use native.Mathlib.Omega.{arith}
 use lib.ListN.{length, getD}
@@ -36,12 +37,16 @@ Inv-loop c chars from heard i sent₀ n mode a table most waiting taken₀ sende
     Coded heard (movedBy from chars) sent₀ c i sent taken sender line at
 
 abbrev μ-loop : tie.MeasureT-loop
-μ-loop c chars from heard i sent₀ n mode a table most waiting taken₀ sender₀ line₀ at₀ sent taken sender line at = length heard - at
+μ-loop c chars from heard i sent₀ n mode a table most waiting taken₀ sender₀ line₀ at₀ sent taken sender line at =
+    length heard - at
 
 -- ---- the moments of the walk
 
+abbrev mode-of : tie.After-longest Inv-loop μ-loop → tie.After-of Inv-loop μ-loop
+mode-of c = c .before .before .before
+
 abbrev start-of-longest : tie.After-longest Inv-loop μ-loop → tie.Start Inv-loop μ-loop
-start-of-longest c = c .before .before .before .before .before .before .before
+start-of-longest c = mode-of c .before .before .before .before
 
 abbrev longest-of : tie.At-loop Inv-loop μ-loop → tie.After-longest Inv-loop μ-loop
 longest-of c = c .before .before .before .before
@@ -58,8 +63,14 @@ loop-of c = c .before .before
 abbrev turn-of : tie.After-code-begins Inv-loop μ-loop → tie.Then1 Inv-loop μ-loop
 turn-of c = c .before .before .before .before
 
+abbrev put-of : tie.After-duration Inv-loop μ-loop → tie.After-put-whole Inv-loop μ-loop
+put-of c = c .before .before .before
+
 abbrev begins-of : tie.After-duration Inv-loop μ-loop → tie.After-code-begins Inv-loop μ-loop
-begins-of c = c .before .before .before .before .before .before .before
+begins-of c = put-of c .before .before .before .before
+
+abbrev loop-of-duration : tie.After-duration Inv-loop μ-loop → tie.At-loop Inv-loop μ-loop
+loop-of-duration c = loop-of (turn-of (begins-of c))
 
 abbrev duration-of : tie.After-may-end Inv-loop μ-loop → tie.After-duration Inv-loop μ-loop
 duration-of c = c .before .before .before .before
@@ -84,11 +95,15 @@ cast-most c = search needs
 cast-waiting : tie.Need-cast-waiting Inv-loop μ-loop
 cast-waiting c = search needs
 
+-- the characters that wait
+abbrev chars-of : tie.Start Inv-loop μ-loop → List ℕ
+chars-of c = movedBy (c .args .from) (c .args .chars .now)
+
 module _ (c : tie.Start Inv-loop μ-loop) where
   core-in : CoreIn (c .args .c)
-  core-in = station-in (station (c .args .c) (movedBy (c .args .from) (c .args .chars .now))) (c .pre .0) .core-in
+  core-in = station-in (station (c .args .c) (chars-of c)) (c .pre .0) .core-in
 
-  full : length (movedBy (c .args .from) (c .args .chars .now)) ≡ 256
+  full : length (chars-of c) ≡ 256
   full = moved-by-length (c .args .from) (c .args .chars .now) ∙ c .pre .1 .0
 
   room : c .args .i + longest (modeIn (c .args .c)) ≤ length (c .args .heard .now)
@@ -98,7 +113,7 @@ module _ (c : tie.Start Inv-loop μ-loop) where
   start = let r = room in omega arith
 
 most-is : (c : tie.After-longest Inv-loop μ-loop) → c .longest .result ≡ longest (modeIn (start-of-longest c .args .c))
-most-is c = c .longest .ensures ∙ ap longest (c .before .before .before .of .ensures)
+most-is c = c .longest .ensures ∙ ap longest (mode-of c .of .ensures)
 
 -- a place of the ms that are heard fits
 fits : (c : tie.After-longest Inv-loop μ-loop) (n : ℕ) → n ≤ length (start-of-longest c .args .heard .now) → Fits w64 n
@@ -122,18 +137,21 @@ module _ (c : tie.Then1 Inv-loop μ-loop) where
   abbrev s : tie.Start Inv-loop μ-loop
   s = start-of (loop-of c)
 
-  test : Goes (loop-of c .loop .taken) (s .args .c .waiting) (longest (modeIn (s .args .c))) (length (s .args .heard .now) - loop-of c .loop .at)
-  test =
-      subst (λ (m : ℕ). Goes (loop-of c .loop .taken) (s .args .c .waiting) m (length (s .args .heard .now) - loop-of c .loop .at))
-      (most-is (longest-of (loop-of c)))
-      (goes _ _ _ _ _ (c .before .goes-on .ensures) (c .if1 .taken))
+  -- what the test says of the length of a code
+  abbrev Says : ℕ → Type 0
+  Says most =
+      let l = loop-of c .loop in
+      Goes (l .taken) (s .args .c .waiting) most (length (s .args .heard .now) - l .at)
+
+  test : Says (longest (modeIn (s .args .c)))
+  test = subst Says (most-is (longest-of (loop-of c))) (goes _ _ _ _ _ (c .before .goes-on .ensures) (c .if1 .taken))
 
   -- the character in front
   place : s .args .from + loop-of c .loop .taken < 256
   place = let m = test .more in let f = s .pre .1 .1 .0 in omega arith
 
   char-at : getD (s .args .chars .now) (s .args .from + loop-of c .loop .taken) 0
-      ≡ getD (movedBy (s .args .from) (s .args .chars .now)) (loop-of c .loop .taken) 0
+      ≡ getD (chars-of s) (loop-of c .loop .taken) 0
   char-at =
       let p = place in
       let f = s .pre .1 .0 in
@@ -177,7 +195,7 @@ module _ (c : tie.After-code-begins Inv-loop μ-loop) where
 
   begins-as : c .code-begins .result
       ≡ codeBegins (alphabetOf mode) (l .loop .line) (l .loop .sender)
-      (sends (alphabetOf mode) (getD (movedBy (start-of l .args .from) (start-of l .args .chars .now)) (l .loop .taken) 0))
+      (sends (alphabetOf mode) (getD (chars-of (start-of l)) (l .loop .taken) 0))
   begins-as =
       let a = alphabetOf mode in
       let line = l .loop .line in
@@ -221,11 +239,10 @@ duration-requires : tie.Need-duration-requires Inv-loop μ-loop
 duration-requires c κs = search needs
 
 ms : (c : tie.After-duration Inv-loop μ-loop)
-    → c .duration .result ≡ length (signal (modeIn (start-of (loop-of (turn-of (begins-of c))) .args .c)) (begins-of c .code-begins .result .line .code .0))
+    → c .duration .result ≡ length (signal (mode (begins-of c)) (code (begins-of c)))
 ms c =
-    let b = begins-of c in
     c .duration .ensures
-    ∙ ap (λ (d : Mode). length (signal d (b .code-begins .result .line .code .0))) (alphabet-of (loop-of (turn-of b)) .before .of .ensures)
+    ∙ ap (λ (d : Mode). length (signal d (code (begins-of c)))) (alphabet-of (loop-of-duration c) .before .of .ensures)
 
 taken-after-requires : tie.Need-taken-after-requires Inv-loop μ-loop
 taken-after-requires c κs = let p = place (turn-of (begins-of c)) in omega arith
@@ -256,13 +273,13 @@ cast-at c = search needs
 
 -- the place behind it is one of the slice
 behind : (c : tie.After-duration Inv-loop μ-loop)
-    → loop-of (turn-of (begins-of c)) .loop .at + c .duration .result ≤ length (start-of (loop-of (turn-of (begins-of c))) .args .heard .now)
+    → loop-of-duration c .loop .at + c .duration .result ≤ length (start-of (loop-of-duration c) .args .heard .now)
 behind c = let r = code-fits (begins-of c) in let m = ms c in omega arith
 
 add-at : tie.Need-add-at Inv-loop μ-loop
 add-at c =
     let d = duration-of (c .before) in
-    fits (longest-of (loop-of (turn-of (begins-of d)))) _ (behind d)
+    fits (longest-of (loop-of-duration d)) _ (behind d)
 
 loop-less : tie.Need-loop-less Inv-loop μ-loop
 loop-less c =
@@ -281,13 +298,13 @@ loop-again c =
     let s = start-of l in
     let r = code-fits b in
     let m = ms d in
-    let es = d .before .before .before .put-whole .ensures
+    let es = put-of d .put-whole .ensures
     ∙ ap (λ (d : Mode). sets (l .loop .sent) (l .loop .at) (signal d (code b))) (alphabet-of l .before .of .ensures) in
     let q = b .code-begins .result .line in
     let over = onLine (q .part) (q .code .0) (d .duration .result) in
     let ends = c .ended .ensures ∙ ap (λ (e : Bool). ended true e over) (c .before .may-end .ensures) in
-    coded-turn _ _ _ _ _ (start s) (s .pre .0) (full s) _ _ _ _ _ (l .loop .inv) (test (turn-of b) .more) _ (begins-as b) _
-    m (omega arith) _ es _ (c .before .before .before .before .taken-after .ensures) _ ends
+    coded-turn _ _ _ _ _ (start s) (s .pre .0) (full s) _ _ _ _ _ (l .loop .inv) (test (turn-of b) .more)
+    _ (begins-as b) _ m (omega arith) _ es _ (c .before .before .before .before .taken-after .ensures) _ ends
 
 -- ---- after the loop
 
@@ -300,8 +317,8 @@ module _ (c : tie.Else1 Inv-loop μ-loop) where
       let s = start-of (c .before .before) in
       let r = room s in
       let o = most-is (longest-of (c .before .before)) in
-      goes-far _ _ _ _ _ (start s) _ _ _ _ _ (c .before .before .loop .inv) _ _ (c .before .goes-on .ensures) (c .if1 .left)
-      (s .pre .1 .1 .1 .1 .0) (omega arith)
+      goes-far _ _ _ _ _ (start s) _ _ _ _ _ (c .before .before .loop .inv) _ _ (c .before .goes-on .ensures)
+      (c .if1 .left) (s .pre .1 .1 .1 .1 .0) (omega arith)
 
 coded-requires : tie.Need-coded-requires Inv-loop μ-loop
 coded-requires c κs =
@@ -313,8 +330,8 @@ same-length c = c .before .before .before .loop .inv .size
 
 returns : tie.Need-returns Inv-loop μ-loop
 returns c =
-    let e = c .before in
-    coded-stretch _ _ _ _ _ (start (start-of (e .before .before))) _ _ _ _ _ (e .before .before .loop .inv) (far e) _ (c .coded .ensures) _
+    let l = c .before .before .before in
+    coded-stretch _ _ _ _ _ (start (start-of l)) _ _ _ _ _ (l .loop .inv) (far (c .before)) _ (c .coded .ensures) _
 
 pub codes-spec : {M : Type 1} → statement M
 codes-spec =

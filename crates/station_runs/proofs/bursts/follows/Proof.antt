@@ -1,5 +1,5 @@
 -- `follows` meets its contract.
-use mathlib.Core.Path.{_∙_, sym, ap}
+use mathlib.Core.Path.{_≡_, _∙_, sym, ap}
 use mathlib.Core.Bool.{Bool, _&&_}
 use Prim.Native.Nat.{ℕ}
 use lib.Dec.{leb, ltb}
@@ -12,6 +12,20 @@ use borrow.Author.Needs.{needs}
 use Rattle.station_runs.proofs.bursts.follows.Statement.{statement}
 use Rattle.station_runs.proofs.bursts.follows.Tie as tie
 
+-- what is answered, from whether the part is over
+abbrev from : tie.Start → Bool → Bool
+from s b = b && (ltb 0 (s .args .c .waiting) && leb (longest (modeIn (s .args .c))) (s .args .room))
+
+abbrev start-of : tie.After-is-over → tie.Start
+start-of c = c .before .before .before
+
+-- the part is over as the code found it
+over-is : (c : tie.After-is-over)
+    → isOver (modeIn (start-of c .args .c)) (start-of c .args .c .line) ≡ c .is-over .result
+over-is c =
+    let line = start-of c .args .c .line in
+    sym (ap (λ (m : Mode). isOver m line) (c .before .before .of .ensures)) ∙ sym (c .is-over .ensures)
+
 of-requires : tie.Need-of-requires
 of-requires c κs = search needs
 
@@ -20,9 +34,8 @@ is-over-requires c κs = search needs
 
 returns : tie.Need-returns
 returns c =
-    let s = c .before .before .before .before in
-    let e = sym (ap (λ (m : Mode). isOver m (s .args .c .line)) (c .before .before .before .of .ensures)) ∙ sym (c .before .is-over .ensures) ∙ not-true (c .before .is-over .result) (c .if1 .taken) in
-    sym (ap (λ (b : Bool). b && (ltb 0 (s .args .c .waiting) && leb (longest (modeIn (s .args .c))) (s .args .room))) e)
+    let o = c .before in
+    sym (ap (from (start-of o)) (over-is o ∙ not-true (o .is-over .result) (c .if1 .taken)))
 
 cast-goes-on : tie.Need-cast-goes-on
 cast-goes-on c = search needs
@@ -38,11 +51,12 @@ goes-on-requires c κs = search needs
 
 returns-2 : tie.Need-returns-2
 returns-2 c =
-    let s = c .before .before .before .before .before .before .before in
-    let e = sym (ap (λ (m : Mode). isOver m (s .args .c .line)) (c .before .before .before .before .before .before .of .ensures)) ∙ sym (c .before .before .before .before .is-over .ensures) ∙ not-false (c .before .before .before .before .is-over .result) (c .before .before .before .if1 .left) in
+    let o = c .before .before .before .before in
+    let s = start-of o in
+    let most = c .before .longest .ensures ∙ ap longest (o .before .before .of .ensures) in
     c .goes-on .ensures
-    ∙ ap (λ (m : ℕ). ltb 0 (s .args .c .waiting) && leb m (s .args .room)) (c .before .longest .ensures ∙ ap longest (c .before .before .before .before .before .before .of .ensures))
-    ∙ sym (ap (λ (b : Bool). b && (ltb 0 (s .args .c .waiting) && leb (longest (modeIn (s .args .c))) (s .args .room))) e)
+    ∙ ap (λ (m : ℕ). ltb 0 (s .args .c .waiting) && leb m (s .args .room)) most
+    ∙ sym (ap (from s) (over-is o ∙ not-false (o .is-over .result) (c .before .before .before .if1 .left)))
 
 pub follows-spec : {M : Type 1} → statement M
 follows-spec =

@@ -8,10 +8,15 @@ use Rattle.station_runs.proofs.bursts.goes_on.Statement.{statement}
 use Rattle.station_runs.proofs.bursts.goes_on.Tie as tie
 
 returns : tie.Need-returns
-returns c = sym (ap (λ (b : Bool). b && leb (c .before .args .most) (c .before .args .room)) (le-ltb (c .before .args .taken) (c .before .args .waiting) (c .if1 .taken)))
+returns c =
+    let s = c .before .args in
+    sym (ap (λ (b : Bool). b && leb (s .most) (s .room)) (le-ltb (s .taken) (s .waiting) (c .if1 .taken)))
 
 returns-2 : tie.Need-returns-2
-returns-2 c = sym (ap (λ (b : Bool). b && leb (c .before .args .most) (c .before .args .room)) (lt-ltb (c .before .args .taken) (c .before .args .waiting) (let h = c .if1 .left in omega arith)))
+returns-2 c =
+    let s = c .before .args in
+    let h = c .if1 .left in
+    sym (ap (λ (b : Bool). b && leb (s .most) (s .room)) (lt-ltb (s .taken) (s .waiting) (omega arith)))
 
 pub goes-on-spec : {M : Type 1} → statement M
 goes-on-spec = tie.close (tie.spec returns returns-2)

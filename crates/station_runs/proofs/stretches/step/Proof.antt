@@ -11,6 +11,19 @@ use borrow.Author.Needs.{needs}
 use Rattle.station_runs.proofs.stretches.step.Statement.{statement}
 use Rattle.station_runs.proofs.stretches.step.Tie as tie
 
+-- ---- the moments of the walk
+
+abbrev start-of : tie.After-step → tie.Start
+start-of c = c .before .before .before .before .before
+
+abbrev word-of : tie.After-core → tie.After-put-word
+word-of c = c .before .before .before
+
+abbrev step-of : tie.After-core → tie.After-step
+step-of c = word-of c .before .before
+
+-- ---- the needs
+
 shared-slice-read-step : tie.Need-shared-slice-read-step
 shared-slice-read-step c = search needs
 
@@ -25,7 +38,7 @@ put-word-requires c κs = search needs
 
 add-t17 : tie.Need-add-t17
 add-t17 c =
-    let s = c .before .before .before .before .before .before .before .before .before .before in
+    let s = start-of (step-of c) in
     let h = s .pre .1 .1 .0 in
     let f : s .args .i + 1 ≤ length (s .args .heard .now) = omega arith in
     search (needs, f)
@@ -38,11 +51,13 @@ same-length-2 c = search needs
 
 returns : tie.Need-returns
 returns c =
-    let t = c .before .before .before .before .before .before .before .before .before .before in
+    let q = step-of c in
+    let t = start-of q in
+    let heard = getD (t .args .heard .now) (t .args .i) 0 in
     λ (chars : List ℕ) (e : t .args .l ≡ settled (t .args .c) (getD chars 0 0)).
-    step-stretch _ _ _ _ _ _ _ (c .before .before .before .before .before .step .result) (t .pre .1 .1 .0)
-    (c .before .before .before .before .before .step .ensures ∙ ap (λ (l : Loaded). stepped (t .args .c) l (getD (t .args .heard .now) (t .args .i) 0)) e)
-    _ refl _ (c .before .before .before .put-word .ensures .0) _ (c .before .before .before .put-word .ensures .1)
+    step-stretch _ _ _ _ _ _ _ (q .step .result) (t .pre .1 .1 .0)
+    (q .step .ensures ∙ ap (λ (l : Loaded). stepped (t .args .c) l heard) e)
+    _ refl _ (word-of c .put-word .ensures .0) _ (word-of c .put-word .ensures .1)
 
 pub step-spec : {M : Type 1} → statement M
 step-spec =
