@@ -11,7 +11,7 @@ use borrow.Author.Needs.{needs}
 use Rattle.baudot_reading.proofs.read.Statement.{statement}
 use Rattle.baudot_reading.proofs.read.Tie as tie
 
--- the shift is in range; the codes are such; the text fits
+-- the moments: the shift is in range; every byte is a code; the room is judged
 abbrev start : tie.Else2 → tie.Start
 start c = c .before .before .before .before
 

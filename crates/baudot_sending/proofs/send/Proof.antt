@@ -13,7 +13,7 @@ use borrow.Author.Needs.{needs}
 use Rattle.baudot_sending.proofs.send.Statement.{statement}
 use Rattle.baudot_sending.proofs.send.Tie as tie
 
--- the shift and the count are in range; the characters are such; the room is known
+-- the moments: the shift and the count are in range; every byte is a character; the room is judged
 abbrev start : tie.Else2 → tie.Start
 start c = c .before .before .before .before
 
