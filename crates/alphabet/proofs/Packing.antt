@@ -81,8 +81,8 @@ module _ (t : List ℕ) (is : t ≡ sendTable) (a : Alphabet) (c b : ℕ) (h : c
   entry-is : getD t (b + c) 0 ≡ packed (sends a c)
   unfolding sendTable
   entry-is =
-      ap (λ (l : List ℕ). getD l (b + c) 0) is ∙ tabulate-at entryAt 0 384 (b + c) lookup-below ∙ ap (λ (n : ℕ). entryAt (n + c)) at-base
-      ∙ entry-of a c h
+      ap (λ (l : List ℕ). getD l (b + c) 0) is ∙ tabulate-at entryAt 0 384 (b + c) lookup-below
+      ∙ ap (λ (n : ℕ). entryAt (n + c)) at-base ∙ entry-of a c h
 
   pub lookup-small : getD t (b + c) 0 < 1024
   lookup-small = rw entry-is (go (sends a c) refl)
@@ -98,7 +98,8 @@ module _ (t : List ℕ) (is : t ≡ sendTable) (a : Alphabet) (c b : ℕ) (h : c
   pub lookup-nothing : getD t (b + c) 0 < 256 → Nothing ≡ sends a c
   lookup-nothing g = sym (packed-nothing a c h (subst (λ (n : ℕ). n < 256) entry-is g))
 
-  pub lookup-code : 256 ≤ getD t (b + c) 0 → Code (getD t (b + c) 0 / 256) (record { 0 = getD t (b + c) 0 % 256 }) ≡ sends a c
+  pub lookup-code : 256 ≤ getD t (b + c) 0
+      → Code (getD t (b + c) 0 / 256) (record { 0 = getD t (b + c) 0 % 256 }) ≡ sends a c
   lookup-code g = rw entry-is (sym (packed-code a c h (subst (λ (n : ℕ). 256 ≤ n) entry-is g)))
 
 -- what the lookup of a DTMF code makes of an entry e
@@ -164,7 +165,8 @@ module _ (s k : ℕ) (l : k ≡ lettersCode → ⊥) (f : k ≡ figuresCode → 
       let d : 1 + ((s - 1) * 32 + k) / 32 ≡ s = omega arith in
       let m : ((s - 1) * 32 + k) % 32 ≡ k = omega arith in
       let e : getD t ((s - 1) * 32 + k) 0 ≡ charIn (readBaudot s k) =
-      ap (λ (x : List ℕ). getD x ((s - 1) * 32 + k) 0) is ∙ tabulate-at baudotAt 0 64 ((s - 1) * 32 + k) (omega arith) ∙ (simp (d, m)) in
+      ap (λ (x : List ℕ). getD x ((s - 1) * 32 + k) 0) is
+      ∙ tabulate-at baudotAt 0 64 ((s - 1) * 32 + k) (omega arith) ∙ (simp (d, m)) in
       ap (λ (n : ℕ). Character (record { 0 = n })) e ∙ other-char
 
 unfoldable allMarks : List ℕ → Bool
@@ -182,17 +184,21 @@ digit-place (m ∷ ms) t d zero =
     simp (ne-eqb m 255 (λ (e : m ≡ 255). omega arith))
 digit-place (m ∷ ms) t d (suc j) = digit-place ms (both-right (ltb m 255) (allMarks ms) t) d j
 
-marks-test : T (passes (λ (p : ℕ). allMarks (keys (getD prefixes p ""))) 16 0)
+abbrev marksAt : ℕ → Bool
+marksAt p = allMarks (keys (getD prefixes p ""))
+
+marks-test : T (passes marksAt 16 0)
 unfolding passes keys prefixes allMarks
 marks-test = tt
 
-pub key-of : (n j : ℕ) → n < 256 → j < 4 → cond (eqb (keyAt (n / 16 * 4 + j)) 255) (n % 16) (keyAt (n / 16 * 4 + j)) ≡ getD (keysOf n) j 0
+pub key-of : (n j : ℕ) → n < 256 → j < 4
+    → cond (eqb (keyAt (n / 16 * 4 + j)) 255) (n % 16) (keyAt (n / 16 * 4 + j)) ≡ getD (keysOf n) j 0
 unfolding keyAt keysOf
 key-of n j h g =
     let d : (n / 16 * 4 + j) / 4 ≡ n / 16 = omega arith in
     let m : (n / 16 * 4 + j) % 4 ≡ j = omega arith in
-    simp (d, m)
-    (digit-place (keys (getD prefixes (n / 16) "")) (passes-at (λ (p : ℕ). allMarks (keys (getD prefixes p ""))) 16 marks-test (n / 16) (omega arith)) (n % 16) j)
+    let t = passes-at marksAt 16 marks-test (n / 16) (omega arith) in
+    simp (d, m) (digit-place (keys (getD prefixes (n / 16) "")) t (n % 16) j)
 
 -- what the lookup of a key makes of an entry e
 module _ (n j e : ℕ) (h : n < 256) (g : j < 4) (found : e ≡ keyAt (n / 16 * 4 + j)) where
@@ -200,4 +206,6 @@ module _ (n j e : ℕ) (h : n < 256) (g : j < 4) (found : e ≡ keyAt (n / 16 * 
   key-digit d = simp (sym found ∙ d) at (key-of n j h g)
 
   pub key-mark : (e ≡ 255 → ⊥) → e ≡ getD (keysOf n) j 0
-  key-mark d = found ∙ simp (ne-eqb (keyAt (n / 16 * 4 + j)) 255 (λ (q : keyAt (n / 16 * 4 + j) ≡ 255). d (found ∙ q))) at (key-of n j h g)
+  key-mark d =
+      let r = ne-eqb (keyAt (n / 16 * 4 + j)) 255 (λ (q : keyAt (n / 16 * 4 + j) ≡ 255). d (found ∙ q)) in
+      found ∙ simp r at (key-of n j h g)

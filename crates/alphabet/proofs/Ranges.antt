@@ -165,7 +165,8 @@ charsBelow [] = true
 charsBelow (r ∷ rs) = ltb (drawn (r .sign)) 128 && charsBelow rs
 
 b1-test : T (charsBelow remaining)
-unfolding charsBelow rows leftRows rightRows b1 keys withMark codeFrom marksThenDigit among notStruck remaining names firstSign named
+unfolding charsBelow rows leftRows rightRows b1 keys withMark codeFrom marksThenDigit among notStruck remaining
+    names firstSign named
 b1-test = tt
 
 -- what is read of a DTMF code: a character below 128, or none

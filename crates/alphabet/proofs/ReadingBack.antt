@@ -22,5 +22,8 @@ code-read a c shift k s r e d q = q ∙ (simp (sym e ∙ d))
 pub reads-as : (a b : Alphabet) (shift n : ℕ) (r : Reads) → a ≡ b → r ≡ reads b shift n → r ≡ reads a shift n
 reads-as a b shift n r p q = q ∙ ap (λ (x : Alphabet). reads x shift n) (sym p)
 
-pub baudot-code-in : (a : Alphabet) (c shift : ℕ) (k : LineCode) (s : Sends) → c < 128 → s ≡ sends a c → s ≡ Code shift k → a ≡ Baudot → k .0 < 32
-baudot-code-in a c shift k s h e d p = range-of Baudot c h shift k (subst (λ (b : Alphabet). sends b c ≡ Code shift k) p (sym e ∙ d)) .code-in
+pub baudot-code-in : (a : Alphabet) (c shift : ℕ) (k : LineCode) (s : Sends)
+    → c < 128 → s ≡ sends a c → s ≡ Code shift k → a ≡ Baudot → k .0 < 32
+baudot-code-in a c shift k s h e d p =
+    let q = subst (λ (b : Alphabet). sends b c ≡ Code shift k) p (sym e ∙ d) in
+    range-of Baudot c h shift k q .code-in

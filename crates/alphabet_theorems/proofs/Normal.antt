@@ -27,7 +27,8 @@ any-shift Dtmf n = refl
 any-shift Edt n = refl
 
 -- what a sent code reads as in its own shift
-pub own-shift : (a : Alphabet) (s : ℕ) (k : LineCode) (b : ReadBack a s k) → reads a s (k .0) ≡ Character (record { 0 = b .char })
+pub own-shift : (a : Alphabet) (s : ℕ) (k : LineCode) (b : ReadBack a s k)
+    → reads a s (k .0) ≡ Character (record { 0 = b .char })
 own-shift a s k b = go (eqb s 3) refl
   where
     go : (t : Bool) → eqb s 3 ≡ t → reads a s (k .0) ≡ Character (record { 0 = b .char })
@@ -37,7 +38,8 @@ own-shift a s k b = go (eqb s 3) refl
     go false e = simp e at (b .letters)
 
 -- what a sent code reads as in each shift that it belongs to
-pub reads-in : (a : Alphabet) (s : ℕ) (k : LineCode) (b : ReadBack a s k) (r : ℕ) → (r ≡ 1) ⊎ (r ≡ 2) → (s ≡ 3) ⊎ (s ≡ r)
+pub reads-in : (a : Alphabet) (s : ℕ) (k : LineCode) (b : ReadBack a s k) (r : ℕ)
+    → (r ≡ 1) ⊎ (r ≡ 2) → (s ≡ 3) ⊎ (s ≡ r)
     → reads a r (k .0) ≡ Character (record { 0 = b .char })
 reads-in a s k b r (inl l) (inl e) = ap (λ (n : ℕ). reads a n (k .0)) l ∙ (simp e at (b .letters))
 reads-in a s k b r (inr l) (inl e) = ap (λ (n : ℕ). reads a n (k .0)) l ∙ (simp e at (b .figures))
@@ -69,16 +71,21 @@ normal-twice a c h = go (sends a c) refl
   where
     go : (x : Sends) → sends a c ≡ x → normalForm a (normal a c) ≡ normal a c
     go Nothing e = simp e
-    go (Code s k) e = rw (normal-code a c h s k e) (append-nil (normal a (back a c h s k e .char)) ∙ normal-again a c h s k e)
+    go (Code s k) e =
+        rw (normal-code a c h s k e)
+        (append-nil (normal a (back a c h s k e .char)) ∙ normal-again a c h s k e)
 
 -- the normal form of a list runs over the end of its front part
 pub normal-append : (a : Alphabet) (cs ds : List ℕ) → normalForm a (cs ++ ds) ≡ normalForm a cs ++ normalForm a ds
 unfolding normalForm
 normal-append a [] ds = refl
-normal-append a (c ∷ cs) ds = ap (λ (l : List ℕ). normal a c ++ l) (normal-append a cs ds) ∙ sym (append-assoc (normal a c) (normalForm a cs) (normalForm a ds))
+normal-append a (c ∷ cs) ds =
+    ap (λ (l : List ℕ). normal a c ++ l) (normal-append a cs ds)
+    ∙ sym (append-assoc (normal a c) (normalForm a cs) (normalForm a ds))
 
 -- the normal form of a list, taken twice
-pub normal-form-twice : (a : Alphabet) (cs : List ℕ) → allChars cs ≡ true → normalForm a (normalForm a cs) ≡ normalForm a cs
+pub normal-form-twice : (a : Alphabet) (cs : List ℕ) → allChars cs ≡ true
+    → normalForm a (normalForm a cs) ≡ normalForm a cs
 unfolding normalForm
 normal-form-twice a [] t = refl
 normal-form-twice a (c ∷ cs) t =

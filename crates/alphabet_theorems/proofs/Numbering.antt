@@ -24,13 +24,15 @@ numbering-test = tt
 -- a code of at most three marks and a digit has the number that its keys give
 pub keys-number : (n : ℕ) → n < 256 → n / 16 < 15 → 1 ≤ n % 16 → n % 16 ≤ 10 → codeOfKeys (keysOf n) ≡ n
 keys-number n h p l u =
+    let t = passes-at numbered 256 numbering-test n h in
     eqb→eq (codeOfKeys (keysOf n)) n
-    (simp (lt-ltb (n / 16) 15 p, le-leb 1 (n % 16) l, le-leb (n % 16) 10 u) at (passes-at numbered 256 numbering-test n h))
+    (simp (lt-ltb (n / 16) 15 p, le-leb 1 (n % 16) l, le-leb (n % 16) 10 u) at t)
 
 abbrev notNullCode : ℕ → Bool
 notNullCode c = not (sameSends (sendDtmf c) (Code 3 (record { 0 = codeOfKeys (keys "**0") })))
 
 -- no character is sent as **0
 pub never-null : T (passes notNullCode 128 0)
-unfolding passes bits bitsFrom leftRows rightRows rows b1 b2 printedAt keys withMark codeFrom marksThenDigit among notStruck remaining names firstSign named sendIn hasRow sendFrom sendDtmf
+unfolding passes bits bitsFrom leftRows rightRows rows b1 b2 printedAt keys withMark codeFrom marksThenDigit among
+    notStruck remaining names firstSign named sendIn hasRow sendFrom sendDtmf
 never-null = tt

@@ -30,7 +30,8 @@ charOf (Character c) = c .0
 charOf (Shift s) = 128
 charOf NoRow = 128
 
--- what is tested of a sent code: the character that it reads as in each shift it belongs to; that this character sends it too
+-- what is tested of a sent code: the character that it reads as in each shift it belongs to; that this character sends
+-- it too
 abbrev rule : Alphabet → Sends → Bool
 unfolding charOf
 rule a Nothing = true
@@ -43,7 +44,9 @@ abbrev ruleAt : ℕ → Bool
 ruleAt i = rule (alphabetAt (i / 128)) (sends (alphabetAt (i / 128)) (i % 128))
 
 rule-test : T (passes ruleAt 384 0)
-unfolding passes charOf sends reads bits bitsFrom leftRows rightRows rows a1 a2 b1 b2 printedAt readBaudot sendBaudot keys withMark codeFrom marksThenDigit among notStruck remaining names firstSign named readIn readDtmf sendIn hasRow sendFrom sendDtmf
+unfolding passes charOf sends reads bits bitsFrom leftRows rightRows rows a1 a2 b1 b2 printedAt readBaudot sendBaudot
+    keys withMark codeFrom marksThenDigit among notStruck remaining names firstSign named readIn readDtmf sendIn hasRow
+    sendFrom sendDtmf
 rule-test = tt
 
 -- what holds of a code that a character sends

@@ -16,7 +16,8 @@ pub one-of : (s k : ℕ) → length (charsOf (readBaudot s k)) + shiftOne k ≡ 
 unfolding readBaudot
 one-of s k = go (eqb k lettersCode) refl (eqb k figuresCode) refl
   where
-    go : (a : Bool) → eqb k lettersCode ≡ a → (b : Bool) → eqb k figuresCode ≡ b → length (charsOf (readBaudot s k)) + shiftOne k ≡ 1
+    go : (a : Bool) → eqb k lettersCode ≡ a → (b : Bool) → eqb k figuresCode ≡ b
+        → length (charsOf (readBaudot s k)) + shiftOne k ≡ 1
     go true e b f = simp e
     go false e true f = simp (e, f)
     go false e false f = simp (e, f)

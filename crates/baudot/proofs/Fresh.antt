@@ -25,27 +25,28 @@ module _ (s : Sender) (fresh : s .shift ≡ 0) where
   unfolding wanted
   wants-letters own = simp fresh
 
-  abbrev GoesOn : ℕ → LineCode → Type 0
-  GoesOn own k =
-      (codesFor s (Code own k) ≡ lettersCode ∷ codesFor (sender 1 0) (Code own k)) × (senderFor s (Code own k) ≡ senderFor (sender 1 0) (Code own k))
+  abbrev GoesOn : Sends → Type 0
+  GoesOn x =
+      (codesFor s x ≡ lettersCode ∷ codesFor (sender 1 0) x) × (senderFor s x ≡ senderFor (sender 1 0) x)
 
-  fresh-code : (own : ℕ) (k : LineCode) → 1 ≤ own → own ≤ 3 → GoesOn own k
+  fresh-code : (own : ℕ) (k : LineCode) → 1 ≤ own → own ≤ 3 → GoesOn (Code own k)
   unfolding codesFor senderFor
   fresh-code own k lo hi = ⊎-elim by-none by-some (ahead (sender 1 0) own running-letters lo hi)
     where
-      by-none : NoneAhead (sender 1 0) own running-letters lo hi → GoesOn own k
+      by-none : NoneAhead (sender 1 0) own running-letters lo hi → GoesOn (Code own k)
       by-none n = (simp (wants-letters own, n .none), simp (wants-letters own, n .none))
 
-      by-some : Ahead (sender 1 0) own running-letters lo hi (wanted (sender 1 0) own) → GoesOn own k
+      by-some : Ahead (sender 1 0) own running-letters lo hi (wanted (sender 1 0) own) → GoesOn (Code own k)
       by-some a =
           let l = a .low in
           let z = ne-eqb (wanted (sender 1 0) own) 0 (λ (e : wanted (sender 1 0) own ≡ 0). omega arith) in
           (simp (wants-letters own, z, a .then-none), simp (wants-letters own, z, a .then-none))
 
   pub fresh-for : (c : ℕ) → c < 128 → isCode (sends Baudot c) ≡ true
-      → (codesFor s (sends Baudot c) ≡ lettersCode ∷ codesFor (sender 1 0) (sends Baudot c)) × (senderFor s (sends Baudot c) ≡ senderFor (sender 1 0) (sends Baudot c))
+      → (codesFor s (sends Baudot c) ≡ lettersCode ∷ codesFor (sender 1 0) (sends Baudot c))
+      × (senderFor s (sends Baudot c) ≡ senderFor (sender 1 0) (sends Baudot c))
   fresh-for c h b = go (sends Baudot c) refl b
     where
-      go : (x : Sends) → sends Baudot c ≡ x → isCode x ≡ true → (codesFor s x ≡ lettersCode ∷ codesFor (sender 1 0) x) × (senderFor s x ≡ senderFor (sender 1 0) x)
+      go : (x : Sends) → sends Baudot c ≡ x → isCode x ≡ true → GoesOn x
       go Nothing e b = absurd (false≢true b)
       go (Code own k) e b = fresh-code own k (own-range c own k h e .0) (own-range c own k h e .1)

@@ -31,13 +31,15 @@ unfolding passes meetAt
 meet-test = tt
 
 -- a code's shift and the shift in force have no common bit exactly where they differ
-pub meet-differs : (own shift : ℕ) → 1 ≤ own → own ≤ 3 → 1 ≤ shift → shift ≤ 2 → eqb (bitAnd own shift) 0 ≡ differs own shift
+pub meet-differs : (own shift : ℕ) → 1 ≤ own → own ≤ 3 → 1 ≤ shift → shift ≤ 2
+    → eqb (bitAnd own shift) 0 ≡ differs own shift
 unfolding meetAt
 meet-differs own shift a b c d =
     let q : (own * 4 + shift) / 4 ≡ own = omega arith in
     let m : (own * 4 + shift) % 4 ≡ shift = omega arith in
     let t = passes-at meetAt 16 meet-test (own * 4 + shift) (omega arith) in
-    agreed (eqb (bitAnd own shift) 0) (differs own shift) (simp (q, m, le-leb 1 own a, le-leb 1 shift c, le-leb shift 2 d) at t)
+    agreed (eqb (bitAnd own shift) 0) (differs own shift)
+    (simp (q, m, le-leb 1 own a, le-leb 1 shift c, le-leb shift 2 d) at t)
 
 module _ (s : Sender) (own : ℕ) (r : Running s) where
   not-fresh : eqb (s .shift) 0 ≡ false
@@ -85,7 +87,8 @@ module _ (s : Sender) (own : ℕ) (r : Running s) (lo : 1 ≤ own) (hi : own ≤
 
   unwanted : (w : ℕ) → 1 ≤ w → w ≤ 2 → differs own w ≡ false → Ahead w
   unwanted w l h d =
-      record { low = l; high = h; then-none = wanted-none (sender w 0) own (record { shift-low = l; shift-in = h; count-in = omega arith }) d (omega arith) }
+      let r : Running (sender w 0) = record { shift-low = l; shift-in = h; count-in = omega arith } in
+      record { low = l; high = h; then-none = wanted-none (sender w 0) own r d (omega arith) }
 
   different : differs own (s .shift) ≡ true → own ≤ 2
   different d = go (eqb own 3) refl
@@ -99,12 +102,19 @@ module _ (s : Sender) (own : ℕ) (r : Running s) (lo : 1 ≤ own) (hi : own ≤
   ahead = by-shift (differs own (s .shift)) refl
     where
       by-count : (b : Bool) → leb 72 (s .count) ≡ b → differs own (s .shift) ≡ false → NoneAhead ⊎ Ahead (wanted s own)
-      by-count true e d = inr (rw (wanted-again s own r d (leb-true 72 (s .count) e)) (unwanted (s .shift) (r .shift-low) (r .shift-in) d))
-      by-count false e d = let l = leb-false 72 (s .count) e in inl (record { none = wanted-none s own r d l; below = l })
+      by-count true e d =
+          rw (wanted-again s own r d (leb-true 72 (s .count) e))
+          (inr (unwanted (s .shift) (r .shift-low) (r .shift-in) d))
+      by-count false e d =
+          let l = leb-false 72 (s .count) e in
+          inl (record { none = wanted-none s own r d l; below = l })
 
       by-shift : (b : Bool) → differs own (s .shift) ≡ b → NoneAhead ⊎ Ahead (wanted s own)
       by-shift true d = inr (rw (wanted-change s own r d) (unwanted own lo (different d) (differs-self own)))
       by-shift false d = by-count (leb 72 (s .count)) refl d
+
+  some-wanted : Ahead (wanted s own) → eqb (wanted s own) 0 ≡ false
+  some-wanted a = ne-eqb (wanted s own) 0 (λ (e : wanted s own ≡ 0). let l = a .low in omega arith)
 
   module _ (k : LineCode) where
     -- no shift code is wanted: the code alone, and one more character
@@ -119,18 +129,20 @@ module _ (s : Sender) (own : ℕ) (r : Running s) (lo : 1 ≤ own) (hi : own ≤
     -- a shift code is wanted: it comes first, and the character is the first after it
     pub codes-some : Ahead (wanted s own) → codesFor s (Code own k) ≡ shiftCode (wanted s own) ∷ k .0 ∷ []
     unfolding codesFor
-    codes-some a = simp (ne-eqb (wanted s own) 0 (λ (e : wanted s own ≡ 0). let l = a .low in omega arith), a .then-none)
+    codes-some a = simp (some-wanted a, a .then-none)
 
     pub sender-some : Ahead (wanted s own) → senderFor s (Code own k) ≡ sender (wanted s own) 1
     unfolding senderFor
-    sender-some a = simp (ne-eqb (wanted s own) 0 (λ (e : wanted s own ≡ 0). let l = a .low in omega arith), a .then-none)
+    sender-some a = simp (some-wanted a, a .then-none)
 
     -- a running sender stays so
     running-code : Running (senderFor s (Code own k))
     running-code = ⊎-elim by-none by-some ahead
       where
         by-none : NoneAhead → Running (senderFor s (Code own k))
-        by-none n = rw (sender-none (n .none)) (record { shift-low = r .shift-low; shift-in = r .shift-in; count-in = let b = n .below in omega arith })
+        by-none n =
+            let b : s .count + 1 ≤ 72 = let l = n .below in omega arith in
+            rw (sender-none (n .none)) (record { shift-low = r .shift-low; shift-in = r .shift-in; count-in = b })
 
         by-some : Ahead (wanted s own) → Running (senderFor s (Code own k))
         by-some a = rw (sender-some a) (record { shift-low = a .low; shift-in = a .high; count-in = omega arith })
@@ -162,7 +174,8 @@ module _ (s : Sender) (own : ℕ) (k : LineCode) (r : Running s) (lo : 1 ≤ own
       by-none : NoneAhead s own r lo hi → length (codesFor s (Code own k)) ≡ length (shiftCodes (wanted s own)) + 1
       by-none n = ap length (codes-none s own r lo hi k (n .none)) ∙ (simp (n .none))
 
-      by-some : Ahead s own r lo hi (wanted s own) → length (codesFor s (Code own k)) ≡ length (shiftCodes (wanted s own)) + 1
+      by-some : Ahead s own r lo hi (wanted s own)
+          → length (codesFor s (Code own k)) ≡ length (shiftCodes (wanted s own)) + 1
       by-some a =
           let l = a .low in
           let o = shifts-one (wanted s own) (λ (e : wanted s own ≡ 0). omega arith) in
@@ -175,9 +188,7 @@ module _ (s : Sender) (own : ℕ) (k : LineCode) (r : Running s) (lo : 1 ≤ own
       by-none n = sender-none s own r lo hi k (n .none) ∙ (simp (n .none))
 
       by-some : Ahead s own r lo hi (wanted s own) → senderFor s (Code own k) ≡ counted (shifted s (wanted s own))
-      by-some a =
-          let l = a .low in
-          sender-some s own r lo hi k a ∙ (simp (ne-eqb (wanted s own) 0 (λ (e : wanted s own ≡ 0). omega arith)))
+      by-some a = sender-some s own r lo hi k a ∙ (simp (some-wanted s own r lo hi a))
 
   pub shifted-count : shifted s (wanted s own) .count ≤ 72
   shifted-count = go (eqb (wanted s own) 0)
@@ -203,12 +214,14 @@ codes-two s c h r = go (sends Baudot c) refl
         few false = omega arith
 
 -- and for a text at most twice its length
-pub codes-twice : (s : Sender) (cs : List ℕ) → allChars cs ≡ true → (0 < length cs → Running s) → length (codesOf s cs) ≤ 2 * length cs
+pub codes-twice : (s : Sender) (cs : List ℕ) → allChars cs ≡ true → (0 < length cs → Running s)
+    → length (codesOf s cs) ≤ 2 * length cs
 unfolding codesOf
 codes-twice s [] t r = omega arith
 codes-twice s (c ∷ cs) t r =
     let h = at-most-head 0x7f c cs t in
     let g = r (omega arith) in
     let a = codes-two s c (omega arith) g in
-    let b = codes-twice (senderFor s (sends Baudot c)) cs (at-most-tail 0x7f c cs t) (λ _. running-for s c (omega arith) g) in
+    let f = running-for s c (omega arith) g in
+    let b = codes-twice (senderFor s (sends Baudot c)) cs (at-most-tail 0x7f c cs t) (λ _. f) in
     rw length-append (omega arith)

@@ -32,7 +32,8 @@ pub record Listed (codes lines₀ lines : List ℕ) (i : ℕ) : Type 0 where
   pub slice : sets lines (6 * i) (linesOf (drop i codes)) ≡ sets lines₀ 0 (linesOf codes)
 
 module _ (codes lines₀ lines : List ℕ) (i : ℕ) (l : Listed codes lines₀ lines i) where
-  pub listed-turn : (after : List ℕ) → i < length codes → after ≡ sets lines (6 * i) (lineOf (getD codes i 0)) → Listed codes lines₀ after (i + 1)
+  pub listed-turn : (after : List ℕ) → i < length codes
+      → after ≡ sets lines (6 * i) (lineOf (getD codes i 0)) → Listed codes lines₀ after (i + 1)
   unfolding linesOf
   listed-turn after h e =
       let k = lineOf (getD codes i 0) in
@@ -43,7 +44,9 @@ module _ (codes lines₀ lines : List ℕ) (i : ℕ) (l : Listed codes lines₀ 
         slice =
             ap (λ (x : List ℕ). sets x (6 * (i + 1)) (linesOf (drop (i + 1) codes))) e
             ∙ ap (λ (m : ℕ). sets (sets lines (6 * i) k) m (linesOf (drop (i + 1) codes))) (sym n)
-            ∙ sym (sets-append lines (6 * i) k (linesOf (drop (i + 1) codes))) ∙ ap (sets lines (6 * i)) (sym d) ∙ l .slice;
+            ∙ sym (sets-append lines (6 * i) k (linesOf (drop (i + 1) codes)))
+            ∙ ap (sets lines (6 * i)) (sym d)
+            ∙ l .slice;
       }
 
   pub listed-end : length codes ≤ i → lines ≡ sets lines₀ 0 (linesOf codes)
@@ -54,7 +57,8 @@ pub listed-start : (codes lines : List ℕ) → Listed codes lines lines 0
 listed-start codes lines = record { size = refl; slice = refl }
 
 -- a fresh sender's codes are at most twice the text and one more
-pub fresh-bound : (text : List ℕ) → allChars text ≡ true → (s : Sender) → s .shift ≡ 0 → length (codesOf s text) ≤ 2 * length text + 1
+pub fresh-bound : (text : List ℕ) → allChars text ≡ true → (s : Sender) → s .shift ≡ 0
+    → length (codesOf s text) ≤ 2 * length text + 1
 unfolding codesFor senderFor codesOf
 fresh-bound [] t s z = omega arith
 fresh-bound (c ∷ cs) t s z = go (sends Baudot c) refl (fresh-bound cs (at-most-tail 0x7f c cs t) s z)
@@ -109,8 +113,10 @@ module _ (text codes : List ℕ) (room : 2 * length text + 1 ≤ length codes) w
           absurd (omega arith)
 
 -- six stores, one behind the other, are a line
-pub six-stores : (l : List ℕ) (at k a b c d e : ℕ) → a ≡ digit (k / 16) → b ≡ digit (k / 8) → c ≡ digit (k / 4) → d ≡ digit (k / 2) → e ≡ digit k
-    → set (set (set (set (set (set l at a) (at + 1) b) (at + 2) c) (at + 3) d) (at + 4) e) (at + 5) 10 ≡ sets l at (lineOf k)
+pub six-stores : (l : List ℕ) (at k a b c d e : ℕ)
+    → a ≡ digit (k / 16) → b ≡ digit (k / 8) → c ≡ digit (k / 4) → d ≡ digit (k / 2) → e ≡ digit k
+    → set (set (set (set (set (set l at a) (at + 1) b) (at + 2) c) (at + 3) d) (at + 4) e) (at + 5) 10
+    ≡ sets l at (lineOf k)
 six-stores l at k a b c d e p q r s t = simp (p, q, r, s, t, add-one, add-two, add-three, add-four, add-five)
 
 -- What the listing leaves: the length, and the lines.
@@ -122,11 +128,15 @@ module _ (text lines : List ℕ) where
   pub printed-none : listing text ≡ [] → Printed 0 lines
   printed-none e = record { length-is = simp e; lines-are = simp e }
 
-  pub printed-all : (ks part : List ℕ) (m : ℕ) (after : List ℕ) → listing text ≡ linesOf ks → m ≡ length ks → part ≡ ks
+  pub printed-all : (ks part : List ℕ) (m : ℕ) (after : List ℕ)
+      → listing text ≡ linesOf ks → m ≡ length ks → part ≡ ks
       → 6 * length ks ≤ length lines → after ≡ sets lines 0 (linesOf part) → Printed (6 * m) after
   printed-all ks part m after e q f h g =
       let n = lines-length ks in
       record {
         length-is = ap (λ (x : ℕ). 6 * x) q ∙ sym n ∙ ap length (sym e);
-        lines-are = g ∙ ap (λ (x : List ℕ). sets lines 0 (linesOf x)) f ∙ sets-front lines (linesOf ks) (omega arith) ∙ (rw e);
+        lines-are =
+            g ∙ ap (λ (x : List ℕ). sets lines 0 (linesOf x)) f
+            ∙ sets-front lines (linesOf ks) (omega arith)
+            ∙ (rw e);
       }

@@ -62,7 +62,9 @@ module _ (codes : List ℕ) (shift : ℕ) (text : List ℕ) where
       read-yes h = simp (in-range, c, le-leb (length (textOf shift codes)) (length text) h)
 
   pub read-accepted : reply ≡ 0 → length (textOf shift codes) ≤ length text → (t : Taken) (after : List ℕ)
-      → t ≡ record { at = length (textOf shift codes); shift = shiftAfter shift codes } → after ≡ sets text 0 (textOf shift codes)
+      → t ≡ record { at = length (textOf shift codes); shift = shiftAfter shift codes }
+      → after ≡ sets text 0 (textOf shift codes)
       → Read (read 0 (t .shift) (t .at)) after
   unfolding readOf textAfter
-  read-accepted e h t after et ea = record { result = rw et (simp e); slice = ea ∙ sets-front text (textOf shift codes) h ∙ (simp e) }
+  read-accepted e h t after et ea =
+      record { result = rw et (simp e); slice = ea ∙ sets-front text (textOf shift codes) h ∙ (simp e) }

@@ -27,11 +27,13 @@ module _ (codes : List ℕ) (s i : ℕ) where
   got k = charsOf (readBaudot s k)
 
   pub text-left : i < length codes
-      → textOf s (drop i codes) ≡ got (getD codes i 0) ++ textOf (shiftBy s (readBaudot s (getD codes i 0))) (drop (i + 1) codes)
+      → textOf s (drop i codes)
+      ≡ got (getD codes i 0) ++ textOf (shiftBy s (readBaudot s (getD codes i 0))) (drop (i + 1) codes)
   unfolding textOf
   text-left h = rw (add-one, drop-cons codes i 0 h)
 
-  pub shift-left : i < length codes → shiftAfter s (drop i codes) ≡ shiftAfter (shiftBy s (readBaudot s (getD codes i 0))) (drop (i + 1) codes)
+  pub shift-left : i < length codes
+      → shiftAfter s (drop i codes) ≡ shiftAfter (shiftBy s (readBaudot s (getD codes i 0))) (drop (i + 1) codes)
   unfolding shiftAfter
   shift-left h = rw (add-one, drop-cons codes i 0 h)
 
@@ -51,7 +53,8 @@ shift-kept : (s k : ℕ) → InShift s → InShift (shiftBy s (readBaudot s k))
 unfolding readBaudot
 shift-kept s k r = go (eqb k lettersCode) refl (eqb k figuresCode) refl
   where
-    go : (a : Bool) → eqb k lettersCode ≡ a → (b : Bool) → eqb k figuresCode ≡ b → InShift (shiftBy s (readBaudot s k))
+    go : (a : Bool) → eqb k lettersCode ≡ a → (b : Bool) → eqb k figuresCode ≡ b
+        → InShift (shiftBy s (readBaudot s k))
     go true e b f = simp e (omega arith, omega arith)
     go false e true f = simp (e, f) (omega arith, omega arith)
     go false e false f = simp (e, f) r
@@ -101,7 +104,8 @@ module _ (codes text₀ : List ℕ) (s₀ : ℕ) where
 
     pub reading-end : length codes ≤ i → t ≡ record { at = length (textOf s₀ codes); shift = shiftAfter s₀ codes }
     reading-end h =
-        let a = sym (r .place) ∙ ap (λ (l : List ℕ). t .at + length l) (text-end codes (t .shift) i h) ∙ add-zero (t .at) in
+        let n = ap (λ (l : List ℕ). t .at + length l) (text-end codes (t .shift) i h) in
+        let a = sym (r .place) ∙ n ∙ add-zero (t .at) in
         let b = sym (shift-end codes (t .shift) i h) ∙ r .shift in
         λ k. record { at = sym a k; shift = b k }
 
@@ -109,7 +113,8 @@ module _ (codes text₀ : List ℕ) (s₀ : ℕ) where
     slice-end h = ap (sets text (t .at)) (sym (text-end codes (t .shift) i h)) ∙ r .slice
 
 -- the shift codes that are left
-pub shifts-left : (ks : List ℕ) (i : ℕ) → i < length ks → shiftsIn (drop i ks) ≡ shiftOne (getD ks i 0) + shiftsIn (drop (i + 1) ks)
+pub shifts-left : (ks : List ℕ) (i : ℕ) → i < length ks
+    → shiftsIn (drop i ks) ≡ shiftOne (getD ks i 0) + shiftsIn (drop (i + 1) ks)
 unfolding shiftsIn
 shifts-left ks i h = rw (add-one, drop-cons ks i 0 h)
 
@@ -118,11 +123,14 @@ unfolding shiftsIn
 shifts-end ks i h = rw (drop-of-length-le ks h)
 
 -- a block, and what is behind it
-pub shifts-block : (ks : List ℕ) (i e : ℕ) → i ≤ e → shiftsIn (drop i ks) ≡ shiftsIn (take (e - i) (drop i ks)) + shiftsIn (drop e ks)
+pub shifts-block : (ks : List ℕ) (i e : ℕ) → i ≤ e
+    → shiftsIn (drop i ks) ≡ shiftsIn (take (e - i) (drop i ks)) + shiftsIn (drop e ks)
 shifts-block ks i e h =
     let d : i + (e - i) ≡ e = omega arith in
-    ap shiftsIn (sym (take-append-drop (e - i) (drop i ks))) ∙ shifts-append (take (e - i) (drop i ks)) (drop (e - i) (drop i ks))
-    ∙ ap (λ (l : List ℕ). shiftsIn (take (e - i) (drop i ks)) + shiftsIn l) (drop-drop (e - i) i ks ∙ ap (λ (n : ℕ). drop n ks) d)
+    ap shiftsIn (sym (take-append-drop (e - i) (drop i ks)))
+    ∙ shifts-append (take (e - i) (drop i ks)) (drop (e - i) (drop i ks))
+    ∙ ap (λ (l : List ℕ). shiftsIn (take (e - i) (drop i ks)) + shiftsIn l)
+    (drop-drop (e - i) i ks ∙ ap (λ (n : ℕ). drop n ks) d)
 
 pub record Block (at len e : ℕ) : Type 0 where
   pub after : at < e
@@ -134,7 +142,9 @@ block-of at len e h q = rw q (go (leb (len - at) 128) refl)
   where
     go : (b : Bool) → leb (len - at) 128 ≡ b → Block at len (cond b len (at + 128))
     go true f = let l = leb-true (len - at) 128 f in record { after = h; within = omega arith; short = omega arith }
-    go false f = let l = leb-false (len - at) 128 f in record { after = omega arith; within = omega arith; short = omega arith }
+    go false f =
+        let l = leb-false (len - at) 128 f in
+        record { after = omega arith; within = omega arith; short = omega arith }
 
 -- What a code that is read leaves: the place and shift after it, and the slice.
 module _ (text : List ℕ) (at s : ℕ) where
@@ -142,7 +152,8 @@ module _ (text : List ℕ) (at s : ℕ) where
     pub placed : t ≡ record { at = at + length (charsOf x); shift = shiftBy s x }
     pub stored : after ≡ sets text at (charsOf x)
 
-  pub got-character : (x : Reads) (c : Char) → x ≡ Character c → Got x (record { at = at + 1; shift = s }) (set text at (c .0))
+  pub got-character : (x : Reads) (c : Char) → x ≡ Character c
+      → Got x (record { at = at + 1; shift = s }) (set text at (c .0))
   got-character x c e = record { placed = simp e; stored = simp e }
 
   pub got-shift : (x : Reads) (v : ℕ) → x ≡ Shift v → Got x (record { at = at; shift = v }) text
@@ -151,5 +162,6 @@ module _ (text : List ℕ) (at s : ℕ) where
   pub got-none : (x : Reads) → x ≡ NoRow → Got x (record { at = at; shift = s }) text
   got-none x e = record { placed = simp (e, add-zero); stored = simp e }
 
-  pub room-character : (x : Reads) (c : Char) → x ≡ Character c → at + length (charsOf x) ≤ length text → at < length text
+  pub room-character : (x : Reads) (c : Char) → x ≡ Character c
+      → at + length (charsOf x) ≤ length text → at < length text
   room-character x c e h = let n : length (charsOf x) ≡ 1 = simp e in omega arith

@@ -50,22 +50,29 @@ module _ (text : List ℕ) (shift count : ℕ) (codes : List ℕ) where
     module _ (c : allChars text ≡ true) where
       pub no-room : length codes < length (codesOf (sender shift count) text) → answer ≡ 9
       unfolding sendAnswer
-      no-room h = simp (le-leb shift 2 a, le-leb count 72 b, c, lt-leb (length (codesOf (sender shift count) text)) (length codes) h)
+      no-room h =
+          let f = lt-leb (length (codesOf (sender shift count) text)) (length codes) h in
+          simp (le-leb shift 2 a, le-leb count 72 b, c, f)
 
       pub yes : length (codesOf (sender shift count) text) ≤ length codes → answer ≡ 0
       unfolding sendAnswer
-      yes h = simp (le-leb shift 2 a, le-leb count 72 b, c, le-leb (length (codesOf (sender shift count) text)) (length codes) h)
+      yes h =
+          let f = le-leb (length (codesOf (sender shift count) text)) (length codes) h in
+          simp (le-leb shift 2 a, le-leb count 72 b, c, f)
 
   -- success: the sender reached, and the codes written from the front
   module _ (o : Opening) (is : Opened text (sender shift count) o) where
     abbrev all : List ℕ
     all = openingCodes (o .at) ++ codesOf (o .sender) (drop (o .from) text)
 
-    opening-length : o .at + length (codesOf (o .sender) (drop (o .from) text)) ≡ length (codesOf (sender shift count) text)
+    abbrev rest : List ℕ
+    rest = codesOf (o .sender) (drop (o .from) text)
+
+    opening-length : o .at + length rest ≡ length (codesOf (sender shift count) text)
     opening-length = go (o .at) (is .at-in) (ap length (is .codes-are))
       where
-        go : (n : ℕ) → n ≤ 1 → length (codesOf (sender shift count) text) ≡ length (openingCodes n ++ codesOf (o .sender) (drop (o .from) text))
-            → n + length (codesOf (o .sender) (drop (o .from) text)) ≡ length (codesOf (sender shift count) text)
+        go : (n : ℕ) → n ≤ 1 → length (codesOf (sender shift count) text) ≡ length (openingCodes n ++ rest)
+            → n + length rest ≡ length (codesOf (sender shift count) text)
         go zero h e = omega arith
         go (suc zero) h e = omega arith
         go (suc (suc n)) h e = absurd (omega arith)
@@ -77,8 +84,10 @@ module _ (text : List ℕ) (shift count : ℕ) (codes : List ℕ) where
     pub room-is : length (codesOf (sender shift count) text) ≤ length codes → length all ≤ length codes
     room-is h = rw (is .codes-are) at h
 
-    pub accepted : answer ≡ 0 → length (codesOf (sender shift count) text) ≤ length codes → (p : Placed) (after : List ℕ)
-        → p ≡ record { at = length all; sender = senderAfter (o .sender) (drop (o .from) text) } → after ≡ sets codes 0 all
+    pub accepted : answer ≡ 0 → length (codesOf (sender shift count) text) ≤ length codes
+        → (p : Placed) (after : List ℕ)
+        → p ≡ record { at = length all; sender = senderAfter (o .sender) (drop (o .from) text) }
+        → after ≡ sets codes 0 all
         → Sent (sent 0 (p .sender .shift) (p .sender .count) (p .at)) after
     unfolding sentOf codesAfter
     accepted e h p after ep ea =

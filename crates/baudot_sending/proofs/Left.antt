@@ -17,9 +17,20 @@ use Rattle.baudot.proofs.SendingRule.{running-for}
 
 module _ (text : List ℕ) (s : Sender) (i : ℕ) where
   pub codes-left : i < length text
-      → codesOf s (drop i text) ≡ codesFor s (sends Baudot (getD text i 0)) ++ codesOf (senderFor s (sends Baudot (getD text i 0))) (drop (i + 1) text)
+      → codesOf s (drop i text)
+      ≡ codesFor s (sends Baudot (getD text i 0))
+      ++ codesOf (senderFor s (sends Baudot (getD text i 0))) (drop (i + 1) text)
   unfolding codesOf
   codes-left h = rw (add-one, drop-cons text i 0 h)
+
+  -- and their number
+  length-left : i < length text
+      → length (codesOf s (drop i text))
+      ≡ length (codesFor s (sends Baudot (getD text i 0)))
+      + length (codesOf (senderFor s (sends Baudot (getD text i 0))) (drop (i + 1) text))
+  length-left h =
+      let x = sends Baudot (getD text i 0) in
+      ap length (codes-left h) ∙ length-append (codesFor s x) (codesOf (senderFor s x) (drop (i + 1) text))
 
   pub sender-left : i < length text
       → senderAfter s (drop i text) ≡ senderAfter (senderFor s (sends Baudot (getD text i 0))) (drop (i + 1) text)
@@ -47,13 +58,13 @@ module _ (text : List ℕ) (p₀ : Placed) (i₀ : ℕ) where
   module _ (p : Placed) (i : ℕ) (l : Left text p₀ i₀ p i) where
     -- one character more
     pub left-turn : (q : Placed) → i < length text → getD text i 0 < 128
-        → q ≡ record { at = p .at + length (codesFor (p .sender) (sends Baudot (getD text i 0))); sender = senderFor (p .sender) (sends Baudot (getD text i 0)) }
+        → q ≡ record {
+          at = p .at + length (codesFor (p .sender) (sends Baudot (getD text i 0)));
+          sender = senderFor (p .sender) (sends Baudot (getD text i 0));
+        }
         → Left text p₀ i₀ q (i + 1)
     left-turn q h g e =
-        let x = sends Baudot (getD text i 0) in
-        let n = codesFor (p .sender) x in
-        let m = codesOf (senderFor (p .sender) x) (drop (i + 1) text) in
-        let a : length (codesOf (p .sender) (drop i text)) ≡ length n + length m = ap length (codes-left text (p .sender) i h) ∙ length-append n m in
+        let a = length-left text (p .sender) i h in
         let b = l .place in
         rw e
         (record {
@@ -66,18 +77,19 @@ module _ (text : List ℕ) (p₀ : Placed) (i₀ : ℕ) where
     pub left-room : (room : ℕ) → i < length text → p₀ .at + length (codesOf (p₀ .sender) (drop i₀ text)) ≤ room
         → p .at + length (codesFor (p .sender) (sends Baudot (getD text i 0))) ≤ room
     left-room room h g =
-        let x = sends Baudot (getD text i 0) in
-        let n = codesFor (p .sender) x in
-        let m = codesOf (senderFor (p .sender) x) (drop (i + 1) text) in
-        let a : length (codesOf (p .sender) (drop i text)) ≡ length n + length m = ap length (codes-left text (p .sender) i h) ∙ length-append n m in
+        let a = length-left text (p .sender) i h in
         let b = l .place in
         omega arith
 
     -- nothing is left
     pub left-end : length text ≤ i
-        → p ≡ record { at = p₀ .at + length (codesOf (p₀ .sender) (drop i₀ text)); sender = senderAfter (p₀ .sender) (drop i₀ text) }
+        → p ≡ record {
+          at = p₀ .at + length (codesOf (p₀ .sender) (drop i₀ text));
+          sender = senderAfter (p₀ .sender) (drop i₀ text);
+        }
     left-end h =
-        let a = sym (l .place) ∙ ap (λ (xs : List ℕ). p .at + length xs) (codes-end text (p .sender) i h) ∙ add-zero (p .at) in
+        let n = ap (λ (xs : List ℕ). p .at + length xs) (codes-end text (p .sender) i h) in
+        let a = sym (l .place) ∙ n ∙ add-zero (p .at) in
         let b = sym (sender-end text (p .sender) i h) ∙ l .sender in
         λ k. record { at = sym a k; sender = b k }
 
@@ -85,7 +97,8 @@ module _ (text : List ℕ) (p₀ : Placed) (i₀ : ℕ) where
 pub record Writing (text codes₀ : List ℕ) (p₀ : Placed) (i₀ : ℕ) (codes : List ℕ) (p : Placed) (i : ℕ) : Type 0 where
   pub left : Left text p₀ i₀ p i
   pub size : length codes ≡ length codes₀
-  pub slice : sets codes (p .at) (codesOf (p .sender) (drop i text)) ≡ sets codes₀ (p₀ .at) (codesOf (p₀ .sender) (drop i₀ text))
+  pub slice : sets codes (p .at) (codesOf (p .sender) (drop i text))
+      ≡ sets codes₀ (p₀ .at) (codesOf (p₀ .sender) (drop i₀ text))
 
 module _ (text codes₀ : List ℕ) (p₀ : Placed) (i₀ : ℕ) where
   pub writing-start : (i₀ < length text → Running (p₀ .sender)) → Writing text codes₀ p₀ i₀ codes₀ p₀ i₀
@@ -93,7 +106,10 @@ module _ (text codes₀ : List ℕ) (p₀ : Placed) (i₀ : ℕ) where
 
   module _ (codes : List ℕ) (p : Placed) (i : ℕ) (w : Writing text codes₀ p₀ i₀ codes p i) where
     pub writing-turn : (q : Placed) (after : List ℕ) → i < length text → getD text i 0 < 128
-        → q ≡ record { at = p .at + length (codesFor (p .sender) (sends Baudot (getD text i 0))); sender = senderFor (p .sender) (sends Baudot (getD text i 0)) }
+        → q ≡ record {
+          at = p .at + length (codesFor (p .sender) (sends Baudot (getD text i 0)));
+          sender = senderFor (p .sender) (sends Baudot (getD text i 0));
+        }
         → after ≡ sets codes (p .at) (codesFor (p .sender) (sends Baudot (getD text i 0)))
         → Writing text codes₀ p₀ i₀ after q (i + 1)
     writing-turn q after h g e f =

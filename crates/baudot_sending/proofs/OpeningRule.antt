@@ -36,7 +36,8 @@ nothing-of : (x : Sends) → isCode x ≡ false → x ≡ Nothing
 nothing-of Nothing e = refl
 nothing-of (Code own k) e = absurd (false≢true (sym e))
 
-pub quiet-turn : (text : List ℕ) (n : ℕ) → Quiet text n → n < length text → isCode (sends Baudot (getD text n 0)) ≡ false → Quiet text (n + 1)
+pub quiet-turn : (text : List ℕ) (n : ℕ) → Quiet text n → n < length text
+    → isCode (sends Baudot (getD text n 0)) ≡ false → Quiet text (n + 1)
 unfolding codesFor senderFor
 quiet-turn text n q h e =
     let x = nothing-of (sends Baudot (getD text n 0)) e in
@@ -46,8 +47,10 @@ quiet-turn text n q h e =
       same-sender = λ s. q .same-sender s ∙ sender-left text s n h ∙ (simp x);
     }
 
-pub quiet-silent : (text : List ℕ) (n : ℕ) → Quiet text n → (n < length text → isCode (sends Baudot (getD text n 0)) ≡ true) → Silent text n
-quiet-silent text n q c = record { within = q .within; same-codes = q .same-codes; same-sender = q .same-sender; then-code = c }
+pub quiet-silent : (text : List ℕ) (n : ℕ) → Quiet text n
+    → (n < length text → isCode (sends Baudot (getD text n 0)) ≡ true) → Silent text n
+quiet-silent text n q c =
+    record { within = q .within; same-codes = q .same-codes; same-sender = q .same-sender; then-code = c }
 
 -- a fresh sender's first shift code
 module _ (s : Sender) (fresh : s .shift ≡ 0) where
@@ -62,12 +65,14 @@ module _ (s : Sender) (fresh : s .shift ≡ 0) where
         from-in = q .within;
         running = λ _. running-letters;
         codes-are =
-            q .same-codes s ∙ codes-left text s n h ∙ (simp (f .0, f .1)) ∙ ap (λ (l : List ℕ). lettersCode ∷ l) (sym (codes-left text (sender 1 0) n h));
+            q .same-codes s ∙ codes-left text s n h ∙ (simp (f .0, f .1))
+            ∙ ap (λ (l : List ℕ). lettersCode ∷ l) (sym (codes-left text (sender 1 0) n h));
         sender-is = q .same-sender s ∙ sender-left text s n h ∙ (simp (f .1)) ∙ sym (sender-left text (sender 1 0) n h);
       }
 
 -- with none
-pub open-none : (s : Sender) (text : List ℕ) (n : ℕ) → Silent text n → length text ≤ n → Opened text s (record { from = n; at = 0; sender = s })
+pub open-none : (s : Sender) (text : List ℕ) (n : ℕ) → Silent text n → length text ≤ n
+    → Opened text s (record { from = n; at = 0; sender = s })
 open-none s text n q h =
     record {
       at-in = omega arith;
@@ -78,11 +83,13 @@ open-none s text n q h =
     }
 
 -- The room for the codes of a text that is taken up.
-module _ (text : List ℕ) (from at : ℕ) (s : Sender) (room : ℕ) (chars : allChars text ≡ true) (r : from < length text → Running s) where
+module _ (text : List ℕ) (from at : ℕ) (s : Sender) (room : ℕ) (chars : allChars text ≡ true)
+    (r : from < length text → Running s) where
   pub codes-bound : length (codesOf s (drop from text)) ≤ 2 * length text
   codes-bound =
       let d = length-drop from text in
-      let b = codes-twice s (drop from text) (at-most-drop 0x7f text from chars) (λ (h : 0 < length (drop from text)). r (omega arith)) in
+      let g : 0 < length (drop from text) → Running s = λ h. r (omega arith) in
+      let b = codes-twice s (drop from text) (at-most-drop 0x7f text from chars) g in
       omega arith
 
   pub room-enough : at ≤ 1 → length text < room - room / 2 → true ≡ leb (at + length (codesOf s (drop from text))) room
@@ -102,16 +109,19 @@ module _ (text codes : List ℕ) (o : Opening) where
   pub opened-zero : o .at ≤ 1 → (o .at ≡ 1 → ⊥) → all ≡ rest
   opened-zero h n = let z : o .at ≡ 0 = omega arith in simp z
 
-  pub placed-one : o .at ≡ 1 → (p : Placed) → p ≡ record { at = 1 + length rest; sender = senderAfter (o .sender) (drop (o .from) text) }
+  pub placed-one : o .at ≡ 1 → (p : Placed)
+      → p ≡ record { at = 1 + length rest; sender = senderAfter (o .sender) (drop (o .from) text) }
       → p ≡ record { at = length all; sender = senderAfter (o .sender) (drop (o .from) text) }
   placed-one e p q =
       let n : 1 + length rest ≡ length all = let l = ap length (opened-one e) in omega arith in
       q ∙ (λ i. record { at = n i; sender = senderAfter (o .sender) (drop (o .from) text) })
 
-  pub stored-one : o .at ≡ 1 → (k : ℕ) (after : List ℕ) → k ≡ lettersCode → after ≡ sets (set codes 0 k) 1 rest → after ≡ sets codes 0 all
+  pub stored-one : o .at ≡ 1 → (k : ℕ) (after : List ℕ) → k ≡ lettersCode
+      → after ≡ sets (set codes 0 k) 1 rest → after ≡ sets codes 0 all
   stored-one e k after f q = q ∙ ap (λ (n : ℕ). sets (set codes 0 n) 1 rest) f ∙ ap (sets codes 0) (sym (opened-one e))
 
-  pub placed-zero : o .at ≤ 1 → (o .at ≡ 1 → ⊥) → (p : Placed) → p ≡ record { at = 0 + length rest; sender = senderAfter (o .sender) (drop (o .from) text) }
+  pub placed-zero : o .at ≤ 1 → (o .at ≡ 1 → ⊥) → (p : Placed)
+      → p ≡ record { at = 0 + length rest; sender = senderAfter (o .sender) (drop (o .from) text) }
       → p ≡ record { at = length all; sender = senderAfter (o .sender) (drop (o .from) text) }
   placed-zero h n p q =
       let m : 0 + length rest ≡ length all = let l = ap length (opened-zero h n) in omega arith in

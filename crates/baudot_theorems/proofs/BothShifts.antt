@@ -16,8 +16,10 @@ use Rattle.baudot.specs.declared.Sender.{Sender}
 use Rattle.baudot.specs.Sending.{shiftCode, wanted, codesFor, senderFor, Running}
 
 -- the four codes, by their characters
-pub four-codes : (sends Baudot 0x08 ≡ Code anyShift (record { 0 = 0b00000 })) × (sends Baudot 0x0a ≡ Code anyShift (record { 0 = 0b00010 }))
-    × (sends Baudot 0x20 ≡ Code anyShift (record { 0 = 0b00100 })) × (sends Baudot 0x0d ≡ Code anyShift (record { 0 = 0b01000 }))
+pub four-codes : (sends Baudot 0x08 ≡ Code anyShift (record { 0 = 0b00000 }))
+    × (sends Baudot 0x0a ≡ Code anyShift (record { 0 = 0b00010 }))
+    × (sends Baudot 0x20 ≡ Code anyShift (record { 0 = 0b00100 }))
+    × (sends Baudot 0x0d ≡ Code anyShift (record { 0 = 0b01000 }))
 unfolding sends sendBaudot printedAt leftRows rightRows rows bits bitsFrom a2
 four-codes = (refl, refl, refl, refl)
 
@@ -32,7 +34,8 @@ both-shifts s r k = go (leb 72 (s .count)) refl
     fresh-not = ne-eqb (s .shift) 0 (λ (e : s .shift ≡ 0). let l = r .shift-low in omega arith)
 
     go : (b : Bool) → leb 72 (s .count) ≡ b
-        → (codesFor s (Code anyShift k) ≡ cond b (shiftCode (s .shift) ∷ k .0 ∷ []) (k .0 ∷ [])) × (senderFor s (Code anyShift k) .shift ≡ s .shift)
+        → (codesFor s (Code anyShift k) ≡ cond b (shiftCode (s .shift) ∷ k .0 ∷ []) (k .0 ∷ []))
+        × (senderFor s (Code anyShift k) .shift ≡ s .shift)
     go true e = (simp (fresh-not, e), simp (fresh-not, e))
     go false e = (simp (fresh-not, e), simp (fresh-not, e))
 

@@ -13,7 +13,8 @@ codes-append s [] ys = refl
 codes-append s (x ∷ xs) ys =
     let t = senderFor s (sends Baudot x) in
     let k = codesFor s (sends Baudot x) in
-    ap (λ (l : List ℕ). k ++ l) (codes-append t xs ys) ∙ sym (append-assoc k (codesOf t xs) (codesOf (senderAfter t xs) ys))
+    ap (λ (l : List ℕ). k ++ l) (codes-append t xs ys)
+    ∙ sym (append-assoc k (codesOf t xs) (codesOf (senderAfter t xs) ys))
 
 pub sender-append : (s : Sender) (xs ys : List ℕ) → senderAfter s (xs ++ ys) ≡ senderAfter (senderAfter s xs) ys
 unfolding senderAfter

@@ -80,9 +80,12 @@ module _ (s : Sender) (c : ℕ) (r : Running s) (h : c < 128) where
     back = rule-of Baudot c h own k e
 
     -- a running sender that wants nothing is read in its own shift
-    own-read : (t : Sender) → Running t → wanted t own ≡ 0 → readBaudot (t .shift) (k .0) ≡ Character (record { 0 = back .char })
+    own-read : (t : Sender) → Running t → wanted t own ≡ 0
+        → readBaudot (t .shift) (k .0) ≡ Character (record { 0 = back .char })
     unfolding reads
-    own-read t q w = reads-in Baudot own k back (t .shift) (one-or-two (t .shift) (q .shift-low) (q .shift-in)) (belongs t own q lo w)
+    own-read t q w =
+        let o = one-or-two (t .shift) (q .shift-low) (q .shift-in) in
+        reads-in Baudot own k back (t .shift) o (belongs t own q lo w)
 
     follows-none : NoneAhead s own r lo hi → Follows s c
     unfolding textOf shiftAfter
@@ -110,10 +113,12 @@ module _ (s : Sender) (c : ℕ) (r : Running s) (h : c < 128) where
     where
       go : (x : Sends) → sends Baudot c ≡ x → Follows s c
       go Nothing e = record { text-is = simp e; shift-is = simp e }
-      go (Code own k) e = ⊎-elim (follows-none own k e) (follows-some own k e) (ahead s own r (lo own k e) (hi own k e))
+      go (Code own k) e =
+          ⊎-elim (follows-none own k e) (follows-some own k e) (ahead s own r (lo own k e) (hi own k e))
 
 -- from a running sender, by a reader in its shift
-pub round-trip-running : (text : List ℕ) → allChars text ≡ true → (s : Sender) → Running s → textOf (s .shift) (codesOf s text) ≡ normalForm Baudot text
+pub round-trip-running : (text : List ℕ) → allChars text ≡ true → (s : Sender) → Running s
+    → textOf (s .shift) (codesOf s text) ≡ normalForm Baudot text
 unfolding codesOf textOf normalForm
 round-trip-running [] t s r = refl
 round-trip-running (c ∷ cs) t s r =
@@ -125,7 +130,8 @@ round-trip-running (c ∷ cs) t s r =
     text-append (s .shift) (codesFor s x) (codesOf (senderFor s x) cs) ∙ (rw (f .text-is, f .shift-is, i))
 
 -- the reader ends in the sender's shift
-pub shift-follows : (text : List ℕ) → allChars text ≡ true → (s : Sender) → Running s → shiftAfter (s .shift) (codesOf s text) ≡ senderAfter s text .shift
+pub shift-follows : (text : List ℕ) → allChars text ≡ true → (s : Sender) → Running s
+    → shiftAfter (s .shift) (codesOf s text) ≡ senderAfter s text .shift
 unfolding codesOf shiftAfter senderAfter
 shift-follows [] t s r = refl
 shift-follows (c ∷ cs) t s r =
@@ -137,21 +143,23 @@ shift-follows (c ∷ cs) t s r =
     shift-append (s .shift) (codesFor s x) (codesOf (senderFor s x) cs) ∙ (rw (f .shift-is, i))
 
 -- from a fresh sender, by a reader in any shift
-pub round-trip-fresh : (text : List ℕ) → allChars text ≡ true → (s : Sender) → s .shift ≡ 0 → (r : ℕ) → textOf r (codesOf s text) ≡ normalForm Baudot text
+pub round-trip-fresh : (text : List ℕ) → allChars text ≡ true → (s : Sender) → s .shift ≡ 0 → (r : ℕ)
+    → textOf r (codesOf s text) ≡ normalForm Baudot text
 unfolding codesFor senderFor codesOf textOf normalForm readBaudot
 round-trip-fresh [] t s z r = refl
 round-trip-fresh (c ∷ cs) t s z r = go (sends Baudot c) refl (round-trip-fresh cs (at-most-tail 0x7f c cs t) s z r)
   where
     go : (x : Sends) → sends Baudot c ≡ x → textOf r (codesOf s cs) ≡ normalForm Baudot cs
-        → textOf r (codesFor s (sends Baudot c) ++ codesOf (senderFor s (sends Baudot c)) cs) ≡ normal Baudot c ++ normalForm Baudot cs
+        → textOf r (codesFor s (sends Baudot c) ++ codesOf (senderFor s (sends Baudot c)) cs)
+        ≡ normal Baudot c ++ normalForm Baudot cs
     go Nothing e i = simp e i
     go (Code own k) e i =
         let g = at-most-head 0x7f c cs t in
         let f = fresh-for s z c (omega arith) (ap isCode e) in
         rw (f .0, f .1) (round-trip-running (c ∷ cs) t (sender 1 0) running-letters)
 
--- For any text, shift and count: reading what was sent, by a reader in any shift if the sender was fresh and else in the
--- sender's, gives the normal form of the text.
+-- For any text, shift and count: reading what was sent, by a reader in any shift if the sender was fresh and else in
+-- the sender's, gives the normal form of the text.
 pub round-trip : (text : List ℕ) → allChars text ≡ true → (shift count : ℕ) → shift ≤ 2 → count ≤ 72
     → (r : ℕ) → (shift ≡ 0) ⊎ (shift ≡ r) → textOf r (codesOf (sender shift count) text) ≡ normalForm Baudot text
 round-trip text t shift count h g r (inl z) = round-trip-fresh text t (sender shift count) z r

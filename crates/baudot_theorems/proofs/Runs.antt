@@ -53,10 +53,14 @@ bounded-text [] t s r = r .count-in
 bounded-text (c ∷ cs) t s r =
     let g = at-most-head 0x7f c cs t in
     let h : c < 128 = omega arith in
-    go h (sends Baudot c) refl (bounded-text cs (at-most-tail 0x7f c cs t) (senderFor s (sends Baudot c)) (running-for s c h r))
+    go h (sends Baudot c) refl
+    (bounded-text cs (at-most-tail 0x7f c cs t) (senderFor s (sends Baudot c)) (running-for s c h r))
   where
-    go : c < 128 → (x : Sends) → sends Baudot c ≡ x → Bounded (senderFor s (sends Baudot c) .count) (codesOf (senderFor s (sends Baudot c)) cs)
-        → Bounded (s .count) (codesFor s (sends Baudot c) ++ codesOf (senderFor s (sends Baudot c)) cs)
+    All : Type 0
+    All = Bounded (s .count) (codesFor s (sends Baudot c) ++ codesOf (senderFor s (sends Baudot c)) cs)
+
+    go : c < 128 → (x : Sends) → sends Baudot c ≡ x
+        → Bounded (senderFor s (sends Baudot c) .count) (codesOf (senderFor s (sends Baudot c)) cs) → All
     go h Nothing e i = rw e (rw e at i)
     go h (Code own k) e i = ⊎-elim by-none by-some (ahead s own r lo hi)
       where
@@ -72,16 +76,17 @@ bounded-text (c ∷ cs) t s r =
         j : Bounded (senderFor s (Code own k) .count) (codesOf (senderFor s (Code own k)) cs)
         j = rw e at i
 
-        by-none : NoneAhead s own r lo hi → Bounded (s .count) (codesFor s (sends Baudot c) ++ codesOf (senderFor s (sends Baudot c)) cs)
+        by-none : NoneAhead s own r lo hi → All
         by-none n =
-            let a = subst Left (sender-none s own r lo hi k (n .none)) j in
-            rw (e, codes-none s own r lo hi k (n .none), sender-none s own r lo hi k (n .none), not-shift c own k h e) (r .count-in, a)
+            let z = sender-none s own r lo hi k (n .none) in
+            rw (e, codes-none s own r lo hi k (n .none), z, not-shift c own k h e) (r .count-in, subst Left z j)
 
-        by-some : Ahead s own r lo hi (wanted s own) → Bounded (s .count) (codesFor s (sends Baudot c) ++ codesOf (senderFor s (sends Baudot c)) cs)
+        by-some : Ahead s own r lo hi (wanted s own) → All
         by-some a =
-            let b = subst Left (sender-some s own r lo hi k a) j in
-            rw (e, codes-some s own r lo hi k a, sender-some s own r lo hi k a, is-shift (wanted s own) (a .low) (a .high), not-shift c own k h e)
-            (r .count-in, (omega arith, b))
+            let z = sender-some s own r lo hi k a in
+            let w = is-shift (wanted s own) (a .low) (a .high) in
+            rw (e, codes-some s own r lo hi k a, z, w, not-shift c own k h e)
+            (r .count-in, (omega arith, subst Left z j))
 
 -- a fresh sender's codes: none, or 11111 and those of a sender in letters
 bounded-fresh : (text : List ℕ) → allChars text ≡ true → (s : Sender) → s .shift ≡ 0 → Bounded 0 (codesOf s text)
@@ -89,7 +94,8 @@ unfolding codesFor senderFor codesOf
 bounded-fresh [] t s z = omega arith
 bounded-fresh (c ∷ cs) t s z = go (sends Baudot c) refl (bounded-fresh cs (at-most-tail 0x7f c cs t) s z)
   where
-    go : (x : Sends) → sends Baudot c ≡ x → Bounded 0 (codesOf s cs) → Bounded 0 (codesFor s (sends Baudot c) ++ codesOf (senderFor s (sends Baudot c)) cs)
+    go : (x : Sends) → sends Baudot c ≡ x → Bounded 0 (codesOf s cs)
+        → Bounded 0 (codesFor s (sends Baudot c) ++ codesOf (senderFor s (sends Baudot c)) cs)
     go Nothing e i = rw e i
     go (Code own k) e i =
         let g = at-most-head 0x7f c cs t in
@@ -112,13 +118,17 @@ stretch n (k ∷ pre) mid post b e = stretch (since n k) pre mid post (b .1) e
 
 -- For any text, shift and count: a stretch of the codes without a shift code has at most 72 codes.
 pub at-most-72 : (text : List ℕ) → allChars text ≡ true → (shift count : ℕ) → shift ≤ 2 → count ≤ 72
-    → (pre mid post : List ℕ) → codesOf (sender shift count) text ≡ pre ++ (mid ++ post) → shiftsIn mid ≡ 0 → length mid ≤ 72
-at-most-72 text t zero count h g pre mid post e n = stretch 0 pre mid post (subst (Bounded 0) e (bounded-fresh text t (sender 0 count) refl)) n
+    → (pre mid post : List ℕ) → codesOf (sender shift count) text ≡ pre ++ (mid ++ post)
+    → shiftsIn mid ≡ 0 → length mid ≤ 72
+at-most-72 text t zero count h g pre mid post e n =
+    stretch 0 pre mid post (subst (Bounded 0) e (bounded-fresh text t (sender 0 count) refl)) n
 at-most-72 text t (suc m) count h g pre mid post e n =
-    stretch count pre mid post
-    (subst (Bounded count) e (bounded-text text t (sender (suc m) count) (record { shift-low = omega arith; shift-in = h; count-in = g }))) n
+    let r : Running (sender (suc m) count) = record { shift-low = omega arith; shift-in = h; count-in = g } in
+    stretch count pre mid post (subst (Bounded count) e (bounded-text text t (sender (suc m) count) r)) n
 
--- The characters that had gone before the call count among them: up to the first shift code there are no more than are left.
+-- The characters that had gone before the call count among them: up to the first shift code there are no more than
+-- are left.
 pub at-most-72-left : (text : List ℕ) → allChars text ≡ true → (s : Sender) → Running s
     → (mid post : List ℕ) → codesOf s text ≡ mid ++ post → shiftsIn mid ≡ 0 → s .count + length mid ≤ 72
-at-most-72-left text t s r mid post e n = run-length (s .count) mid post (subst (Bounded (s .count)) e (bounded-text text t s r)) n
+at-most-72-left text t s r mid post e n =
+    run-length (s .count) mid post (subst (Bounded (s .count)) e (bounded-text text t s r)) n

@@ -29,14 +29,16 @@ held-length e (d ∷ ds) =
     let a = length-append (replicate e (levelOf d)) (held e ds) in
     let b = length-replicate e (levelOf d) in
     let i = held-length e ds in
-    a ∙ ap (λ (n : ℕ). n + length (held e ds)) b ∙ ap (λ (n : ℕ). e + n) i ∙ sym (mul-suc e (length ds) ∙ add-comm (e * length ds) e)
+    a ∙ ap (λ (n : ℕ). n + length (held e ds)) b ∙ ap (λ (n : ℕ). e + n) i
+    ∙ sym (mul-suc e (length ds) ∙ add-comm (e * length ds) e)
 
 -- start, five elements, stop
 pub baudot-length : (e k : ℕ) → length (baudotSignal e k) ≡ e * 6 + 3 * e / 2
 unfolding baudotSignal
 baudot-length e k =
+    let h = held-length e (0 ∷ digits 5 k) ∙ ap (λ (n : ℕ). e * suc n) (digits-length 5 k) in
     length-append (held e (0 ∷ digits 5 k)) (replicate (3 * e / 2) 1)
-    ∙ ap (λ (n : ℕ). n + length (replicate {A = ℕ} (3 * e / 2) 1)) (held-length e (0 ∷ digits 5 k) ∙ ap (λ (n : ℕ). e * suc n) (digits-length 5 k))
+    ∙ ap (λ (n : ℕ). n + length (replicate {A = ℕ} (3 * e / 2) 1)) h
     ∙ ap (λ (n : ℕ). e * 6 + n) (length-replicate {A = ℕ} (3 * e / 2) 1)
 
 pub baudot-165 : (k : ℕ) → length (signal Baudot45 k) ≡ 165
@@ -71,23 +73,24 @@ dtmf-120 c = keys-120 (keysOf c)
 abbrev pub keyCount : ℕ → ℕ
 keyCount p = cond (eqb p 0) 1 (cond (ltb p 3) 2 (cond (ltb p 7) 3 (cond (ltb p 15) 4 1)))
 
-keyCountTest : Bool
-keyCountTest = passes (λ (n : ℕ). eqb (length (keysOf n)) (keyCount (n / 16)) && leb (length (keysOf n)) 4) 256 0
+abbrev keysCounted : ℕ → Bool
+keysCounted n = eqb (length (keysOf n)) (keyCount (n / 16)) && leb (length (keysOf n)) 4
 
-key-count-test : T keyCountTest
-unfolding keyCountTest passes keysOf keys prefixes
+key-count-test : T (passes keysCounted 256 0)
+unfolding passes keysOf keys prefixes
 key-count-test = tt
 
 module _ (n : ℕ) (h : n < 256) where
-  both : T (eqb (length (keysOf n)) (keyCount (n / 16)) && leb (length (keysOf n)) 4)
-  unfolding keyCountTest
-  both = passes-at (λ (i : ℕ). eqb (length (keysOf i)) (keyCount (i / 16)) && leb (length (keysOf i)) 4) 256 key-count-test n h
+  both : T (keysCounted n)
+  both = passes-at keysCounted 256 key-count-test n h
 
   pub key-count : length (keysOf n) ≡ keyCount (n / 16)
   key-count = eqb→eq _ _ (both-left (eqb (length (keysOf n)) (keyCount (n / 16))) (leb (length (keysOf n)) 4) both)
 
   pub four-keys : length (keysOf n) ≤ 4
-  four-keys = leb-true _ 4 (is-true _ (both-right (eqb (length (keysOf n)) (keyCount (n / 16))) (leb (length (keysOf n)) 4) both))
+  four-keys =
+      let t = both-right (eqb (length (keysOf n)) (keyCount (n / 16))) (leb (length (keysOf n)) 4) both in
+      leb-true _ 4 (is-true _ t)
 
 -- no signal is longer than the longest of its mode
 pub within-longest : (mode : Mode) (k : ℕ) → k < 256 → length (signal mode k) ≤ longest mode

@@ -57,45 +57,51 @@ test-20 = tt
 module _ (e n : ℕ) (t : T (baudotTest e n)) (k : ℕ) (h : k < 32) where
   pub baudot-list : baudotSignal e k ≡ byFrame e n k
   unfolding baudotTest
-  baudot-list = same-list (baudotSignal e k) (byFrame e n k) (passes-at (λ (i : ℕ). sameList (baudotSignal e i) (byFrame e n i)) 32 t k h)
+  baudot-list =
+      same-list (baudotSignal e k) (byFrame e n k)
+      (passes-at (λ (i : ℕ). sameList (baudotSignal e i) (byFrame e n i)) 32 t k h)
 
   pub baudot-at : (m : ℕ) → m < n → getD (baudotSignal e k) m 0 ≡ frameLevel (192 + 2 * k) (m / e)
-  baudot-at m g = ap (λ (l : List ℕ). getD l m 0) baudot-list ∙ tabulate-at (λ (i : ℕ). frameLevel (192 + 2 * k) (i / e)) 0 n m g
+  baudot-at m g =
+      ap (λ (l : List ℕ). getD l m 0) baudot-list
+      ∙ tabulate-at (λ (i : ℕ). frameLevel (192 + 2 * k) (i / e)) 0 n m g
 
 -- the parity of seven digits, as the code adds it up
 abbrev pub foldedSum : ℕ → ℕ
 foldedSum c = (c + c / 2 + c / 4 + c / 8 + c / 16 + c / 32 + c / 64) % 2
 
-parityTest : Bool
-parityTest = passes (λ (c : ℕ). eqb (foldedSum c) (parityOf c)) 128 0
+abbrev parityAt : ℕ → Bool
+parityAt c = eqb (foldedSum c) (parityOf c)
 
-parity-test : T parityTest
-unfolding parityTest passes digits sum
+parity-test : T (passes parityAt 128 0)
+unfolding passes digits sum
 parity-test = tt
 
 pub parity-sum : (c : ℕ) → c < 128 → foldedSum c ≡ parityOf c
-unfolding parityTest
-parity-sum c h = eqb→eq (foldedSum c) (parityOf c) (passes-at (λ (i : ℕ). eqb (foldedSum i) (parityOf i)) 128 parity-test c h)
+parity-sum c h = eqb→eq (foldedSum c) (parityOf c) (passes-at parityAt 128 parity-test c h)
 
 -- an EDT code's elements by its frame
-edtTest : Bool
-edtTest =
-    passes (λ (c : ℕ). sameList (tabulate (λ (j : ℕ). levelOf (getD (edtElements c) j 1)) 11 0) (tabulate (frameLevel (edtFrame c)) 11 0)) 128 0
+abbrev elementLevels : ℕ → List ℕ
+elementLevels c = tabulate (λ (j : ℕ). levelOf (getD (edtElements c) j 1)) 11 0
 
-edt-test : T edtTest
-unfolding edtTest passes sameList tabulate edtElements digits sum
+abbrev edtSame : ℕ → Bool
+edtSame c = sameList (elementLevels c) (tabulate (frameLevel (edtFrame c)) 11 0)
+
+edt-test : T (passes edtSame 128 0)
+unfolding passes sameList tabulate edtElements digits sum
 edt-test = tt
 
 pub edt-at : (c m : ℕ) → c < 128 → m < 100 → getD (edtSignal c) m 0 ≡ frameLevel (edtFrame c) (11 * m / 100)
-unfolding edtTest edtSignal
+unfolding edtSignal
 edt-at c m h g =
     let f : ℕ → ℕ = λ (j : ℕ). levelOf (getD (edtElements c) j 1) in
     let j : 11 * m / 100 < 11 = omega arith in
-    let e =
-    same-list (tabulate f 11 0) (tabulate (frameLevel (edtFrame c)) 11 0)
-    (passes-at (λ (d : ℕ). sameList (tabulate (λ (i : ℕ). levelOf (getD (edtElements d) i 1)) 11 0) (tabulate (frameLevel (edtFrame d)) 11 0)) 128 edt-test c h) in
-    tabulate-at (λ (i : ℕ). levelOf (getD (edtElements c) (11 * i / 100) 1)) 0 100 m g ∙ sym (tabulate-at f 0 11 (11 * m / 100) j)
-    ∙ ap (λ (l : List ℕ). getD l (11 * m / 100) 0) e ∙ tabulate-at (frameLevel (edtFrame c)) 0 11 (11 * m / 100) j
+    let t = passes-at edtSame 128 edt-test c h in
+    let e = same-list (elementLevels c) (tabulate (frameLevel (edtFrame c)) 11 0) t in
+    tabulate-at (λ (i : ℕ). levelOf (getD (edtElements c) (11 * i / 100) 1)) 0 100 m g
+    ∙ sym (tabulate-at f 0 11 (11 * m / 100) j)
+    ∙ ap (λ (l : List ℕ). getD l (11 * m / 100) 0) e
+    ∙ tabulate-at (frameLevel (edtFrame c)) 0 11 (11 * m / 100) j
 
 -- a value that is held, and what is behind it
 in-held : (n x : ℕ) (l : List ℕ) (m : ℕ) → m < n → getD (replicate n x ++ l) m 0 ≡ x
@@ -114,12 +120,15 @@ keys-first on off k ks m h = in-held on k (replicate off 0 ++ heldKeys on off ks
 keys-quiet : (on off k : ℕ) (ks : List ℕ) (m : ℕ) → on ≤ m → m < on + off → getD (heldKeys on off (k ∷ ks)) m 0 ≡ 0
 unfolding heldKeys
 keys-quiet on off k ks m l h =
-    behind-held on k (replicate off 0 ++ heldKeys on off ks) m l ∙ in-held off 0 (heldKeys on off ks) (m - on) (omega arith)
+    behind-held on k (replicate off 0 ++ heldKeys on off ks) m l
+    ∙ in-held off 0 (heldKeys on off ks) (m - on) (omega arith)
 
-keys-next : (on off k : ℕ) (ks : List ℕ) (m : ℕ) → on + off ≤ m → getD (heldKeys on off (k ∷ ks)) m 0 ≡ getD (heldKeys on off ks) (m - on - off) 0
+keys-next : (on off k : ℕ) (ks : List ℕ) (m : ℕ) → on + off ≤ m
+    → getD (heldKeys on off (k ∷ ks)) m 0 ≡ getD (heldKeys on off ks) (m - on - off) 0
 unfolding heldKeys
 keys-next on off k ks m h =
-    behind-held on k (replicate off 0 ++ heldKeys on off ks) m (omega arith) ∙ behind-held off 0 (heldKeys on off ks) (m - on) (omega arith)
+    behind-held on k (replicate off 0 ++ heldKeys on off ks) m (omega arith)
+    ∙ behind-held off 0 (heldKeys on off ks) (m - on) (omega arith)
 
 -- 70 of each 120 ms are the key's, the others quiet
 pub keys-on : (ks : List ℕ) (m : ℕ) → m % 120 < 70 → getD (heldKeys 70 50 ks) m 0 ≡ getD ks (m / 120) 0
@@ -127,7 +136,8 @@ unfolding heldKeys
 keys-on [] m h = refl
 keys-on (k ∷ ks) m h = go (ltb m 120) refl (keys-on ks (m - 70 - 50))
   where
-    go : (b : Bool) → ltb m 120 ≡ b → ((m - 70 - 50) % 120 < 70 → getD (heldKeys 70 50 ks) (m - 70 - 50) 0 ≡ getD ks ((m - 70 - 50) / 120) 0)
+    go : (b : Bool) → ltb m 120 ≡ b
+        → ((m - 70 - 50) % 120 < 70 → getD (heldKeys 70 50 ks) (m - 70 - 50) 0 ≡ getD ks ((m - 70 - 50) / 120) 0)
         → getD (heldKeys 70 50 (k ∷ ks)) m 0 ≡ getD (k ∷ ks) (m / 120) 0
     go true e i =
         let l = ltb-true m 120 e in
@@ -143,13 +153,15 @@ unfolding heldKeys
 keys-off [] m h = refl
 keys-off (k ∷ ks) m h = go (ltb m 120) refl (keys-off ks (m - 70 - 50))
   where
-    go : (b : Bool) → ltb m 120 ≡ b → (70 ≤ (m - 70 - 50) % 120 → getD (heldKeys 70 50 ks) (m - 70 - 50) 0 ≡ 0) → getD (heldKeys 70 50 (k ∷ ks)) m 0 ≡ 0
+    go : (b : Bool) → ltb m 120 ≡ b
+        → (70 ≤ (m - 70 - 50) % 120 → getD (heldKeys 70 50 ks) (m - 70 - 50) 0 ≡ 0)
+        → getD (heldKeys 70 50 (k ∷ ks)) m 0 ≡ 0
     go true e i = let l = ltb-true m 120 e in keys-quiet 70 50 k ks m (omega arith) (omega arith)
     go false e i = let l = ltb-false m 120 e in keys-next 70 50 k ks m (omega arith) ∙ i (omega arith)
 
 -- the level of a mode's code, from its frame
-baudot-level : (e n : ℕ) → T (baudotTest e n) → (k m f r : ℕ) → k < 32 → m < n → f ≡ 192 + 2 * k → r ≡ frameLevel f (m / e)
-    → r ≡ getD (baudotSignal e k) m 0
+baudot-level : (e n : ℕ) → T (baudotTest e n) → (k m f r : ℕ) → k < 32 → m < n
+    → f ≡ 192 + 2 * k → r ≡ frameLevel f (m / e) → r ≡ getD (baudotSignal e k) m 0
 baudot-level e n t k m f r h g p q = q ∙ ap (λ (i : ℕ). frameLevel i (m / e)) p ∙ sym (baudot-at e n t k h m g)
 
 -- the mode, its code and the ms, as `level` is given them
@@ -165,11 +177,13 @@ module _ (d : Mode) (k m : ℕ) (h : k < codes (alphabetOf d)) (g : m < longest 
 
   pub level-45 : (f r : ℕ) → d ≡ Baudot45 → f ≡ 192 + 2 * k → r ≡ frameLevel f (m / 22) → r ≡ getD (signal d k) m 0
   unfolding signal
-  level-45 f r e p q = in-mode Baudot45 r e (baudot-level 22 165 test-22 k m f r (code-in Baudot45 e) (ms-in Baudot45 e) p q)
+  level-45 f r e p q =
+      in-mode Baudot45 r e (baudot-level 22 165 test-22 k m f r (code-in Baudot45 e) (ms-in Baudot45 e) p q)
 
   pub level-50 : (f r : ℕ) → d ≡ Baudot50 → f ≡ 192 + 2 * k → r ≡ frameLevel f (m / 20) → r ≡ getD (signal d k) m 0
   unfolding signal
-  level-50 f r e p q = in-mode Baudot50 r e (baudot-level 20 150 test-20 k m f r (code-in Baudot50 e) (ms-in Baudot50 e) p q)
+  level-50 f r e p q =
+      in-mode Baudot50 r e (baudot-level 20 150 test-20 k m f r (code-in Baudot50 e) (ms-in Baudot50 e) p q)
 
   pub level-dtmf : (r : ℕ) → d ≡ Dtmf → r ≡ getD (keysSignal (keysOf k)) m 0 → r ≡ getD (signal d k) m 0
   unfolding signal
@@ -178,4 +192,5 @@ module _ (d : Mode) (k m : ℕ) (h : k < codes (alphabetOf d)) (g : m < longest 
   pub level-edt : (f r : ℕ) → d ≡ Edt → f ≡ edtFrame k → r ≡ frameLevel f (11 * m / 100) → r ≡ getD (signal d k) m 0
   unfolding signal
   level-edt f r e p q =
-      in-mode Edt r e (q ∙ ap (λ (i : ℕ). frameLevel i (11 * m / 100)) p ∙ sym (edt-at k m (code-in Edt e) (ms-in Edt e)))
+      let l = edt-at k m (code-in Edt e) (ms-in Edt e) in
+      in-mode Edt r e (q ∙ ap (λ (i : ℕ). frameLevel i (11 * m / 100)) p ∙ sym l)

@@ -10,8 +10,11 @@ use borrow.Author.Needs.{needs}
 use Rattle.baudot_list.proofs.main.Statement.{statement}
 use Rattle.baudot_list.proofs.main.Tie as tie
 
-front : (n : ℕ) (text old ys : List ℕ) → n ≡ length (listing text) → ys ≡ listing text ++ drop (length (listing text)) old → n ≤ length ys
-front n text old ys e f = let l = ap length f ∙ length-append (listing text) (drop (length (listing text)) old) in omega arith
+front : (n : ℕ) (text old ys : List ℕ) → n ≡ length (listing text)
+    → ys ≡ listing text ++ drop (length (listing text)) old → n ≤ length ys
+front n text old ys e f =
+    let l = ap length f ∙ length-append (listing text) (drop (length (listing text)) old) in
+    omega arith
 
 buffer-requires : tie.Need-buffer-requires
 buffer-requires c κs = search needs

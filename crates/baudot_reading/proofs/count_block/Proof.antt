@@ -46,7 +46,9 @@ loop-again c =
     omega (arith, e, c .shift-one .ensures, l .loop .inv, shifts-most (s .args .codes .now), s .pre)
 
 returns : tie.Need-returns Inv-loop μ-loop
-returns c = let e = shifts-end (c .before .before .before .args .codes .now) (c .before .loop .i) (c .loop-test .left) in omega (arith, e, c .before .loop .inv)
+returns c =
+    let l = c .before in
+    omega (arith, shifts-end (l .before .before .args .codes .now) (l .loop .i) (c .loop-test .left), l .loop .inv)
 
 pub count-block-spec : {M : Type 1} → statement M
 count-block-spec =

@@ -14,7 +14,9 @@ use Rattle.baudot_reading.proofs.fits.Tie as tie
 returns : tie.Need-returns
 returns c =
     let a = c .before .before .args in
-    λ s. sym (le-leb (length (textOf s (a .codes .now))) (a .room) (omega (arith, c .if1 .taken, text-short s (a .codes .now))))
+    λ s.
+    let l = text-short s (a .codes .now) in
+    sym (le-leb (length (textOf s (a .codes .now))) (a .room) (omega (arith, c .if1 .taken, l)))
 
 count-shifts-requires : tie.Need-count-shifts-requires
 count-shifts-requires c κs = search needs
@@ -25,7 +27,9 @@ sub-result c = omega (arith, c .count-shifts .ensures, shifts-most (c .before .b
 returns-2 : tie.Need-returns-2
 returns-2 c =
     let a = c .before .before .before .args in
-    λ s. ap (λ (n : ℕ). leb (length (a .codes .now) - n) (a .room)) (c .count-shifts .ensures) ∙ ap (λ (n : ℕ). leb n (a .room)) (sym (text-count s (a .codes .now)))
+    λ s.
+    ap (λ (n : ℕ). leb (length (a .codes .now) - n) (a .room)) (c .count-shifts .ensures)
+    ∙ ap (λ (n : ℕ). leb n (a .room)) (sym (text-count s (a .codes .now)))
 
 pub fits-spec : {M : Type 1} → statement M
 fits-spec = tie.close (tie.spec returns count-shifts-requires sub-result returns-2)

@@ -6,16 +6,25 @@ use borrow.Author.Needs.{needs}
 use Rattle.baudot_reading.proofs.put_code.Statement.{statement}
 use Rattle.baudot_reading.proofs.put_code.Tie as tie
 
+-- the code is not the one for letters; it is neither shift code
+abbrev start : tie.Else1 → tie.Start
+start c = c .before .before .before .before
+
+abbrev start-2 : tie.Else2 → tie.Start
+start-2 c = start (c .before .before .before)
+
 returns : tie.Need-returns
 returns c =
     let a = c .before .before .before .before .args in
-    let g = got-shift (a .text .now) (a .at) (a .shift) _ _ (sym (reads-letters-code (a .shift) (a .code .0) (c .if1 .taken))) in
+    let e = reads-letters-code (a .shift) (a .code .0) (c .if1 .taken) in
+    let g = got-shift (a .text .now) (a .at) (a .shift) _ _ (sym e) in
     (g .placed, g .stored)
 
 returns-2 : tie.Need-returns-2
 returns-2 c =
-    let a = c .before .before .before .before .before .before .before .args in
-    let g = got-shift (a .text .now) (a .at) (a .shift) _ _ (sym (reads-figures-code (a .shift) (a .code .0) (c .if2 .taken))) in
+    let a = start (c .before .before .before) .args in
+    let e = reads-figures-code (a .shift) (a .code .0) (c .if2 .taken) in
+    let g = got-shift (a .text .now) (a .at) (a .shift) _ _ (sym e) in
     (g .placed, g .stored)
 
 read-char-requires : tie.Need-read-char-requires
@@ -23,8 +32,9 @@ read-char-requires c κs = search needs
 
 slice-write-text : tie.Need-slice-write-text
 slice-write-text c =
-    let s = c .before .before .before .before .before .before .before .before in
-    room-character (s .args .text .now) (s .args .at) (s .args .shift) _ _ (sym (c .read-char .ensures)) (s .pre .1 .1 .1)
+    let s = start-2 (c .before) in
+    let a = s .args in
+    room-character (a .text .now) (a .at) (a .shift) _ _ (sym (c .read-char .ensures)) (s .pre .1 .1 .1)
 
 add-t10 : tie.Need-add-t10
 add-t10 c = search needs
@@ -34,7 +44,7 @@ same-length c = search needs
 
 returns-3 : tie.Need-returns-3
 returns-3 c =
-    let a = c .before .before .before .before .before .before .before .before .args in
+    let a = start-2 (c .before) .args in
     let g = got-character (a .text .now) (a .at) (a .shift) _ _ (sym (c .read-char .ensures)) in
     (g .placed, g .stored)
 

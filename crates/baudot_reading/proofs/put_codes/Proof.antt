@@ -25,7 +25,9 @@ put-code-requires c κs =
     let l = c .before .before .before in
     let s = c .before .before .before .before .before .before in
     let t = c .before .before .loop-test .taken in
-    (s .pre .0, (l .loop .inv .in-shift, (omega (arith, at-most-at 31 (s .args .codes .now) (s .pre .1 .1 .0) (l .loop .i) t), reading-room _ _ _ _ _ _ (l .loop .inv) t (s .pre .1 .1 .1))))
+    let v = l .loop .inv in
+    let k = at-most-at 31 (s .args .codes .now) (s .pre .1 .1 .0) (l .loop .i) t in
+    (s .pre .0, (v .in-shift, (omega (arith, k), reading-room _ _ _ _ _ _ v t (s .pre .1 .1 .1))))
 
 add-i : tie.Need-add-i Inv-loop μ-loop
 add-i c = search needs
@@ -36,7 +38,8 @@ loop-less c = search needs
 loop-again : tie.Need-loop-again Inv-loop μ-loop
 loop-again c =
     let q = c .before .before .put-code in
-    reading-turn _ _ _ _ _ _ (c .before .before .before .before .before .before .loop .inv) _ _ (c .before .before .before .before .before .loop-test .taken) (q .ensures .0) (q .ensures .1)
+    let t = c .before .before .before .before .before in
+    reading-turn _ _ _ _ _ _ (t .before .loop .inv) _ _ (t .loop-test .taken) (q .ensures .0) (q .ensures .1)
 
 same-length : tie.Need-same-length Inv-loop μ-loop
 same-length c = c .before .loop .inv .size

@@ -31,7 +31,8 @@ count-char-requires c κs =
     let w = l .loop .inv in
     let h = at-most-at 0x7f (s .args .text .now) (s .pre .1 .0) (l .loop .i) t in
     let b = codes-bound (s .args .text .now) (s .args .from) 0 (s .args .s) 0 (s .pre .1 .0) (s .pre .1 .1 .0) in
-    (s .pre .0, (omega arith, (w .running t, omega (arith, left-room _ _ _ _ _ w (s .args .at + 2 * length (s .args .text .now)) t (omega arith), s .pre .1 .1 .1, s .good))))
+    let r = left-room _ _ _ _ _ w (s .args .at + 2 * length (s .args .text .now)) t (omega arith) in
+    (s .pre .0, (omega arith, (w .running t, omega (arith, r, s .pre .1 .1 .1, s .good))))
 
 add-i : tie.Need-add-i Inv-loop μ-loop
 add-i c = search needs

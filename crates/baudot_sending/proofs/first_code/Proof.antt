@@ -25,10 +25,13 @@ sends-code-requires : tie.Need-sends-code-requires Inv-loop μ-loop
 sends-code-requires c κs =
     let l = c .before .before in
     let s = l .before .before in
-    (s .pre .0, omega (arith, at-most-at 0x7f (s .args .text .now) (s .pre .1) (l .loop .i) (c .before .loop-test .taken)))
+    let h = at-most-at 0x7f (s .args .text .now) (s .pre .1) (l .loop .i) (c .before .loop-test .taken) in
+    (s .pre .0, omega (arith, h))
 
 returns : tie.Need-returns Inv-loop μ-loop
-returns c = quiet-silent _ _ (c .before .before .before .before .loop .inv) (λ _. sym (c .before .sends-code .ensures) ∙ c .if1 .taken)
+returns c =
+    let l = c .before .before .before .before in
+    quiet-silent _ _ (l .loop .inv) (λ _. sym (c .before .sends-code .ensures) ∙ c .if1 .taken)
 
 add-i : tie.Need-add-i Inv-loop μ-loop
 add-i c = search needs
@@ -37,7 +40,10 @@ loop-less : tie.Need-loop-less Inv-loop μ-loop
 loop-less c = search needs
 
 loop-again : tie.Need-loop-again Inv-loop μ-loop
-loop-again c = quiet-turn _ _ (c .before .before .before .before .loop .inv) (c .before .before .before .loop-test .taken) (sym (c .before .sends-code .ensures) ∙ c .if1 .left)
+loop-again c =
+    let t = c .before .before .before in
+    let e = sym (c .before .sends-code .ensures) ∙ c .if1 .left in
+    quiet-turn _ _ (t .before .loop .inv) (t .loop-test .taken) e
 
 returns-2 : tie.Need-returns-2 Inv-loop μ-loop
 returns-2 c = quiet-silent _ _ (c .before .loop .inv) (λ h. let l = c .loop-test .left in absurd (omega arith))

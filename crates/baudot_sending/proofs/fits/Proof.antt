@@ -13,7 +13,8 @@ sub-if1 c = search needs
 returns : tie.Need-returns
 returns c =
     let s = c .before .before in
-    room-enough (s .args .text .now) (s .args .from) (s .args .at) (s .args .s) (s .args .room) (s .pre .1 .0) (s .pre .1 .1 .0) (s .pre .1 .1 .1) (c .if1 .taken)
+    room-enough (s .args .text .now) (s .args .from) (s .args .at) (s .args .s) (s .args .room)
+    (s .pre .1 .0) (s .pre .1 .1 .0) (s .pre .1 .1 .1) (c .if1 .taken)
 
 count-from-requires : tie.Need-count-from-requires
 count-from-requires c κs = search needs

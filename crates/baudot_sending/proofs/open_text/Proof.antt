@@ -19,8 +19,9 @@ first-code-requires c κs = search needs
 returns-2 : tie.Need-returns-2
 returns-2 c =
     let s = c .before .before .before .before .before in
-    open-fresh (s .args .s) (fresh-is (c .before)) (s .args .text .now) _ (c .before .first-code .ensures) (c .if2 .taken)
-    (omega (arith, at-most-at 0x7f (s .args .text .now) (s .pre .1 .0) (c .before .first-code .result) (c .if2 .taken)))
+    let f = c .before .first-code in
+    open-fresh (s .args .s) (fresh-is (c .before)) (s .args .text .now) _ (f .ensures) (c .if2 .taken)
+    (omega (arith, at-most-at 0x7f (s .args .text .now) (s .pre .1 .0) (f .result) (c .if2 .taken)))
 
 returns-3 : tie.Need-returns-3
 returns-3 c =

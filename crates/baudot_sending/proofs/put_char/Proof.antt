@@ -1,8 +1,8 @@
 -- `sending::put_char` meets its contract, by what is wanted ahead of the character's code.
 use mathlib.Core.Path.{_≡_, _∙_, sym}
-use Prim.Native.Nat.{_≤_}
+use Prim.Native.Nat.{ℕ, _+_, _≤_, _<_}
 use native.Mathlib.Omega.{arith}
-use lib.ListN.{length-set}
+use lib.ListN.{length, length-set}
 use Rattle.alphabet.specs.declared.Alphabet.the-variants.{Baudot}
 use Rattle.alphabet.specs.declared.Sends.the-variants.{Code}
 use Rattle.alphabet.specs.Normal.{sends}
@@ -13,15 +13,34 @@ use borrow.Author.Needs.{needs}
 use Rattle.baudot_sending.proofs.put_char.Statement.{statement}
 use Rattle.baudot_sending.proofs.put_char.Tie as tie
 
+-- the character has a code: the start; the code's shift
+abbrev start : tie.After-known-told → tie.Start
+start k = k .before .before .before .before .before
+
+abbrev own : tie.After-known-told → ℕ
+own k = k .before .e .given .0 .0
+
 -- what the character sends, and the range of its shift
-sent-is : (k : tie.After-known-told) → sends Baudot (k .before .before .before .before .before .args .c .0) ≡ Code (k .before .e .given .0 .0) (k .before .e .given .0 .1 .0)
+sent-is : (k : tie.After-known-told) → sends Baudot (start k .args .c .0) ≡ Code (own k) (k .before .e .given .0 .1 .0)
 sent-is k = sym (k .before .before .before .lookup-in .ensures) ∙ k .before .e .given .1
 
-range-is : (k : tie.After-known-told) → (1 ≤ k .before .e .given .0 .0) × (k .before .e .given .0 .0 ≤ 3)
-range-is k = own-range _ _ _ (k .before .before .before .before .before .pre .1 .0) (sent-is k)
+range-is : (k : tie.After-known-told) → (1 ≤ own k) × (own k ≤ 3)
+range-is k = own-range _ _ _ (start k .pre .1 .0) (sent-is k)
 
-some-is : (c : tie.After-shift-code) → wanted (c .before .before .before .before .before .before .before .before .args .s) (c .before .before .before .before .e .given .0 .0) ≡ 0 → ⊥
-some-is c e = c .before .if1 .left (c .before .before .wanted .ensures ∙ e)
+-- no shift code is wanted; one is
+none-is : (c : tie.Then1) → wanted (start (c .before .before) .args .s) (own (c .before .before)) ≡ 0
+none-is c = sym (c .before .wanted .ensures) ∙ c .if1 .taken
+
+some-is : (c : tie.Else1) → wanted (start (c .before .before) .args .s) (own (c .before .before)) ≡ 0 → ⊥
+some-is c e = c .if1 .left (c .before .wanted .ensures ∙ e)
+
+-- the room for both codes
+room : (c : tie.Else1) → start (c .before .before) .args .at + 1 < length (start (c .before .before) .args .codes .now)
+room c =
+    let k = c .before .before in
+    let s = start k in
+    room-some (s .args .codes .now) (s .args .at) (s .args .s) _ _ _
+    (sent-is k) (s .pre .1 .1 .0) (range-is k .0) (range-is k .1) (some-is c) (s .pre .1 .1 .1)
 
 lookup-in-requires : tie.Need-lookup-in-requires
 lookup-in-requires c κs = search needs
@@ -35,19 +54,19 @@ enum-told c = search needs
 returns : tie.Need-returns
 returns c =
     let a = c .before .before .before .before .args in
-    let p = put-nothing (a .codes .now) (a .at) (a .s) _ (sym (c .before .before .lookup-in .ensures) ∙ c .enum-told .given .1) in
+    let e = sym (c .before .before .lookup-in .ensures) ∙ c .enum-told .given .1 in
+    let p = put-nothing (a .codes .now) (a .at) (a .s) _ e in
     (p .placed, p .stored)
 
 wanted-requires : tie.Need-wanted-requires
-wanted-requires c κs =
-    let s = c .before .before .before .before .before in
-    (s .pre .1 .1 .0, own-range _ _ _ (s .pre .1 .0) (sent-is c))
+wanted-requires c κs = (start c .pre .1 .1 .0, range-is c)
 
 slice-write-codes : tie.Need-slice-write-codes
 slice-write-codes c =
     let k = c .before .before in
-    let s = k .before .before .before .before .before in
-    room-none (s .args .codes .now) (s .args .at) (s .args .s) _ _ _ (sent-is k) (s .pre .1 .1 .0) (range-is k .0) (range-is k .1) (sym (c .before .wanted .ensures) ∙ c .if1 .taken) (s .pre .1 .1 .1)
+    let s = start k in
+    room-none (s .args .codes .now) (s .args .at) (s .args .s) _ _ _
+    (sent-is k) (s .pre .1 .1 .0) (range-is k .0) (range-is k .1) (none-is c) (s .pre .1 .1 .1)
 
 add-t13 : tie.Need-add-t13
 add-t13 c = search needs
@@ -61,27 +80,22 @@ same-length c = search needs
 returns-2 : tie.Need-returns-2
 returns-2 c =
     let k = c .before .before .before in
-    let s = k .before .before .before .before .before in
-    let p = put-none (s .args .codes .now) (s .args .at) (s .args .s) _ _ _ (sent-is k) (s .pre .1 .1 .0) (range-is k .0) (range-is k .1) (sym (c .before .before .wanted .ensures) ∙ c .before .if1 .taken) in
+    let s = start k in
+    let p = put-none (s .args .codes .now) (s .args .at) (s .args .s) _ _ _
+    (sent-is k) (s .pre .1 .1 .0) (range-is k .0) (range-is k .1) (none-is (c .before)) in
     (p .placed, p .stored)
 
 shift-code-requires : tie.Need-shift-code-requires
 shift-code-requires c κs = search needs
 
 slice-write-codes-2 : tie.Need-slice-write-codes-2
-slice-write-codes-2 c =
-    let k = c .before .before .before in
-    let s = k .before .before .before .before .before in
-    omega (arith, room-some (s .args .codes .now) (s .args .at) (s .args .s) _ _ _ (sent-is k) (s .pre .1 .1 .0) (range-is k .0) (range-is k .1) (some-is c) (s .pre .1 .1 .1))
+slice-write-codes-2 c = omega (arith, room (c .before))
 
 add-codes : tie.Need-add-codes
 add-codes c = search needs
 
 slice-write-codes-3 : tie.Need-slice-write-codes-3
-slice-write-codes-3 c =
-    let k = c .before .before .before in
-    let s = k .before .before .before .before .before in
-    rw length-set (room-some (s .args .codes .now) (s .args .at) (s .args .s) _ _ _ (sent-is k) (s .pre .1 .1 .0) (range-is k .0) (range-is k .1) (some-is c) (s .pre .1 .1 .1))
+slice-write-codes-3 c = rw length-set (room (c .before))
 
 add-t18 : tie.Need-add-t18
 add-t18 c = search needs
@@ -92,8 +106,9 @@ same-length-2 c = search needs
 returns-3 : tie.Need-returns-3
 returns-3 c =
     let k = c .before .before .before in
-    let s = k .before .before .before .before .before in
-    let p = put-some (s .args .codes .now) (s .args .at) (s .args .s) _ _ _ (sent-is k) (s .pre .1 .1 .0) (range-is k .0) (range-is k .1) (some-is c) in
+    let s = start k in
+    let p = put-some (s .args .codes .now) (s .args .at) (s .args .s) _ _ _
+    (sent-is k) (s .pre .1 .1 .0) (range-is k .0) (range-is k .1) (some-is (c .before)) in
     let w = c .before .before .wanted .ensures in
     (simp w (p .placed), simp (c .shift-code .ensures, w) (p .stored))
 

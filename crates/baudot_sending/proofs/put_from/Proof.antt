@@ -27,7 +27,9 @@ put-char-requires c κs =
     let t = c .before .before .loop-test .taken in
     let w = l .loop .inv in
     let h = at-most-at 0x7f (s .args .text .now) (s .pre .1 .0) (l .loop .i) t in
-    (s .pre .0, (omega arith, (w .left .running t, left-room _ _ _ _ _ (w .left) _ t (omega (arith, w .size, s .pre .1 .1 .1)))))
+    let n = w .size in
+    let r = s .pre .1 .1 .1 in
+    (s .pre .0, (omega arith, (w .left .running t, left-room _ _ _ _ _ (w .left) _ t (omega (arith, n, r)))))
 
 add-i : tie.Need-add-i Inv-loop μ-loop
 add-i c = search needs

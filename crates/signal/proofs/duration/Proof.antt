@@ -38,7 +38,9 @@ returns-2 : tie.Need-returns-2
 returns-2 c = length-in _ Baudot50 _ _ (c .enum-told2 .given .1) (sym (baudot-150 _))
 
 returns-3 : tie.Need-returns-3
-returns-3 c = length-in _ Dtmf _ _ (c .before .enum-told3 .given .1) (ap (λ (n : ℕ). 120 * n) (c .key-count .ensures) ∙ sym (dtmf-120 _))
+returns-3 c =
+    length-in _ Dtmf _ _ (c .before .enum-told3 .given .1)
+    (ap (λ (n : ℕ). 120 * n) (c .key-count .ensures) ∙ sym (dtmf-120 _))
 
 returns-4 : tie.Need-returns-4
 returns-4 c = length-in _ Edt _ _ (c .enum-told4 .given .1) (sym (edt-100 _))

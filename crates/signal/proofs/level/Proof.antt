@@ -78,25 +78,29 @@ returns : tie.Need-returns
 returns c =
     let s = c .before .before .before .before in
     let a = s .args in
-    level-45 (a .mode) (a .code .0) (a .at) (s .pre .0) (s .pre .1) _ _ (c .before .before .enum-told .given .1) (c .before .baudot-frame .ensures) (c .frame-level .ensures)
+    level-45 (a .mode) (a .code .0) (a .at) (s .pre .0) (s .pre .1) _ _
+    (c .before .before .enum-told .given .1) (c .before .baudot-frame .ensures) (c .frame-level .ensures)
 
 returns-2 : tie.Need-returns-2
 returns-2 c =
     let s = c .before .before .before .before in
     let a = s .args in
-    level-50 (a .mode) (a .code .0) (a .at) (s .pre .0) (s .pre .1) _ _ (c .before .before .enum-told2 .given .1) (c .before .baudot-frame2 .ensures) (c .frame-level2 .ensures)
+    level-50 (a .mode) (a .code .0) (a .at) (s .pre .0) (s .pre .1) _ _
+    (c .before .before .enum-told2 .given .1) (c .before .baudot-frame2 .ensures) (c .frame-level2 .ensures)
 
 returns-3 : tie.Need-returns-3
 returns-3 c =
     let s = c .before .before .before in
     let a = s .args in
-    level-dtmf (a .mode) (a .code .0) (a .at) (s .pre .0) (s .pre .1) _ (c .before .enum-told3 .given .1) (c .keys-level .ensures)
+    level-dtmf (a .mode) (a .code .0) (a .at) (s .pre .0) (s .pre .1) _
+    (c .before .enum-told3 .given .1) (c .keys-level .ensures)
 
 returns-4 : tie.Need-returns-4
 returns-4 c =
     let s = c .before .before .before .before in
     let a = s .args in
-    level-edt (a .mode) (a .code .0) (a .at) (s .pre .0) (s .pre .1) _ _ (c .before .before .enum-told4 .given .1) (c .before .edt-frame .ensures) (c .frame-level3 .ensures)
+    level-edt (a .mode) (a .code .0) (a .at) (s .pre .0) (s .pre .1) _ _
+    (c .before .before .enum-told4 .given .1) (c .before .edt-frame .ensures) (c .frame-level3 .ensures)
 
 pub level-spec : {M : Type 1} → statement M
 level-spec =

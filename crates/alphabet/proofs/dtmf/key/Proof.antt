@@ -18,7 +18,8 @@ entry-requires c κs = search needs
 returns : tie.Need-returns
 returns c =
     let a = c .before .before .before .before .args in
-    key-digit (a .code .0) (a .at) _ (search needs) (search needs) (c .before .before .entry .ensures) (c .before .if1 .taken)
+    key-digit (a .code .0) (a .at) _ (search needs) (search needs)
+    (c .before .before .entry .ensures) (c .before .if1 .taken)
 
 returns-2 : tie.Need-returns-2
 returns-2 c =

@@ -1,13 +1,9 @@
 -- `table::dtmf_entry` meets its contract: the table is what the definition gives at each place.
 use borrow.Author.Needs.{needs}
-use Rattle.alphabet.specs.Print.{leftRows, rightRows, rows, bitsFrom, bits, keys}
-use Rattle.alphabet.specs.TableA1.{a1}
-use Rattle.alphabet.specs.TableA2.{a2}
+use Rattle.alphabet.specs.Print.{leftRows, rightRows, rows, keys}
 use Rattle.alphabet.specs.TableB1.{b1}
-use Rattle.alphabet.specs.TableB2.{b2}
-use Rattle.alphabet.specs.Baudot.{printedAt, readBaudot, sendBaudot}
-use Rattle.alphabet.specs.Dtmf.{withMark, codeFrom, marksThenDigit, among, notStruck, remaining, names, firstSign, named, readIn, readDtmf, sendIn, hasRow, sendFrom, sendDtmf}
-use Rattle.alphabet.specs.Normal.{sends}
+use Rattle.alphabet.specs.Dtmf.{withMark, codeFrom, marksThenDigit, among, notStruck, remaining}
+use Rattle.alphabet.specs.Dtmf.{names, firstSign, named, readIn, readDtmf}
 use Rattle.lists.specs.Tables.{tabulate}
 use Rattle.lists.proofs.Tables.{tabulate-at}
 use Rattle.alphabet.specs.code.Packing.{dtmfAt}
@@ -18,7 +14,8 @@ array-read-result : tie.Need-array-read-result
 array-read-result c = search needs
 
 returns : tie.Need-returns
-unfolding tabulate dtmfAt sends bits bitsFrom leftRows rightRows rows a1 a2 b1 b2 printedAt readBaudot sendBaudot keys withMark codeFrom marksThenDigit among notStruck remaining names firstSign named readIn readDtmf sendIn hasRow sendFrom sendDtmf
+unfolding tabulate dtmfAt leftRows rightRows rows b1 keys withMark codeFrom marksThenDigit among notStruck remaining
+    names firstSign named readIn readDtmf
 returns c = tabulate-at dtmfAt 0 256 (c .args .at) (c .pre)
 
 pub dtmf-entry-spec : {M : Type 1} → statement M

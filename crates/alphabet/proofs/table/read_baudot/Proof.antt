@@ -7,6 +7,10 @@ use borrow.Author.Needs.{needs}
 use Rattle.alphabet.proofs.table.read_baudot.Statement.{statement}
 use Rattle.alphabet.proofs.table.read_baudot.Tie as tie
 
+-- the code selects no shift
+abbrev start : tie.Else2 → tie.Start
+start c = c .before .before .before .before .before .before
+
 returns : tie.Need-returns
 returns c = reads-letters-code _ _ (c .if1 .taken)
 
@@ -21,15 +25,19 @@ shift-of-requires c κs = search needs
 
 read-char-requires : tie.Need-read-char-requires
 read-char-requires c κs =
-    let s = c .before .before .before .before .before .before .before .before .before in (
+    let k = c .before .before .before in
+    let s = start k in
+    let r = shift-range (s .args .shift) in (
       c .before .before .read-table .ensures,
-      (rw (c .shift-of .ensures) (shift-range (s .args .shift)), (s .pre, (c .before .before .before .before .before .before .if1 .left, c .before .before .before .if2 .left))),
+      (rw (c .shift-of .ensures) r, (s .pre, (k .before .before .before .if1 .left, k .if2 .left))),
     )
 
 returns-3 : tie.Need-returns-3
 returns-3 c =
-    let a = c .before .before .before .before .before .before .before .before .before .before .args in
-    c .read-char .ensures ∙ ap (λ (n : ℕ). readBaudot n (a .code .0)) (c .before .shift-of .ensures) ∙ reads-shift (a .shift) (a .code .0)
+    let a = start (c .before .before .before .before) .args in
+    c .read-char .ensures
+    ∙ ap (λ (n : ℕ). readBaudot n (a .code .0)) (c .before .shift-of .ensures)
+    ∙ reads-shift (a .shift) (a .code .0)
 
 pub read-baudot-spec : {M : Type 1} → statement M
 read-baudot-spec =

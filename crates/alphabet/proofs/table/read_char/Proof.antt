@@ -23,7 +23,8 @@ returns : tie.Need-returns
 returns c =
     let s = c .before .before in
     let n = s .pre .1 .1 .1 in
-    table-char (s .args .shift) (s .args .code .0) (n .0) (n .1) (s .args .table .now) (s .pre .0) (s .pre .1 .0 .0) (s .pre .1 .0 .1) (s .pre .1 .1 .0)
+    table-char (s .args .shift) (s .args .code .0) (n .0) (n .1) (s .args .table .now)
+    (s .pre .0) (s .pre .1 .0 .0) (s .pre .1 .0 .1) (s .pre .1 .1 .0)
 
 pub read-char-spec : {M : Type 1} → statement M
 read-char-spec = tie.close (tie.spec sub-at mul-at cast-at add-at element-copy-out-t11 returns)

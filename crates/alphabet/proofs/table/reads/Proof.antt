@@ -34,4 +34,14 @@ unfolding reads
 returns-3 c = reads-as _ _ _ _ _ (c .enum-told3 .given .1) refl
 
 pub reads-spec : {M : Type 1} → statement M
-reads-spec = tie.close (tie.spec enum-told read-baudot-requires enum-told-2 read-dtmf-requires enum-told-3 returns returns-2 returns-3)
+reads-spec =
+    tie.close
+    (tie.spec
+    enum-told
+    read-baudot-requires
+    enum-told-2
+    read-dtmf-requires
+    enum-told-3
+    returns
+    returns-2
+    returns-3)

@@ -13,7 +13,8 @@ use Rattle.alphabet.proofs.table.send_table.Statement.{statement}
 use Rattle.alphabet.proofs.table.send_table.Tie as tie
 
 returns : tie.Need-returns
-unfolding tabulate sendTable entryAt sends bits bitsFrom leftRows rightRows rows a2 b1 b2 printedAt sendBaudot keys withMark codeFrom marksThenDigit among notStruck remaining names firstSign named sendIn hasRow sendFrom sendDtmf
+unfolding tabulate sendTable entryAt sends bits bitsFrom leftRows rightRows rows a2 b1 b2 printedAt sendBaudot keys
+    withMark codeFrom marksThenDigit among notStruck remaining names firstSign named sendIn hasRow sendFrom sendDtmf
 returns c = refl
 
 pub send-table-spec : {M : Type 1} → statement M

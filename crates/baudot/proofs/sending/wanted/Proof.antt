@@ -11,13 +11,17 @@ returns c =
 
 returns-2 : tie.Need-returns-2
 returns-2 c =
-    let k = c .before .before .before .before in
-    sym (wanted-again _ _ (k .pre .0) (together _ _ (k .pre .0) (k .pre .1) (c .before .before .if1 .left)) (c .if2 .taken))
+    let e = c .before .before in
+    let k = e .before .before in
+    let t = together _ _ (k .pre .0) (k .pre .1) (e .if1 .left) in
+    sym (wanted-again _ _ (k .pre .0) t (c .if2 .taken))
 
 returns-3 : tie.Need-returns-3
 returns-3 c =
-    let k = c .before .before .before .before in
-    sym (wanted-none _ _ (k .pre .0) (together _ _ (k .pre .0) (k .pre .1) (c .before .before .if1 .left)) (c .if2 .left))
+    let e = c .before .before in
+    let k = e .before .before in
+    let t = together _ _ (k .pre .0) (k .pre .1) (e .if1 .left) in
+    sym (wanted-none _ _ (k .pre .0) t (c .if2 .left))
 
 pub wanted-spec : {M : Type 1} → statement M
 wanted-spec = tie.close (tie.spec returns returns-2 returns-3)

@@ -62,7 +62,8 @@ returns c =
     let d3 = c .before .before .before in
     let d1 = d3 .before .before .before .before in
     let a = d1 .before .before .before .args in
-    six-stores (a .lines .now) (a .at) (a .code .0) _ _ _ _ _ (d1 .digit .ensures) (d3 .before .before .digit2 .ensures) (d3 .digit3 .ensures)
+    six-stores (a .lines .now) (a .at) (a .code .0) _ _ _ _ _
+    (d1 .digit .ensures) (d3 .before .before .digit2 .ensures) (d3 .digit3 .ensures)
     (c .before .digit4 .ensures) (c .digit5 .ensures)
 
 pub put-line-spec : {M : Type 1} → statement M
