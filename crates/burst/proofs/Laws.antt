@@ -96,7 +96,8 @@ module _ (mode : Mode) (waiting front : ℕ) (l : OnLine) (s : Sender) where
   unfolding nextCode
   not-over e = rw e refl
 
-  pub code-next : (waiting ≡ 0 → ⊥) → isOver mode l ≡ true → nextCode mode waiting front l s ≡ codeBegins (alphabetOf mode) l s (sends (alphabetOf mode) front)
+  pub code-next : (waiting ≡ 0 → ⊥) → isOver mode l ≡ true
+      → nextCode mode waiting front l s ≡ codeBegins (alphabetOf mode) l s (sends (alphabetOf mode) front)
   unfolding nextCode
   code-next n e = rw (e, lt-ltb 0 waiting (omega arith)) refl
 

@@ -40,7 +40,12 @@ line-in mode l e =
     }
 
 pub line-is : (mode : Mode) (l : OnLine) → LineIn mode l → lineIn mode l ≡ true
-line-is mode l h = rw (le-leb (l .part) 2 (h .part-in), lt-ltb (l .code .0) (codes (alphabetOf mode)) (h .code-in), le-leb (l .at) (length (partMs mode l)) (h .at-in)) refl
+line-is mode l h =
+    rw (
+      le-leb (l .part) 2 (h .part-in),
+      lt-ltb (l .code .0) (codes (alphabetOf mode)) (h .code-in),
+      le-leb (l .at) (length (partMs mode l)) (h .at-in),
+    ) refl
 
 pub record LoadedIn (mode : Mode) (x : Loaded) : Type 0 where
   pub line-in : LineIn mode (x .line)
@@ -83,7 +88,8 @@ module _ (s : Sender) (own : ℕ) (lo : 1 ≤ own) (hi : own ≤ 3) (i : SenderI
   unfolding wanted
   none-below = go (eqb (s .shift) 0) refl (differs own (s .shift)) (leb 72 (s .count)) refl
     where
-      go : (a : Bool) → eqb (s .shift) 0 ≡ a → (b c : Bool) → leb 72 (s .count) ≡ c → cond a 1 (cond b own (cond c (s .shift) 0)) ≡ 0 → s .count < 72
+      go : (a : Bool) → eqb (s .shift) 0 ≡ a → (b c : Bool) → leb 72 (s .count) ≡ c
+          → cond a 1 (cond b own (cond c (s .shift) 0)) ≡ 0 → s .count < 72
       go true e b c f z = absurd (omega arith)
       go false e true c f z = absurd (omega arith)
       go false e false true f z = absurd (eqb-false (s .shift) 0 e z)
@@ -98,12 +104,16 @@ module _ (s : Sender) (own : ℕ) (lo : 1 ≤ own) (hi : own ≤ 3) (i : SenderI
   shifted-in w h = either SenderIn (eqb w 0) s (sender w 0) i (record { shift-in = h; count-in = omega arith })
 
   own-sender-in : (a : Alphabet) → eqb (shiftWanted a s own) 0 ≡ true → SenderIn (senderAfterOwn a s)
-  own-sender-in Baudot e = let l = none-below (eqb-true (wanted s own) 0 e) in record { shift-in = i .shift-in; count-in = omega arith }
+  own-sender-in Baudot e =
+      let l = none-below (eqb-true (wanted s own) 0 e) in
+      record { shift-in = i .shift-in; count-in = omega arith }
   own-sender-in Dtmf e = i
   own-sender-in Edt e = i
 
 shift-code-in : (a : Alphabet) (w : ℕ) → shiftCode w < codes a
-shift-code-in a w = let h = some-codes a in either (λ (n : ℕ). n < codes a) (eqb w 2) 0b11011 0b11111 (omega arith) (omega arith)
+shift-code-in a w =
+    let h = some-codes a in
+    either (λ (n : ℕ). n < codes a) (eqb w 2) 0b11011 0b11111 (omega arith) (omega arith)
 
 -- ---- what a ms starts with
 
@@ -126,8 +136,13 @@ module _ (mode : Mode) (l : OnLine) (s : Sender) (i : LineIn mode l) (j : Sender
       w = shiftWanted a s own
 
       go : (b : Bool) → eqb w 0 ≡ b
-          → LoadedIn mode (cond b (loaded (onLine 2 (k .0) 0) (senderAfterOwn a s) true) (loaded (onLine 2 (shiftCode w) 0) (shifted s w) false))
-      go true e = record { line-in = start-in mode 2 (k .0) (omega arith) (h .code-in); sender-in = own-sender-in s own (h .own-low) (h .own-in) j a e }
+          → LoadedIn mode
+          (cond b (loaded (onLine 2 (k .0) 0) (senderAfterOwn a s) true)
+          (loaded (onLine 2 (shiftCode w) 0) (shifted s w) false))
+      go true e = record {
+        line-in = start-in mode 2 (k .0) (omega arith) (h .code-in);
+        sender-in = own-sender-in s own (h .own-low) (h .own-in) j a e;
+      }
       go false e = record {
         line-in = start-in mode 2 (shiftCode w) (omega arith) (shift-code-in a w);
         sender-in = shifted-in s own (h .own-low) (h .own-in) j w (any-wanted-in s own (h .own-low) (h .own-in) j a);
@@ -140,7 +155,8 @@ module _ (mode : Mode) (l : OnLine) (s : Sender) (i : LineIn mode l) (j : Sender
       a : Alphabet
       a = alphabetOf mode
 
-      go : (b : Bool) → (isOver mode l && ltb 0 waiting) ≡ b → LoadedIn mode (cond b (codeBegins a l s (sends a front)) (loaded l s false))
+      go : (b : Bool) → (isOver mode l && ltb 0 waiting) ≡ b
+          → LoadedIn mode (cond b (codeBegins a l s (sends a front)) (loaded l s false))
       go true e =
           let n = ltb-true 0 waiting (and-right (isOver mode l) (ltb 0 waiting) e) in
           begins-in (sends a front) (sends-in a front (h (omega arith)))
@@ -164,10 +180,12 @@ gone-in mode l i = go (ltb (l .at) (length (partMs mode l))) refl
 
 pub closed-in : (mode : Mode) (ends : Bool) (l : OnLine) → LineIn mode l → LineIn mode (closed mode ends l)
 unfolding closed
-closed-in mode ends l i = either (LineIn mode) (isOver mode l && (isCode l && ends)) idle l (blank-in mode 0 (omega arith)) i
+closed-in mode ends l i =
+    either (LineIn mode) (isOver mode l && (isCode l && ends)) idle l (blank-in mode 0 (omega arith)) i
 
 -- one that is taken waits
-pub next-takes : (mode : Mode) (waiting front : ℕ) (l : OnLine) (s : Sender) → nextCode mode waiting front l s .takes ≡ true → 1 ≤ waiting
+pub next-takes : (mode : Mode) (waiting front : ℕ) (l : OnLine) (s : Sender)
+    → nextCode mode waiting front l s .takes ≡ true → 1 ≤ waiting
 unfolding nextCode
 next-takes mode waiting front l s = go (isOver mode l && ltb 0 waiting) refl
   where

@@ -1,4 +1,5 @@
--- Question 1 in facts; what a ms starts with is in range, and every ms keeps a core in range, whenever a burst begins and ends.
+-- Question 1 in facts; what a ms starts with is in range, and every ms keeps a core in range,
+-- whenever a burst begins and ends.
 use mathlib.Core.Path.{_≡_, refl}
 use mathlib.Core.Bool.{Bool, true, false, cond, _&&_}
 use Prim.Native.Nat.{ℕ, _+_, _-_, _<_, _≤_}
@@ -88,9 +89,11 @@ pub settled-by-in : (begins : Bool) (c : Core) (front : ℕ) → CoreIn c → (1
     → LoadedIn (modeIn c) (settledBy begins c front)
 settled-by-in begins c front i h =
     let l = begun begins (c .line) in
-    next-in (modeIn c) l (c .sender) (begun-in (modeIn c) begins (c .line) (i .line-in)) (i .sender-in) (c .waiting) front h
+    let b = begun-in (modeIn c) begins (c .line) (i .line-in) in
+    next-in (modeIn c) l (c .sender) b (i .sender-in) (c .waiting) front h
 
-pub settled-in : (c : Core) (front : ℕ) → CoreIn c → (1 ≤ c .waiting → front < 128) → LoadedIn (modeIn c) (settled c front)
+pub settled-in : (c : Core) (front : ℕ) → CoreIn c → (1 ≤ c .waiting → front < 128)
+    → LoadedIn (modeIn c) (settled c front)
 unfolding settled
 settled-in c front i h = settled-by-in (beginsIn c) c front i h
 
@@ -131,7 +134,8 @@ core-from-by-in ends c l heard h i j =
           (inhibited-in mode (c .reader) r) (hear-in mode (c .reader) heard h r);
     }
 
-pub core-from-in : (c : Core) (l : Loaded) (heard : ℕ) → heard ≤ 16 → CoreIn c → LoadedIn (modeIn c) l → CoreIn (coreFrom c l heard)
+pub core-from-in : (c : Core) (l : Loaded) (heard : ℕ) → heard ≤ 16 → CoreIn c → LoadedIn (modeIn c) l
+    → CoreIn (coreFrom c l heard)
 unfolding coreFrom
 core-from-in c l heard h i j = core-from-by-in (endsIn c l) c l heard h i j
 

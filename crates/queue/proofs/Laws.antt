@@ -26,14 +26,16 @@ module _ (a : Alphabet) where
   waiters-wait [] = refl
   waiters-wait (c ∷ cs) = go (waits a c) refl (waiters-wait cs)
     where
-      go : (b : Bool) → waits a c ≡ b → allWait a (waiters a cs) ≡ true → allWait a (cond b (c ∷ waiters a cs) (waiters a cs)) ≡ true
+      go : (b : Bool) → waits a c ≡ b → allWait a (waiters a cs) ≡ true
+          → allWait a (cond b (c ∷ waiters a cs) (waiters a cs)) ≡ true
       go true e h = rw (e, h) refl
       go false e h = h
 
   pub wait-append : (cs ds : List ℕ) → allWait a cs ≡ true → allWait a ds ≡ true → allWait a (cs ++ ds) ≡ true
   unfolding allWait
   wait-append [] ds p q = q
-  wait-append (c ∷ cs) ds p q = rw (and-left (waits a c) (allWait a cs) p) (wait-append cs ds (and-right (waits a c) (allWait a cs) p) q)
+  wait-append (c ∷ cs) ds p q =
+      rw (and-left (waits a c) (allWait a cs) p) (wait-append cs ds (and-right (waits a c) (allWait a cs) p) q)
 
   wait-drop : (cs : List ℕ) → allWait a cs ≡ true → allWait a (drop 1 cs) ≡ true
   unfolding allWait
@@ -42,7 +44,8 @@ module _ (a : Alphabet) where
 
   module _ (q : Queue) (full : length (q .chars) ≡ 256) where
     -- an offer puts those that wait behind, in order
-    pub waiting-offered : (text : List ℕ) → room a q text ≡ true → waitingOf (offered a q text) ≡ waitingOf q ++ waiters a text
+    pub waiting-offered : (text : List ℕ) → room a q text ≡ true
+        → waitingOf (offered a q text) ≡ waitingOf q ++ waiters a text
     unfolding room offered
     waiting-offered text r =
         let w = waiters a text in
@@ -52,7 +55,9 @@ module _ (a : Alphabet) where
         let rest = drop (q .waiting + length w) (q .chars) in
         let e = sets-eq w (q .chars) (q .waiting) (omega arith) in
         let k = length-append t w ∙ ap (λ (m : ℕ). m + length w) n in
-        ap (take (q .waiting + length w)) e ∙ ap (λ (m : ℕ). take m ((t ++ w) ++ rest)) (sym k) ∙ take-append-seam (t ++ w) rest
+        ap (take (q .waiting + length w)) e
+        ∙ ap (λ (m : ℕ). take m ((t ++ w) ++ rest)) (sym k)
+        ∙ take-append-seam (t ++ w) rest
 
     fewer : (text : List ℕ) → room a q text ≡ true → leb (offered a q text .waiting) 256 ≡ true
     unfolding room offered
@@ -70,13 +75,16 @@ module _ (a : Alphabet) where
         let k = q .waiting - 1 in
         let d = length-drop 1 l in
         let s : suc k ≡ q .waiting = omega arith in
-        take-append-le k (drop 1 l) (drop (length (drop 1 l)) l) (omega arith) ∙ sym (drop-take k l) ∙ ap (λ (n : ℕ). drop 1 (take n l)) s
+        take-append-le k (drop 1 l) (drop (length (drop 1 l)) l) (omega arith)
+        ∙ sym (drop-take k l)
+        ∙ ap (λ (n : ℕ). drop 1 (take n l)) s
 
     -- both keep range
     pub offered-in : (text : List ℕ) → inRange a q ≡ true → room a q text ≡ true → inRange a (offered a q text) ≡ true
     unfolding inRange
     offered-in text i r =
-        let w = wait-append (waitingOf q) (waiters a text) (and-right (leb (q .waiting) 256) (allWait a (waitingOf q)) i) (waiters-wait text) in
+        let h = and-right (leb (q .waiting) 256) (allWait a (waitingOf q)) i in
+        let w = wait-append (waitingOf q) (waiters a text) h (waiters-wait text) in
         and-both (leb (offered a q text .waiting) 256) _ (fewer text r) (ap (allWait a) (waiting-offered text r) ∙ w)
 
     pub taken-in : 1 ≤ q .waiting → inRange a q ≡ true → inRange a (taken q) ≡ true
@@ -84,4 +92,5 @@ module _ (a : Alphabet) where
     taken-in o i =
         let h = leb-true (q .waiting) 256 (and-left (leb (q .waiting) 256) (allWait a (waitingOf q)) i) in
         let w = and-right (leb (q .waiting) 256) (allWait a (waitingOf q)) i in
-        and-both (leb (taken q .waiting) 256) _ (less h) (ap (allWait a) (waiting-taken o h) ∙ wait-drop (waitingOf q) w)
+        let n = ap (allWait a) (waiting-taken o h) ∙ wait-drop (waitingOf q) w in
+        and-both (leb (taken q .waiting) 256) _ (less h) n

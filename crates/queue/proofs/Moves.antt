@@ -36,7 +36,8 @@ moved-by-length zero xs = refl
 moved-by-length (suc n) xs = moved-length (movedBy n xs) ∙ moved-by-length n xs
 
 -- a place has the character n places behind it, or the last one
-pub moved-by-at : (n : ℕ) (xs : List ℕ) (j : ℕ) → j < length xs → getD (movedBy n xs) j 0 ≡ getD xs (min (j + n) (length xs - 1)) 0
+pub moved-by-at : (n : ℕ) (xs : List ℕ) (j : ℕ) → j < length xs
+    → getD (movedBy n xs) j 0 ≡ getD xs (min (j + n) (length xs - 1)) 0
 unfolding movedBy
 moved-by-at zero xs j h =
     let e : j ≡ min (j + 0) (length xs - 1) = omega arith in
@@ -55,7 +56,9 @@ moved-by-at (suc n) xs j h =
 pub moved-by-more : (m n : ℕ) (xs : List ℕ) → movedBy n (movedBy m xs) ≡ movedBy (m + n) xs
 unfolding movedBy
 moved-by-more m zero xs = let e : m ≡ m + 0 = omega arith in ap (λ (k : ℕ). movedBy k xs) e
-moved-by-more m (suc n) xs = let e : suc (m + n) ≡ m + suc n = omega arith in ap moved (moved-by-more m n xs) ∙ ap (λ (k : ℕ). movedBy k xs) e
+moved-by-more m (suc n) xs =
+    let e : suc (m + n) ≡ m + suc n = omega arith in
+    ap moved (moved-by-more m n xs) ∙ ap (λ (k : ℕ). movedBy k xs) e
 
 -- the character in front after n are taken
 pub front-none : (n : ℕ) (xs : List ℕ) → length xs ≡ 0 → getD (movedBy n xs) 0 0 ≡ 0
@@ -66,7 +69,8 @@ front-none n xs h = none (movedBy n xs) (moved-by-length n xs ∙ h)
     none (y ∷ ys) e = absurd (omega arith)
 
 -- a place has the character that moves to it
-pub moved-from : (n : ℕ) (xs : List ℕ) (j k : ℕ) → j < length xs → min (j + n) (length xs - 1) ≡ k → getD (movedBy n xs) j 0 ≡ getD xs k 0
+pub moved-from : (n : ℕ) (xs : List ℕ) (j k : ℕ) → j < length xs → min (j + n) (length xs - 1) ≡ k
+    → getD (movedBy n xs) j 0 ≡ getD xs k 0
 moved-from n xs j k h e = moved-by-at n xs j h ∙ ap (λ (m : ℕ). getD xs m 0) e
 
 pub moved-place : (n : ℕ) (xs : List ℕ) (j : ℕ) → n + j < length xs → getD (movedBy n xs) j 0 ≡ getD xs (n + j) 0
@@ -87,7 +91,8 @@ module _ (n : ℕ) (xs : List ℕ) where
   one-more ys to before at j h =
       ⊎-elim (λ e. subst (Place ys) (sym e) at) (before j) (eq-or-lt-of-le {n = j} {m = to} (omega arith))
 
-  -- characters on their way: those before a place have moved up; the last one, and those that still move, stand as they were
+  -- characters on their way: those before a place have moved up;
+  -- the last one, and those that still move, stand as they were
   pub record Slid (ys : List ℕ) (to : ℕ) : Type 0 where
     pub size : length ys ≡ length xs
     pub done : (j : ℕ) → j < to → Place ys j
@@ -98,13 +103,16 @@ module _ (n : ℕ) (xs : List ℕ) where
   slid-start = record { size = refl; done = λ j h. absurd (omega arith); ahead = λ j h. refl; end = refl }
 
   -- one character more
-  pub slid-turn : 1 ≤ n → (ys : List ℕ) (to k : ℕ) → Slid ys to → k < last → k ≡ to + n → Slid (set ys to (getD ys k 0)) (to + 1)
+  pub slid-turn : 1 ≤ n → (ys : List ℕ) (to k : ℕ) → Slid ys to → k < last → k ≡ to + n
+      → Slid (set ys to (getD ys k 0)) (to + 1)
   slid-turn o ys to k s h e =
       let c = getD ys k 0 in
       let l = s .size in
       let f : k ≡ from to = omega arith in
-      let before : (j : ℕ) → j < to → Place (set ys to c) j = λ j q. getD-set-other ys to j c 0 (omega arith) ∙ s .done j q in
-      let here : Place (set ys to c) to = getD-set-same ys to c 0 (omega arith) ∙ s .ahead k (omega arith) ∙ (λ i. getD xs (f i) 0) in
+      let before : (j : ℕ) → j < to → Place (set ys to c) j =
+      λ j q. getD-set-other ys to j c 0 (omega arith) ∙ s .done j q in
+      let here : Place (set ys to c) to =
+      getD-set-same ys to c 0 (omega arith) ∙ s .ahead k (omega arith) ∙ (λ i. getD xs (f i) 0) in
       record {
         size = length-set ys to c ∙ l;
         done = one-more (set ys to c) to before here;
@@ -122,7 +130,8 @@ module _ (n : ℕ) (xs : List ℕ) where
   filled-start ys to s = record { size = s .size; done = s .done; end = s .end }
 
   -- the last character at a place and at the one behind it
-  pub filled-turn : (ys : List ℕ) (to c : ℕ) → Filled ys to → to < last → last ≤ to + n → c ≡ getD xs last 0 → Filled (set (set ys to c) (to + 1) c) (to + 1)
+  pub filled-turn : (ys : List ℕ) (to c : ℕ) → Filled ys to → to < last → last ≤ to + n → c ≡ getD xs last 0
+      → Filled (set (set ys to c) (to + 1) c) (to + 1)
   filled-turn ys to c f h m e =
       let l = f .size in
       let zs = set ys to c in
@@ -131,7 +140,10 @@ module _ (n : ℕ) (xs : List ℕ) where
       let before : (j : ℕ) → j < to → Place (set zs (to + 1) c) j =
       λ j q. getD-set-other zs (to + 1) j c 0 (omega arith) ∙ getD-set-other ys to j c 0 (omega arith) ∙ f .done j q in
       let here : Place (set zs (to + 1) c) to =
-      getD-set-other zs (to + 1) to c 0 (omega arith) ∙ getD-set-same ys to c 0 (omega arith) ∙ e ∙ (λ i. getD xs (g i) 0) in
+      getD-set-other zs (to + 1) to c 0 (omega arith)
+      ∙ getD-set-same ys to c 0 (omega arith)
+      ∙ e
+      ∙ (λ i. getD xs (g i) 0) in
       let next : to + 1 ≡ last → getD (set zs (to + 1) c) last 0 ≡ getD xs last 0 =
       λ q. sym (λ i. getD (set zs (to + 1) c) (q i) 0) ∙ getD-set-same zs (to + 1) c 0 (omega arith) ∙ e in
       let later : to + 1 < last → getD (set zs (to + 1) c) last 0 ≡ getD xs last 0 =
@@ -145,28 +157,35 @@ module _ (n : ℕ) (xs : List ℕ) where
   pub filled-end : (ys : List ℕ) (to : ℕ) → Filled ys to → last ≤ to → ys ≡ movedBy n xs
   filled-end ys to f h =
       let l = f .size in
-      ext-getD 0 ys (movedBy n xs) (l ∙ sym (moved-by-length n xs)) (λ j q. at j (omega arith) ∙ sym (moved-by-at n xs j (omega arith)))
+      ext-getD 0 ys (movedBy n xs) (l ∙ sym (moved-by-length n xs))
+      (λ j q. at j (omega arith) ∙ sym (moved-by-at n xs j (omega arith)))
     where
       at : (j : ℕ) → j < length xs → Place ys j
       at j q =
           let g : last ≡ from last = omega arith in
-          ⊎-elim (λ e. subst (Place ys) (sym e) (f .end ∙ (λ i. getD xs (g i) 0))) (λ p. f .done j (omega arith)) (eq-or-lt-of-le {n = j} {m = last} (omega arith))
+          ⊎-elim (λ e. subst (Place ys) (sym e) (f .end ∙ (λ i. getD xs (g i) 0)))
+          (λ p. f .done j (omega arith))
+          (eq-or-lt-of-le {n = j} {m = last} (omega arith))
 
 -- the last character in all the places from one on, whatever moved up before it
 pub record Filling (n last c : ℕ) (ys₀ : List ℕ) (to₀ : ℕ) (ys : List ℕ) (to : ℕ) : Type 0 where
   pub size : length ys ≡ length ys₀
   pub past : to₀ ≤ to
-  pub filled : (xs : List ℕ) → last ≡ length xs - 1 → last ≤ to₀ + n → c ≡ getD xs last 0 → Filled n xs ys₀ to₀ → Filled n xs ys to
+  pub filled : (xs : List ℕ) → last ≡ length xs - 1 → last ≤ to₀ + n → c ≡ getD xs last 0
+      → Filled n xs ys₀ to₀ → Filled n xs ys to
 
 pub filling-start : (n last c : ℕ) (ys₀ : List ℕ) (to₀ : ℕ) → Filling n last c ys₀ to₀ ys₀ to₀
 filling-start n last c ys₀ to₀ = record { size = refl; past = omega arith; filled = λ xs e h g f. f }
 
-pub filling-turn : (n last c : ℕ) (ys₀ : List ℕ) (to₀ : ℕ) (ys : List ℕ) (to : ℕ) → Filling n last c ys₀ to₀ ys to → to < last
+pub filling-turn : (n last c : ℕ) (ys₀ : List ℕ) (to₀ : ℕ) (ys : List ℕ) (to : ℕ)
+    → Filling n last c ys₀ to₀ ys to → to < last
     → Filling n last c ys₀ to₀ (set (set ys to c) (to + 1) c) (to + 1)
 filling-turn n last c ys₀ to₀ ys to f t =
     let p = f .past in
     record {
       size = length-set (set ys to c) (to + 1) c ∙ length-set ys to c ∙ f .size;
       past = omega arith;
-      filled = λ xs e h g s. filled-turn n xs ys to c (f .filled xs e h g s) (omega arith) (omega arith) (g ∙ (λ i. getD xs (e i) 0));
+      filled =
+          λ xs e h g s. filled-turn n xs ys to c (f .filled xs e h g s)
+          (omega arith) (omega arith) (g ∙ (λ i. getD xs (e i) 0));
     }

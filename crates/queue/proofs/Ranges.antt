@@ -26,22 +26,32 @@ inBaudot c = (within c 0x08 0x0d || eqb c 0x1a) || within c 0x1c 0x7e
 
 abbrev pub inDtmf : ℕ → Bool
 inDtmf c =
-    ((((((within c 0x08 0x0c || eqb c 0x1a) || within c 0x1c 0x21) || within c 0x25 0x26) || within c 0x28 0x2e) || within c 0x30 0x5d)
-    || eqb c 0x5f) || within c 0x61 0x7f
+    ((((((within c 0x08 0x0c || eqb c 0x1a)
+    || within c 0x1c 0x21)
+    || within c 0x25 0x26)
+    || within c 0x28 0x2e)
+    || within c 0x30 0x5d)
+    || eqb c 0x5f)
+    || within c 0x61 0x7f
 
 baudot-test : T (passes (λ (c : ℕ). agree (inBaudot c) (waits Baudot c)) 256 0)
 unfolding passes sends bits bitsFrom leftRows rightRows rows a2 printedAt sendBaudot
 baudot-test = tt
 
 pub in-baudot : (c : ℕ) → c < 256 → inBaudot c ≡ waits Baudot c
-in-baudot c h = agreed (inBaudot c) (waits Baudot c) (passes-at (λ (k : ℕ). agree (inBaudot k) (waits Baudot k)) 256 baudot-test c h)
+in-baudot c h =
+    agreed (inBaudot c) (waits Baudot c)
+    (passes-at (λ (k : ℕ). agree (inBaudot k) (waits Baudot k)) 256 baudot-test c h)
 
 dtmf-test : T (passes (λ (c : ℕ). agree (inDtmf c) (waits Dtmf c)) 256 0)
-unfolding passes sends bits bitsFrom leftRows rightRows rows b1 b2 keys withMark codeFrom marksThenDigit among notStruck remaining names firstSign named sendIn hasRow sendFrom printedAt sendDtmf
+unfolding passes sends bits bitsFrom leftRows rightRows rows b1 b2 keys withMark codeFrom marksThenDigit
+    among notStruck remaining names firstSign named sendIn hasRow sendFrom printedAt sendDtmf
 dtmf-test = tt
 
 pub in-dtmf : (c : ℕ) → c < 256 → inDtmf c ≡ waits Dtmf c
-in-dtmf c h = agreed (inDtmf c) (waits Dtmf c) (passes-at (λ (k : ℕ). agree (inDtmf k) (waits Dtmf k)) 256 dtmf-test c h)
+in-dtmf c h =
+    agreed (inDtmf c) (waits Dtmf c)
+    (passes-at (λ (k : ℕ). agree (inDtmf k) (waits Dtmf k)) 256 dtmf-test c h)
 
 -- every character up to 7F sends something in EDT
 pub in-edt : (c : ℕ) → leb c 0x7f ≡ waits Edt c

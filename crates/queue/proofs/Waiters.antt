@@ -31,18 +31,24 @@ module _ (a : Alphabet) where
   no-waiter c e = rw e refl
 
   -- what is left of a text at a place
-  pub waiters-left : (text : List ℕ) (i : ℕ) → i < length text → waiters a (drop i text) ≡ waiters a (getD text i 0 ∷ []) ++ waiters a (drop (i + 1) text)
+  pub waiters-left : (text : List ℕ) (i : ℕ) → i < length text
+      → waiters a (drop i text) ≡ waiters a (getD text i 0 ∷ []) ++ waiters a (drop (i + 1) text)
   waiters-left text i h = rw (add-one, drop-cons text i 0 h) (waiters-cons (getD text i 0) (drop (suc i) text))
 
   pub waiters-end : (text : List ℕ) (i : ℕ) → length text ≤ i → waiters a (drop i text) ≡ []
   unfolding waiters
   waiters-end text i h = rw (drop-of-length-le text h)
 
-  pub left-length : (text : List ℕ) (i : ℕ) → i < length text → length (waiters a (drop i text)) ≡ length (waiters a (getD text i 0 ∷ [])) + length (waiters a (drop (i + 1) text))
-  left-length text i h = ap length (waiters-left text i h) ∙ length-append (waiters a (getD text i 0 ∷ [])) (waiters a (drop (i + 1) text))
+  pub left-length : (text : List ℕ) (i : ℕ) → i < length text
+      → length (waiters a (drop i text))
+      ≡ length (waiters a (getD text i 0 ∷ [])) + length (waiters a (drop (i + 1) text))
+  left-length text i h =
+      ap length (waiters-left text i h)
+      ∙ length-append (waiters a (getD text i 0 ∷ [])) (waiters a (drop (i + 1) text))
 
   -- the test over what is left
-  pub wait-left : (cs : List ℕ) (i : ℕ) → i < length cs → allWait a (drop i cs) ≡ (waits a (getD cs i 0) && allWait a (drop (i + 1) cs))
+  pub wait-left : (cs : List ℕ) (i : ℕ) → i < length cs
+      → allWait a (drop i cs) ≡ (waits a (getD cs i 0) && allWait a (drop (i + 1) cs))
   unfolding allWait
   wait-left cs i h = rw (add-one, drop-cons cs i 0 h)
 
@@ -52,7 +58,8 @@ module _ (a : Alphabet) where
 
   -- those passed and those left together say it of all
   module _ (cs : List ℕ) (i : ℕ) (good : Bool) where
-    pub wait-turn : i < length cs → ((good && waits a (getD cs i 0)) && allWait a (drop (i + 1) cs)) ≡ (good && allWait a (drop i cs))
+    pub wait-turn : i < length cs
+        → ((good && waits a (getD cs i 0)) && allWait a (drop (i + 1) cs)) ≡ (good && allWait a (drop i cs))
     wait-turn h = and-assoc good _ _ ∙ ap (λ (b : Bool). good && b) (sym (wait-left cs i h))
 
     pub wait-all : length cs ≤ i → (good && allWait a (drop i cs)) ≡ allWait a cs → good ≡ allWait a cs
@@ -68,7 +75,8 @@ module _ (a : Alphabet) where
   putting-start text chars₀ at = record { size = refl; left = refl; whole = refl }
 
   module _ (text chars₀ : List ℕ) (at : ℕ) (chars : List ℕ) (n i : ℕ) (p : Putting text chars₀ at chars n i) where
-    pub putting-room : i < length text → at + length (waiters a text) ≤ length chars₀ → n + length (waiters a (getD text i 0 ∷ [])) ≤ length chars
+    pub putting-room : i < length text → at + length (waiters a text) ≤ length chars₀
+        → n + length (waiters a (getD text i 0 ∷ [])) ≤ length chars
     putting-room h r =
         let e = left-length text i h in
         let l = p .left in
@@ -85,7 +93,11 @@ module _ (a : Alphabet) where
         record {
           size = ap length f ∙ length-sets chars n w ∙ p .size;
           left = omega arith;
-          whole = (λ j. sets (f j) (e j) rest) ∙ sym (sets-append chars n w rest) ∙ ap (λ (v : List ℕ). sets chars n v) (sym (waiters-left text i h)) ∙ p .whole;
+          whole =
+              (λ j. sets (f j) (e j) rest)
+              ∙ sym (sets-append chars n w rest)
+              ∙ ap (λ (v : List ℕ). sets chars n v) (sym (waiters-left text i h))
+              ∙ p .whole;
         }
 
     pub putting-end : length text ≤ i → chars ≡ sets chars₀ at (waiters a text)

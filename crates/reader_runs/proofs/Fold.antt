@@ -28,7 +28,8 @@ module _ (mode : Mode) (r : Reader) (heard : List ℕ) (i : ℕ) where
 
   pub words-next : i < length heard
       → words mode r (drop i heard)
-      ≡ wordOf (hear mode r (getD heard i 0) .event) ++ words mode (hear mode r (getD heard i 0) .reader) (drop (i + 1) heard)
+      ≡ wordOf (hear mode r (getD heard i 0) .event)
+      ++ words mode (hear mode r (getD heard i 0) .reader) (drop (i + 1) heard)
   unfolding outputs wordsOf
   words-next h = rw (add-one, drop-cons heard i 0 h) refl
 

@@ -41,8 +41,10 @@ module _ (sent₀ : List ℕ) (from : ℕ) (all : List ℕ) where
         size = ap length e ∙ length-sets sent i (replicate n level) ∙ w .size;
         fits = front-fits;
         slice =
-            part-behind sent after i (i + n) (replicate n level) rest e (ap (λ (m : ℕ). i + m) (length-replicate n level))
-            ∙ sym (ap (sets sent i) p) ∙ w .slice;
+            part-behind sent after i (i + n) (replicate n level) rest e
+            (ap (λ (m : ℕ). i + m) (length-replicate n level))
+            ∙ sym (ap (sets sent i) p)
+            ∙ w .slice;
       }
 
     pub writing-end : left ≡ [] → sent ≡ sets sent₀ from all

@@ -31,11 +31,13 @@ module _ (s : Station) (text : List ℕ) where
   unfolding offerAnswer
   offer-3 a e = simp (a, e)
 
-  pub offer-4 : inRange s ≡ true → allChars text ≡ true → room (alphabetOfStation s) (queueOf s) text ≡ false → offerAnswer s text ≡ 4
+  pub offer-4 : inRange s ≡ true → allChars text ≡ true → room (alphabetOfStation s) (queueOf s) text ≡ false
+      → offerAnswer s text ≡ 4
   unfolding offerAnswer
   offer-4 a b e = simp (a, b, e)
 
-  pub offer-0 : inRange s ≡ true → allChars text ≡ true → room (alphabetOfStation s) (queueOf s) text ≡ true → offerAnswer s text ≡ 0
+  pub offer-0 : inRange s ≡ true → allChars text ≡ true → room (alphabetOfStation s) (queueOf s) text ≡ true
+      → offerAnswer s text ≡ 0
   unfolding offerAnswer
   offer-0 a b e = simp (a, b, e)
 
@@ -69,17 +71,23 @@ module _ (s : Station) (heard : List ℕ) (sentRoom wordRoom : ℕ) where
         module _ (d : length heard ≤ sentRoom) where
           pub run-8 : wordRoom < length heard → answer ≡ 8
           unfolding runAnswer
-          run-8 h = simp (a, le-leb (length heard) 4_096 b, c, le-leb (length heard) sentRoom d, lt-leb (length heard) wordRoom h)
+          run-8 h =
+              let few = le-leb (length heard) 4_096 b in
+              simp (a, few, c, le-leb (length heard) sentRoom d, lt-leb (length heard) wordRoom h)
 
           pub run-0 : length heard ≤ wordRoom → answer ≡ 0
           unfolding runAnswer
-          run-0 h = simp (a, le-leb (length heard) 4_096 b, c, le-leb (length heard) sentRoom d, le-leb (length heard) wordRoom h)
+          run-0 h =
+              let few = le-leb (length heard) 4_096 b in
+              simp (a, few, c, le-leb (length heard) sentRoom d, le-leb (length heard) wordRoom h)
 
 -- the slices of a refused run
-pub refused-sent : (s : Station) (heard : List ℕ) (wordRoom : ℕ) (slice : List ℕ) → (runAnswer s heard (length slice) wordRoom ≡ 0 → ⊥) → sentAfter s heard wordRoom slice ≡ slice
+pub refused-sent : (s : Station) (heard : List ℕ) (wordRoom : ℕ) (slice : List ℕ)
+    → (runAnswer s heard (length slice) wordRoom ≡ 0 → ⊥) → sentAfter s heard wordRoom slice ≡ slice
 unfolding sentAfter
 refused-sent s heard wordRoom slice n = simp (ne-eqb (runAnswer s heard (length slice) wordRoom) 0 n)
 
-pub refused-words : (s : Station) (heard : List ℕ) (sentRoom : ℕ) (slice : List ℕ) → (runAnswer s heard sentRoom (length slice) ≡ 0 → ⊥) → wordsAfter s heard sentRoom slice ≡ slice
+pub refused-words : (s : Station) (heard : List ℕ) (sentRoom : ℕ) (slice : List ℕ)
+    → (runAnswer s heard sentRoom (length slice) ≡ 0 → ⊥) → wordsAfter s heard sentRoom slice ≡ slice
 unfolding wordsAfter
 refused-words s heard sentRoom slice n = simp (ne-eqb (runAnswer s heard sentRoom (length slice)) 0 n)

@@ -30,7 +30,9 @@ pub cut : (s : Station) (xs ys : List ℕ) → Cut s xs ys
 cut s xs ys = record {
   station = after-append stationMs sentMs s xs ys;
   sent = outputs-append stationMs sentMs s xs ys;
-  words = ap wordsOf (outputs-append stationMs eventOf s xs ys) ∙ words-append (eventsBy s xs) (eventsBy (stationAfter s xs) ys);
+  words =
+      ap wordsOf (outputs-append stationMs eventOf s xs ys)
+      ∙ words-append (eventsBy s xs) (eventsBy (stationAfter s xs) ys);
 }
 
 -- both parts of a run that succeeds succeed, with slices that are long enough for them
@@ -50,10 +52,14 @@ module _ (s : Station) (xs ys : List ℕ) (sentRoom wordRoom : ℕ) (z : runAnsw
       let l = few in
       run-0 s xs m n (r .in-range) (omega arith) (at-most-front (highestLevel (modeOfStation s)) xs ys (r .levels)) p q
 
-  pub second-runs : length (s .chars) ≡ 256 → (m n : ℕ) → length ys ≤ m → length ys ≤ n → runAnswer (stationAfter s xs) ys m n ≡ 0
+  pub second-runs : length (s .chars) ≡ 256 → (m n : ℕ) → length ys ≤ m → length ys ≤ n
+      → runAnswer (stationAfter s xs) ys m n ≡ 0
   second-runs full m n p q =
       let r = runs s (xs ++ ys) sentRoom wordRoom z in
       let most = highestLevel (modeOfStation s) in
       let l = few in
-      let levels = subst (λ (d : Mode). allAtMost (highestLevel d) ys ≡ true) (sym (mode-after s xs)) (at-most-behind most xs ys (r .levels)) in
-      run-0 (stationAfter s xs) ys m n (after-in s xs full (r .in-range) (at-most-front most xs ys (r .levels))) (omega arith) levels p q
+      let i = after-in s xs full (r .in-range) (at-most-front most xs ys (r .levels)) in
+      let levels =
+      subst (λ (d : Mode). allAtMost (highestLevel d) ys ≡ true) (sym (mode-after s xs))
+      (at-most-behind most xs ys (r .levels)) in
+      run-0 (stationAfter s xs) ys m n i (omega arith) levels p q

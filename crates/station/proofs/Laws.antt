@@ -19,7 +19,8 @@ use Rattle.station.specs.Entries.{StationAnswered, answered, offerAnswer
 use Rattle.station.proofs.Answers.{offer-4, offer-0}
 
 -- DEL, in what is left of a text
-pub del-left : (text : List ℕ) (i : ℕ) → i < length text → hasDel (drop i text) ≡ (eqb (getD text i 0) 0x7f || hasDel (drop (i + 1) text))
+pub del-left : (text : List ℕ) (i : ℕ) → i < length text
+    → hasDel (drop i text) ≡ (eqb (getD text i 0) 0x7f || hasDel (drop (i + 1) text))
 unfolding hasDel
 del-left text i h = rw (add-one, drop-cons text i 0 h)
 
@@ -47,14 +48,20 @@ module _ (s : Station) (text : List ℕ) where
   abbrev offerTo : Alphabet → QueueOffered
   offerTo a = queueOffer a (queueOf s) text
 
-  module _ (i : inRange s ≡ true) (c : allChars text ≡ true) (a : Alphabet) (e : a ≡ alphabetOfStation s) (b : Bool) (f : b ≡ offerTo a .accepted) (q : Queue) (g : q ≡ offerTo a .queue) where
+  module _ (i : inRange s ≡ true) (c : allChars text ≡ true)
+      (a : Alphabet) (e : a ≡ alphabetOfStation s)
+      (b : Bool) (f : b ≡ offerTo a .accepted)
+      (q : Queue) (g : q ≡ offerTo a .queue) where
     room-is : b ≡ room (alphabetOfStation s) (queueOf s) text
     unfolding queueOffer
-    room-is = f ∙ ap (λ (d : Alphabet). offerTo d .accepted) e ∙ go (room (alphabetOfStation s) (queueOf s) text)
+    room-is =
+        f
+        ∙ ap (λ (d : Alphabet). offerTo d .accepted) e
+        ∙ go (room (alphabetOfStation s) (queueOf s) text) (offered (alphabetOfStation s) (queueOf s) text)
       where
-        go : (d : Bool) → cond d (offering true (offered (alphabetOfStation s) (queueOf s) text)) (offering false (queueOf s)) .accepted ≡ d
-        go true = refl
-        go false = refl
+        go : (d : Bool) (u : Queue) → cond d (offering true u) (offering false (queueOf s)) .accepted ≡ d
+        go true u = refl
+        go false u = refl
 
     queue-is : q ≡ offerTo (alphabetOfStation s) .queue
     queue-is = g ∙ ap (λ (d : Alphabet). offerTo d .queue) e
@@ -67,7 +74,9 @@ module _ (s : Station) (text : List ℕ) where
         let k : q ≡ queueOf s = queue-is ∙ (rw r refl) in
         (λ j. answered (station (s .core) (k j .chars)) 4) ∙ refused 4 refl (offer-4 s text i c r)
 
-    pub made : b ≡ true → (r : Reader) → r ≡ readerOffered a text (s .core .reader) → (k : Core) → k ≡ coreWith (s .core) (q .waiting) r → answered (station k (q .chars)) 0 ≡ offerOf s text
+    pub made : b ≡ true → (r : Reader) → r ≡ readerOffered a text (s .core .reader)
+        → (k : Core) → k ≡ coreWith (s .core) (q .waiting) r
+        → answered (station k (q .chars)) 0 ≡ offerOf s text
     unfolding offeredTo queueOffer
     made y r h k l =
         let o : room (alphabetOfStation s) (queueOf s) text ≡ true = sym room-is ∙ y in

@@ -75,7 +75,8 @@ core-in s e = station-in s e .core-in
 pub char-in : (a : Alphabet) (c : ℕ) → waits a c ≡ true → c < 128
 char-in a c e = let h = leb-true c 0x7f (and-left (leb c 0x7f) (isCode (sends a c)) e) in omega arith
 
-first-waits : (a : Alphabet) (n : ℕ) (cs : List ℕ) → 1 ≤ n → 1 ≤ length cs → allWait a (take n cs) ≡ true → waits a (getD cs 0 0) ≡ true
+first-waits : (a : Alphabet) (n : ℕ) (cs : List ℕ) → 1 ≤ n → 1 ≤ length cs → allWait a (take n cs) ≡ true
+    → waits a (getD cs 0 0) ≡ true
 unfolding allWait
 first-waits a zero cs o l h = absurd (omega arith)
 first-waits a (suc n) [] o l h = absurd (omega arith)
@@ -87,7 +88,9 @@ module _ (s : Station) (full : length (s .chars) ≡ 256) (i : inRange s ≡ tru
 
   pub front-waits : 1 ≤ s .core .waiting → waits a (front s) ≡ true
   unfolding queueIn
-  front-waits o = first-waits a (s .core .waiting) (s .chars) o (omega arith) (and-right (leb (s .core .waiting) 256) (allWait a (waitingOf (queueOf s))) (station-in s i .queue-in))
+  front-waits o =
+      let w = and-right (leb (s .core .waiting) 256) (allWait a (waitingOf (queueOf s))) (station-in s i .queue-in) in
+      first-waits a (s .core .waiting) (s .chars) o (omega arith) w
 
   pub front-in : 1 ≤ s .core .waiting → front s < 128
   front-in o = char-in a (front s) (front-waits o)
@@ -132,13 +135,18 @@ moved-full cs h = simp (length-append, length-drop) (omega arith)
 module _ (s : Station) (heard : ℕ) (full : length (s .chars) ≡ 256) where
   pub ms-full : length (stationMs s heard .chars) ≡ 256
   unfolding stationMs
-  ms-full = either (λ (cs : List ℕ). length cs ≡ 256) (settled (s .core) (front s) .takes) (moved (s .chars)) (s .chars) (moved-full (s .chars) full) full
+  ms-full =
+      either (λ (cs : List ℕ). length cs ≡ 256) (settled (s .core) (front s) .takes)
+      (moved (s .chars)) (s .chars) (moved-full (s .chars) full) full
 
-  queue-after : queueIn (alphabetOfStation s) (queueOf s) ≡ true → queueIn (alphabetOfStation s) (queueOf (stationMs s heard)) ≡ true
+  queue-after : queueIn (alphabetOfStation s) (queueOf s) ≡ true
+      → queueIn (alphabetOfStation s) (queueOf (stationMs s heard)) ≡ true
   unfolding stationMs coreFrom taken
   queue-after i = go (settled (s .core) (front s) .takes) refl
     where
-      go : (b : Bool) → settled (s .core) (front s) .takes ≡ b → queueIn (alphabetOfStation s) (queue (cond b (s .core .waiting - 1) (s .core .waiting)) (charsAfter b (s .chars))) ≡ true
+      go : (b : Bool) → settled (s .core) (front s) .takes ≡ b
+          → queueIn (alphabetOfStation s)
+          (queue (cond b (s .core .waiting - 1) (s .core .waiting)) (charsAfter b (s .chars))) ≡ true
       go true e = queue.taken-in (alphabetOfStation s) (queueOf s) full (takes-waiting (s .core) (front s) e) i
       go false e = i
 
@@ -161,19 +169,29 @@ unfolding stateAfter
 after-full s [] full = full
 after-full s (x ∷ xs) full = after-full (stationMs s x) xs (ms-full s x full)
 
-pub after-in : (s : Station) (heard : List ℕ) → length (s .chars) ≡ 256 → inRange s ≡ true → allAtMost (highestLevel (modeOfStation s)) heard ≡ true → inRange (stationAfter s heard) ≡ true
+pub after-in : (s : Station) (heard : List ℕ) → length (s .chars) ≡ 256 → inRange s ≡ true
+    → allAtMost (highestLevel (modeOfStation s)) heard ≡ true → inRange (stationAfter s heard) ≡ true
 unfolding stateAfter stationMs coreFrom
 after-in s [] full i h = i
 after-in s (x ∷ xs) full i h =
     let most = highestLevel (modeOfStation s) in
-    after-in (stationMs s x) xs (ms-full s x full) (ms-in s x full i (at-most-head most x xs h)) (at-most-tail most x xs h)
+    let next = ms-in s x full i (at-most-head most x xs h) in
+    after-in (stationMs s x) xs (ms-full s x full) next (at-most-tail most x xs h)
 
 -- ---- an offer
 
-pub reader-offered-in : (mode : Mode) (a : Alphabet) (cs : List ℕ) (r : Reader) → ReaderIn mode r → ReaderIn mode (readerOffered a cs r)
+pub reader-offered-in : (mode : Mode) (a : Alphabet) (cs : List ℕ) (r : Reader) → ReaderIn mode r
+    → ReaderIn mode (readerOffered a cs r)
 reader-offered-in mode Baudot cs r h =
     either (ReaderIn mode) (hasDel cs) (reader (r .frame) (r .keys) 1 (r .prefix)) r
-    (record { frame-in = h .frame-in; keys-in = h .keys-in; shift-low = omega arith; shift-in = omega arith; prefix-in = h .prefix-in }) h
+    (record {
+      frame-in = h .frame-in;
+      keys-in = h .keys-in;
+      shift-low = omega arith;
+      shift-in = omega arith;
+      prefix-in = h .prefix-in;
+    })
+    h
 reader-offered-in mode dtmf cs r h = h
 reader-offered-in mode edt cs r h = h
 
@@ -188,7 +206,8 @@ module _ (s : Station) (text : List ℕ) where
   unfolding offerAnswer
   accepted = go (inRange s) refl (allChars text) refl (room (alphabetOfStation s) (queueOf s) text) refl
     where
-      go : (a : Bool) → inRange s ≡ a → (b : Bool) → allChars text ≡ b → (c : Bool) → room (alphabetOfStation s) (queueOf s) text ≡ c
+      go : (a : Bool) → inRange s ≡ a → (b : Bool) → allChars text ≡ b
+          → (c : Bool) → room (alphabetOfStation s) (queueOf s) text ≡ c
           → _≡_ {A = ℕ} (cond a (cond b (cond c 0 4) 3) 1) 0 → Accepted s text
       go true e true f true g z = record { in-range = e; chars = f; space = g }
       go true e true f false g z = absurd (omega arith)
@@ -228,22 +247,26 @@ pub open-in : (mode : ℕ) → inRange (openOf mode .station) ≡ true
 unfolding openOf
 open-in mode = go (isMode mode) refl
   where
-    go : (b : Bool) → isMode mode ≡ b → inRange (cond b (answered (freshStation mode) 0) (answered (freshStation 1) 2) .station) ≡ true
+    go : (b : Bool) → isMode mode ≡ b
+        → inRange (cond b (answered (freshStation mode) 0) (answered (freshStation 1) 2) .station) ≡ true
     go true e = fresh-in mode e
     go false e = fresh-in 1 refl
 
-pub offer-in : (s : Station) (text : List ℕ) → length (s .chars) ≡ 256 → inRange s ≡ true → inRange (offerOf s text .station) ≡ true
+pub offer-in : (s : Station) (text : List ℕ) → length (s .chars) ≡ 256 → inRange s ≡ true
+    → inRange (offerOf s text .station) ≡ true
 unfolding offerOf
 offer-in s text full i = go (eqb (offerAnswer s text) 0) refl
   where
-    go : (b : Bool) → eqb (offerAnswer s text) 0 ≡ b → inRange (cond b (answered (offeredTo s text) 0) (answered s (offerAnswer s text)) .station) ≡ true
+    go : (b : Bool) → eqb (offerAnswer s text) 0 ≡ b
+        → inRange (cond b (answered (offeredTo s text) 0) (answered s (offerAnswer s text)) .station) ≡ true
     go true e = offered-in s text full (eqb-true (offerAnswer s text) 0 e)
     go false e = i
 
 pub offer-full : (s : Station) (text : List ℕ) → length (s .chars) ≡ 256 → length (offerOf s text .station .chars) ≡ 256
 unfolding offerOf
 offer-full s text full =
-    either (λ (r : StationAnswered). length (r .station .chars) ≡ 256) (eqb (offerAnswer s text) 0) (answered (offeredTo s text) 0) (answered s (offerAnswer s text)) (offered-full s text full) full
+    either (λ (r : StationAnswered). length (r .station .chars) ≡ 256) (eqb (offerAnswer s text) 0)
+    (answered (offeredTo s text) 0) (answered s (offerAnswer s text)) (offered-full s text full) full
 
 -- what a run that succeeds has
 pub record Runs (s : Station) (heard : List ℕ) (sentRoom wordRoom : ℕ) : Type 0 where
@@ -257,29 +280,35 @@ module _ (s : Station) (heard : List ℕ) (sentRoom wordRoom : ℕ) where
   pub runs : runAnswer s heard sentRoom wordRoom ≡ 0 → Runs s heard sentRoom wordRoom
   unfolding runAnswer
   runs =
-      go (inRange s) refl (leb (length heard) 4_096) refl (allAtMost (highestLevel (modeOfStation s)) heard) refl (leb (length heard) sentRoom) refl (leb (length heard) wordRoom) refl
+      go (inRange s) refl (leb (length heard) 4_096) refl (allAtMost (highestLevel (modeOfStation s)) heard) refl
+      (leb (length heard) sentRoom) refl (leb (length heard) wordRoom) refl
     where
-      go : (a : Bool) → inRange s ≡ a → (b : Bool) → leb (length heard) 4_096 ≡ b → (c : Bool) → allAtMost (highestLevel (modeOfStation s)) heard ≡ c
+      go : (a : Bool) → inRange s ≡ a → (b : Bool) → leb (length heard) 4_096 ≡ b
+          → (c : Bool) → allAtMost (highestLevel (modeOfStation s)) heard ≡ c
           → (d : Bool) → leb (length heard) sentRoom ≡ d → (e : Bool) → leb (length heard) wordRoom ≡ e
           → _≡_ {A = ℕ} (cond a (cond b (cond c (cond d (cond e 0 8) 7) 6) 5) 1) 0 → Runs s heard sentRoom wordRoom
-      go true p true q true r true t true u z = record { in-range = p; few = q; levels = r; sent-fits = t; words-fit = u }
+      go true p true q true r true t true u z =
+          record { in-range = p; few = q; levels = r; sent-fits = t; words-fit = u }
       go true p true q true r true t false u z = absurd (omega arith)
       go true p true q true r false t e u z = absurd (omega arith)
       go true p true q false r d t e u z = absurd (omega arith)
       go true p false q c r d t e u z = absurd (omega arith)
       go false p b q c r d t e u z = absurd (omega arith)
 
+  abbrev answer : ℕ
+  answer = runAnswer s heard sentRoom wordRoom
+
   pub run-full : length (s .chars) ≡ 256 → length (ranOf s heard sentRoom wordRoom .station .chars) ≡ 256
   unfolding ranOf
   run-full full =
-      let answer = runAnswer s heard sentRoom wordRoom in
-      either (λ (r : StationRan). length (r .station .chars) ≡ 256) (eqb answer 0) (ran (stationAfter s heard) 0 (length (wordsBy s heard))) (ran s answer 0) (after-full s heard full) full
+      either (λ (r : StationRan). length (r .station .chars) ≡ 256) (eqb answer 0)
+      (ran (stationAfter s heard) 0 (length (wordsBy s heard))) (ran s answer 0) (after-full s heard full) full
 
   pub run-in : length (s .chars) ≡ 256 → inRange s ≡ true → inRange (ranOf s heard sentRoom wordRoom .station) ≡ true
   unfolding ranOf
-  run-in full i = go (eqb (runAnswer s heard sentRoom wordRoom) 0) refl
+  run-in full i = go (eqb answer 0) refl
     where
-      go : (b : Bool) → eqb (runAnswer s heard sentRoom wordRoom) 0 ≡ b
-          → inRange (cond b (ran (stationAfter s heard) 0 (length (wordsBy s heard))) (ran s (runAnswer s heard sentRoom wordRoom) 0) .station) ≡ true
-      go true e = after-in s heard full i (runs (eqb-true (runAnswer s heard sentRoom wordRoom) 0 e) .levels)
+      go : (b : Bool) → eqb answer 0 ≡ b
+          → inRange (cond b (ran (stationAfter s heard) 0 (length (wordsBy s heard))) (ran s answer 0) .station) ≡ true
+      go true e = after-in s heard full i (runs (eqb-true answer 0 e) .levels)
       go false e = i

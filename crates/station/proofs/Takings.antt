@@ -23,7 +23,8 @@ none-taken w chars =
     let e : 0 ≡ w - w = omega arith in
     record { fewer = omega arith; moves = ap (λ (k : ℕ). movedBy k chars) e }
 
-one-ms : (w : ℕ) (chars : List ℕ) (takes : Bool) → (takes ≡ true → 1 ≤ w) → Takes w (waitingAfter takes w) chars (charsAfter takes chars)
+one-ms : (w : ℕ) (chars : List ℕ) (takes : Bool) → (takes ≡ true → 1 ≤ w)
+    → Takes w (waitingAfter takes w) chars (charsAfter takes chars)
 unfolding movedBy
 one-ms w chars true h =
     let o = h refl in
@@ -31,18 +32,24 @@ one-ms w chars true h =
     record { fewer = omega arith; moves = ap (λ (k : ℕ). movedBy k chars) e }
 one-ms w chars false h = none-taken w chars
 
-pub taken-after : (s : Station) (xs : List ℕ) → Takes (s .core .waiting) (stationAfter s xs .core .waiting) (s .chars) (stationAfter s xs .chars)
+pub taken-after : (s : Station) (xs : List ℕ)
+    → Takes (s .core .waiting) (stationAfter s xs .core .waiting) (s .chars) (stationAfter s xs .chars)
 unfolding stateAfter stationMs coreFrom
 taken-after s [] = none-taken (s .core .waiting) (s .chars)
 taken-after s (x ∷ xs) =
-    let a = one-ms (s .core .waiting) (s .chars) (settled (s .core) (front s) .takes) (takes-waiting (s .core) (front s)) in
+    let t = settled (s .core) (front s) .takes in
+    let a = one-ms (s .core .waiting) (s .chars) t (takes-waiting (s .core) (front s)) in
     let b = taken-after (stationMs s x) xs in
-    let v = waitingAfter (settled (s .core) (front s) .takes) (s .core .waiting) in
+    let v = waitingAfter t (s .core .waiting) in
     let u = stationAfter (stationMs s x) xs .core .waiting in
     let f = a .fewer in
     let g = b .fewer in
     let e : (s .core .waiting - v) + (v - u) ≡ s .core .waiting - u = omega arith in
     record {
       fewer = omega arith;
-      moves = b .moves ∙ ap (movedBy (v - u)) (a .moves) ∙ moved-by-more (s .core .waiting - v) (v - u) (s .chars) ∙ ap (λ (k : ℕ). movedBy k (s .chars)) e;
+      moves =
+          b .moves
+          ∙ ap (movedBy (v - u)) (a .moves)
+          ∙ moved-by-more (s .core .waiting - v) (v - u) (s .chars)
+          ∙ ap (λ (k : ℕ). movedBy k (s .chars)) e;
     }

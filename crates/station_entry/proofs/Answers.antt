@@ -23,27 +23,37 @@ module _ (s : Station) (heard sent words : List ℕ) where
       (t ≡ gives .station)
       × ((answer ≡ gives .answer)
       × ((count ≡ gives .words)
-      × ((sent′ ≡ sentAfter s heard (length words) sent) × (words′ ≡ wordsAfter s heard (length sent) words))))
+      × ((sent′ ≡ sentAfter s heard (length words) sent)
+      × (words′ ≡ wordsAfter s heard (length sent) words))))
 
-  together : (r : StationRan) → r ≡ gives → (sent′ : List ℕ) → sent′ ≡ sentAfter s heard (length words) sent
-      → (words′ : List ℕ) → words′ ≡ wordsAfter s heard (length sent) words → Gives (r .station) (r .answer) (r .words) sent′ words′
+  together : (r : StationRan) → r ≡ gives
+      → (sent′ : List ℕ) → sent′ ≡ sentAfter s heard (length words) sent
+      → (words′ : List ℕ) → words′ ≡ wordsAfter s heard (length sent) words
+      → Gives (r .station) (r .answer) (r .words) sent′ words′
   together r e sent′ f words′ g =
-      (ap (λ (x : StationRan). x .station) e, (ap (λ (x : StationRan). x .answer) e, (ap (λ (x : StationRan). x .words) e, (f, g))))
+      let answer = ap (λ (x : StationRan). x .answer) e in
+      let count = ap (λ (x : StationRan). x .words) e in
+      (ap (λ (x : StationRan). x .station) e, (answer, (count, (f, g))))
 
   -- a refusal leaves the station and the slices
-  pub refused : (n : ℕ) → (n ≡ 0 → ⊥) → runAnswer s heard (length sent) (length words) ≡ n → (r : Ran) → r ≡ record { core = s .core; answer = n; words = 0 }
+  pub refused : (n : ℕ) → (n ≡ 0 → ⊥) → runAnswer s heard (length sent) (length words) ≡ n
+      → (r : Ran) → r ≡ record { core = s .core; answer = n; words = 0 }
       → Gives (station (r .core) (s .chars)) (r .answer) (r .words) sent words
   refused n z e r f =
       let no : runAnswer s heard (length sent) (length words) ≡ 0 → ⊥ = λ y. z (sym e ∙ y) in
       together _
-      ((λ j. ran (station (f j .core) (s .chars)) (f j .answer) (f j .words)) ∙ ap (λ (k : ℕ). ran s k 0) (sym e) ∙ sym (refused-run s heard (length sent) (length words) no)) _
+      ((λ j. ran (station (f j .core) (s .chars)) (f j .answer) (f j .words))
+      ∙ ap (λ (k : ℕ). ran s k 0) (sym e)
+      ∙ sym (refused-run s heard (length sent) (length words) no)) _
       (sym (refused-sent s heard (length words) sent no)) _
       (sym (refused-words s heard (length sent) words no))
 
   -- success gives the station after all the ms, one sent ms for each and the words from the slices' fronts
-  pub accepted : runAnswer s heard (length sent) (length words) ≡ 0 → length heard ≤ length sent → length heard ≤ length words
+  pub accepted : runAnswer s heard (length sent) (length words) ≡ 0
+      → length heard ≤ length sent → length heard ≤ length words
       → (t : Station) → t ≡ stationAfter s heard → (k : ℕ) → k ≡ length (wordsBy s heard)
-      → (sent′ : List ℕ) → sent′ ≡ sets sent 0 (sentBy s heard) → (words′ : List ℕ) → words′ ≡ sets words 0 (wordsBy s heard)
+      → (sent′ : List ℕ) → sent′ ≡ sets sent 0 (sentBy s heard)
+      → (words′ : List ℕ) → words′ ≡ sets words 0 (wordsBy s heard)
       → Gives t 0 k sent′ words′
   unfolding ranOf sentAfter wordsAfter
   accepted a p q t e k f sent′ g words′ h =

@@ -16,17 +16,21 @@ returns-2 c =
 
 returns-3 : tie.Need-returns-3
 returns-3 c =
-    let s = c .before .before .before .before .args in
-    simp (not-false (s .over) (c .before .before .before .if1 .left), eq-eqb _ _ (c .before .if2 .left), not-true (s .ends) (c .if3 .taken))
+    let e = c .before .before .before in
+    let s = e .before .args in
+    let over = not-false (s .over) (e .if1 .left) in
+    simp (over, eq-eqb _ _ (c .before .if2 .left), not-true (s .ends) (c .if3 .taken))
 
 idle-requires : tie.Need-idle-requires
 idle-requires c κs = search needs
 
 returns-4 : tie.Need-returns-4
 returns-4 c =
-    let s = c .before .before .before .before .before .args in
+    let e = c .before .before .before .before in
+    let s = e .before .args in
+    let over = not-false (s .over) (e .if1 .left) in
     c .idle .ensures
-    ∙ simp (not-false (s .over) (c .before .before .before .before .if1 .left), eq-eqb _ _ (c .before .before .if2 .left), not-false (s .ends) (c .before .if3 .left))
+    ∙ simp (over, eq-eqb _ _ (c .before .before .if2 .left), not-false (s .ends) (c .before .if3 .left))
 
 pub ended-spec : {M : Type 1} → statement M
 ended-spec = tie.close (tie.spec returns returns-2 returns-3 idle-requires returns-4)

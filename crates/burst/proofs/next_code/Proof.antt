@@ -20,7 +20,9 @@ is-over-requires : tie.Need-is-over-requires
 is-over-requires c κs = search needs
 
 returns-2 : tie.Need-returns-2
-returns-2 c = sym (not-over _ _ _ _ _ (sym (c .before .is-over .ensures) ∙ not-true (c .before .is-over .result) (c .if2 .taken)))
+returns-2 c =
+    let o = c .before .is-over in
+    sym (not-over _ _ _ _ _ (sym (o .ensures) ∙ not-true (o .result) (c .if2 .taken)))
 
 alphabet-requires : tie.Need-alphabet-requires
 alphabet-requires c κs = search needs
@@ -35,8 +37,11 @@ code-begins-requires c κs = let s = c .before .before .before .before .before i
     (s .pre .0, subst (SendsIn _) (sym (c .lookup .ensures)) (sends-in _ _ (s .pre .1 (omega arith))))
 
 returns-3 : tie.Need-returns-3
-returns-3 c = let o = sym (c .before .before .before .before .is-over .ensures) ∙ not-false (c .before .before .before .before .is-over .result) (c .before .before .before .if2 .left) in
-    let e = code-next _ _ _ _ _ (c .before .before .before .before .before .if1 .left) o in
+returns-3 c =
+    let m = c .before .before .before in
+    let o = m .before .is-over in
+    let over = sym (o .ensures) ∙ not-false (o .result) (m .if2 .left) in
+    let e = code-next _ _ _ _ _ (m .before .before .if1 .left) over in
     c .code-begins .ensures ∙ simp (c .before .lookup .ensures, c .before .before .alphabet .ensures) (sym e)
 
 pub next-code-spec : {M : Type 1} → statement M

@@ -26,7 +26,9 @@ preamble-requires c κs = search needs
 
 returns-3 : tie.Need-returns-3
 unfolding partMs
-returns-3 c = simp (ne-eqb _ _ (c .before .before .before .if1 .left), ne-eqb _ _ (c .before .if2 .left), c .preamble .ensures, length-replicate)
+returns-3 c =
+    let e = c .before in
+    simp (ne-eqb _ _ (e .before .before .if1 .left), ne-eqb _ _ (e .if2 .left), c .preamble .ensures, length-replicate)
 
 pub part-ms-spec : {M : Type 1} → statement M
 part-ms-spec = tie.close (tie.spec returns duration-requires returns-2 preamble-requires returns-3)

@@ -18,6 +18,19 @@ Inv-loop mode heard place digits i m j₀ s₀ at₀ d₀ j s at d = Ahead mode 
 abbrev μ-loop : tie.MeasureT-loop
 μ-loop mode heard place digits i m j₀ s₀ at₀ d₀ j s at d = length heard - at
 
+-- ---- the moments of the walk
+
+abbrev start-of : tie.At-loop Inv-loop μ-loop → tie.Start Inv-loop μ-loop
+start-of c = c .before .before .before .before
+
+abbrev turn-of : tie.After-effect-of Inv-loop μ-loop → tie.In-loop Inv-loop μ-loop
+turn-of c = c .before .before
+
+abbrev effect-of : tie.After-sample-ms2 Inv-loop μ-loop → tie.After-effect-of Inv-loop μ-loop
+effect-of c = c .before .before .before .before
+
+-- ---- what each moment needs
+
 sub-m : tie.Need-sub-m Inv-loop μ-loop
 sub-m c = search needs
 
@@ -70,10 +83,9 @@ add-t19 c = search needs
 
 returns : tie.Need-returns Inv-loop μ-loop
 returns c =
-    let s = c .before .before .before .before .before .before .before .before .before in
-    let l = c .before .before .before .before .before .loop in (
-      ahead-here (s .args .mode) (s .pre .0) _ _ (s .pre .1 .0) _ _ _ _ _ (l .inv)
-          (c .before .before .before .before .loop-test .taken),
+    let t = turn-of (c .before .before) in
+    let s = start-of (t .before) in (
+      ahead-here (s .args .mode) (s .pre .0) _ _ (s .pre .1 .0) _ _ _ _ _ (t .before .loop .inv) (t .loop-test .taken),
       stops _ _,
     )
 
@@ -82,13 +94,14 @@ add-t20 c = search needs
 
 returns-2 : tie.Need-returns-2 Inv-loop μ-loop
 returns-2 c =
-    let s = c .before .before .before .before .before .before .before .before .before .before in
-    let l = c .before .before .before .before .before .before .loop in
+    let m = c .before .before .before in
+    let t = turn-of m in
+    let s = start-of (t .before) in
+    let l = t .before .loop in
     let x = getD (s .args .heard .now) (l .at) 0 in
-    let e = c .before .before .before .effect-of in
+    let e = m .effect-of in
     let from = l .inv .from in (
-      ahead-hunts (s .args .mode) (s .pre .0) _ _ (s .pre .1 .0) _ _ _ _ _ (l .inv)
-          (c .before .before .before .before .before .loop-test .taken)
+      ahead-hunts (s .args .mode) (s .pre .0) _ _ (s .pre .1 .0) _ _ _ _ _ (l .inv) (t .loop-test .taken)
           (subst (Does (kindOf (s .args .mode) (l .j)) (l .d) x) (c .enum-told .given .1) (e .ensures)),
       λ t. omega arith,
     )
@@ -101,8 +114,9 @@ sample-ms-requires-2 c κs = search needs
 
 sub-at-2 : tie.Need-sub-at-2 Inv-loop μ-loop
 sub-at-2 c =
-    let s = c .before .before .before .before .before .before .before .before .before .before .before in
-    let l = c .before .before .before .before .before .before .before .loop in
+    let turn = turn-of (effect-of c) in
+    let s = start-of (turn .before) in
+    let l = turn .before .loop in
     let e = c .sample-ms2 .ensures in
     let ms = l .inv .ms in
     let grows = ms-grows (s .args .mode) (l .j) in
@@ -110,9 +124,10 @@ sub-at-2 c =
 
 add-at-2 : tie.Need-add-at-2 Inv-loop μ-loop
 add-at-2 c =
-    let s = c .before .before .before .before .before .before .before .before .before .before .before in
-    let l = c .before .before .before .before .before .before .before .loop in
-    let t = c .before .before .before .before .before .before .loop-test .taken in
+    let turn = turn-of (effect-of c) in
+    let s = start-of (turn .before) in
+    let l = turn .before .loop in
+    let t = turn .loop-test .taken in
     let e = c .sample-ms2 .ensures in
     let n = l .inv .number in
     let few = ms-few (s .args .mode) (l .j + 1) (omega arith) in
@@ -121,9 +136,10 @@ add-at-2 c =
 
 loop-less : tie.Need-loop-less Inv-loop μ-loop
 loop-less c =
-    let s = c .before .before .before .before .before .before .before .before .before .before .before in
-    let l = c .before .before .before .before .before .before .before .loop in
-    let t = c .before .before .before .before .before .before .loop-test .taken in
+    let turn = turn-of (effect-of c) in
+    let s = start-of (turn .before) in
+    let l = turn .before .loop in
+    let t = turn .loop-test .taken in
     let e = c .sample-ms2 .ensures in
     let ms = l .inv .ms in
     let grows = ms-grows (s .args .mode) (l .j) in
@@ -131,12 +147,12 @@ loop-less c =
 
 loop-again : tie.Need-loop-again Inv-loop μ-loop
 loop-again c =
-    let s = c .before .before .before .before .before .before .before .before .before .before .before in
-    let l = c .before .before .before .before .before .before .before .loop in
+    let t = turn-of (effect-of c) in
+    let s = start-of (t .before) in
+    let l = t .before .loop in
     let x = getD (s .args .heard .now) (l .at) 0 in
-    let e = c .before .before .before .before .effect-of in
-    ahead-turn (s .args .mode) (s .pre .0) _ _ (s .pre .1 .0) _ _ _ _ _ (l .inv)
-    (c .before .before .before .before .before .before .loop-test .taken) _
+    let e = effect-of c .effect-of in
+    ahead-turn (s .args .mode) (s .pre .0) _ _ (s .pre .1 .0) _ _ _ _ _ (l .inv) (t .loop-test .taken) _
     (subst (Does (kindOf (s .args .mode) (l .j)) (l .d) x) (c .before .before .e .given .1) (e .ensures)) _ _ _ refl
     (c .sample-ms2 .ensures) refl
 
@@ -151,7 +167,7 @@ sub-t23 c = search needs
 
 returns-3 : tie.Need-returns-3 Inv-loop μ-loop
 returns-3 c =
-    let s = c .before .before .before .before .before in
+    let s = start-of (c .before) in
     let l = c .before .loop in
     (ahead-end (s .args .mode) (s .pre .0) _ _ (s .pre .1 .0) _ _ _ _ _ (l .inv) (c .loop-test .left), stops _ _)
 

@@ -13,6 +13,16 @@ use Rattle.half_duplex.proofs.silence_after.Reads as silence-after-read
 use Rattle.half_duplex.proofs.waiting_after.Reads as waiting-after-reads
 use Rattle.alphabet.proofs.Mode.of.Reads as of-reads
 
+-- ---- the moments of the walk
+
+abbrev start-of : tie.After-is-inhibited → tie.Start
+start-of c = c .before .before .before
+
+abbrev deaf-of : tie.After-of → tie.After-is-inhibited
+deaf-of c = c .before .before .before .before .before .before
+
+-- ---- what each moment needs
+
 is-inhibited-requires : tie.Need-is-inhibited-requires
 is-inhibited-requires c κs = search needs
 
@@ -32,12 +42,13 @@ of-requires : tie.Need-of-requires
 of-requires c κs = search needs
 
 line-after-requires : tie.Need-line-after-requires
-line-after-requires c κs = let s = c .before .before .before .before .before .before .before .before .before in
+line-after-requires c κs =
+    let s = start-of (deaf-of c) in
     subst (λ (m : Mode). LineIn m (s .args .l .line)) (sym (c .of .ensures)) (s .pre .0)
 
 returns : tie.Need-returns
 returns c =
-    let deaf = c .before .before .before .before .before .before .before in
+    let deaf = deaf-of (c .before) in
     simp (
       c .line-after .ensures,
       c .before .of .ensures,
@@ -46,7 +57,7 @@ returns c =
       c .before .before .before .before .is-silent .ensures,
       c .before .before .before .before .before .waiting-after .ensures,
       deaf .is-inhibited .ensures,
-      deaf .before .before .before .pre .1,
+      start-of deaf .pre .1,
     )
 
 pub core-from-spec : {M : Type 1} → statement M

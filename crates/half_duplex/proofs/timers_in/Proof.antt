@@ -20,7 +20,8 @@ returns-3 c =
 
 returns-4 : tie.Need-returns-4
 returns-4 c =
-    let two = both (le-leb 1 _ (c .before .before .before .before .before .if1 .left)) (le-leb _ 4 (c .before .before .before .if2 .left)) in
+    let m = c .before .before .before in
+    let two = both (le-leb 1 _ (m .before .before .if1 .left)) (le-leb _ 4 (m .if2 .left)) in
     last-decides (both two (le-leb _ 300 (c .before .if3 .left)))
 
 pub timers-in-spec : {M : Type 1} → statement M

@@ -13,11 +13,16 @@ use borrow.Author.Needs.{needs}
 use Rattle.keys_runs.proofs.pass_held.Statement.{statement}
 use Rattle.keys_runs.proofs.pass_held.Tie as tie
 
+abbrev start-of : tie.After-row → tie.Start
+start-of c = c .before .before .before .before .before
+
 -- the ms in a row are fewer than 40
 few : (c : tie.After-row) → c .row .result < 40
 few c =
-    let s = c .before .before .before .before .before in
-    let e = c .row .ensures in let f = row-few (keysOf (s .args .k)) (s .args .level) (s .pre .0 .ms-in) in omega arith
+    let s = start-of c in
+    let e = c .row .ensures in
+    let f = row-few (keysOf (s .args .k)) (s .args .level) (s .pre .0 .ms-in) in
+    omega arith
 
 sub-n : tie.Need-sub-n
 sub-n c = search needs
@@ -67,14 +72,15 @@ add-t10 c = let f = few (c .before) in search (needs, f)
 
 returns-3 : tie.Need-returns-3
 returns-3 c =
-    let s = c .before .before .before .before .before .before in
+    let r = c .before in
+    let s = start-of r in
     let k = s .args .k in
-    let e = c .before .row .ensures in
+    let e = r .row .ensures in
     let l = c .if3 .taken in
     λ (heard : List ℕ) (levels : allAtMost 16 heard ≡ true) (h : s .args .end ≤ length heard)
     (t : Through heard (k .to) (s .args .end) (s .args .level) (s .args .end)).
     held-row heard levels k (s .pre .0) (s .args .level) (s .args .end) h (t .same) (s .pre .1)
-    (c .before .before .before .before .if1 .left) (c .before .before .if2 .left) (omega arith) _ (omega arith)
+    (r .before .before .before .if1 .left) (r .before .if2 .left) (omega arith) _ (omega arith)
 
 sub-t9 : tie.Need-sub-t9
 sub-t9 c = let f = few (c .before) in omega arith
@@ -84,16 +90,16 @@ add-t11 c = let f = few (c .before .before) in search (needs, f)
 
 returns-4 : tie.Need-returns-4
 returns-4 c =
-    let s = c .before .before .before .before .before .before .before in
+    let r = c .before .before in
+    let s = start-of r in
     let k = s .args .k in
-    let e = c .before .before .row .ensures in
-    let f = few (c .before .before) in
+    let e = r .row .ensures in
+    let f = few r in
     let l = c .before .if3 .left in
     λ (heard : List ℕ) (levels : allAtMost 16 heard ≡ true) (h : s .args .end ≤ length heard)
     (t : Through heard (k .to) (s .args .end) (s .args .level) (s .args .end)).
     held-count heard levels k (s .pre .0) (s .args .level) (s .args .end) h (t .same)
-    (c .before .before .before .before .before .if1 .left) (c .before .before .before .if2 .left) (s .pre .0 .ms-in) _
-    (omega arith) (omega arith)
+    (r .before .before .before .if1 .left) (r .before .if2 .left) (s .pre .0 .ms-in) _ (omega arith) (omega arith)
 
 pub pass-held-spec : {M : Type 1} → statement M
 pass-held-spec =

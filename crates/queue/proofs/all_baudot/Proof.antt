@@ -36,7 +36,9 @@ loop-again : tie.Need-loop-again Inv-loop μ-loop
 loop-again c =
     let l = c .before .before .before .loop in
     let cs = c .before .before .before .before .before .args .chars .now in
-    (λ j. (l .good && c .waits-baudot .ensures j) && allWait Baudot (drop (l .i + 1) cs)) ∙ wait-turn Baudot cs (l .i) (l .good) (c .before .before .loop-test .taken) ∙ l .inv
+    (λ j. (l .good && c .waits-baudot .ensures j) && allWait Baudot (drop (l .i + 1) cs))
+    ∙ wait-turn Baudot cs (l .i) (l .good) (c .before .before .loop-test .taken)
+    ∙ l .inv
 
 returns : tie.Need-returns Inv-loop μ-loop
 returns c = wait-all Baudot _ _ _ (c .loop-test .left) (c .before .loop .inv)

@@ -47,9 +47,11 @@ loop-again c =
     let k = left-length (s .args .a) (s .args .text .now) (l .loop .i) (c .before .before .before .loop-test .taken) in
     let x = getD (s .args .text .now) (l .loop .i) 0 in
     let v = l .loop .inv in
+    let r = sym (c .before .waits .ensures) in
     ⊎-elim
-    (λ w. (let e = ap length (waiter (s .args .a) x (sym (c .before .waits .ensures) ∙ w .0 .taken)) in let q = w .1 in (omega arith, omega arith)))
-    (λ w. (let e = ap length (no-waiter (s .args .a) x (sym (c .before .waits .ensures) ∙ w .0 .left)) in let q = w .1 in (omega arith, omega arith))) (c .if1 .came)
+    (λ w. (let e = ap length (waiter (s .args .a) x (r ∙ w .0 .taken)) in let q = w .1 in (omega arith, omega arith)))
+    (λ w. (let e = ap length (no-waiter (s .args .a) x (r ∙ w .0 .left)) in let q = w .1 in (omega arith, omega arith)))
+    (c .if1 .came)
 
 returns : tie.Need-returns Inv-loop μ-loop
 returns c =

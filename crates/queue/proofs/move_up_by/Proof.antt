@@ -107,7 +107,8 @@ returns-3 c =
     let v = c .before .before .before .before .loop .inv in
     let h = c .before .before .before .loop-test .left in
     let b = v .1 .0 in
-    filled-end _ _ _ _ (c .before .loop2 .inv .filled _ refl (omega arith) (v .0 .end) (filled-start _ _ _ _ (v .0))) (c .loop2-test .left)
+    let f = c .before .loop2 .inv .filled _ refl (omega arith) (v .0 .end) (filled-start _ _ _ _ (v .0)) in
+    filled-end _ _ _ _ f (c .loop2-test .left)
 
 pub move-up-by-spec : {M : Type 1} → statement M
 move-up-by-spec =

@@ -34,8 +34,8 @@ loop-less c = search needs
 loop-again : tie.Need-loop-again Inv-loop μ-loop
 loop-again c =
     let q = c .before .before .put-char in
-    let l = c .before .before .before .before .before .before in
-    putting-turn _ _ _ _ _ _ _ (l .loop .inv) _ _ (c .before .before .before .before .before .loop-test .taken) (q .ensures .0) (q .ensures .1)
+    let t = c .before .before .before .before .before in
+    putting-turn _ _ _ _ _ _ _ (t .before .loop .inv) _ _ (t .loop-test .taken) (q .ensures .0) (q .ensures .1)
 
 same-length : tie.Need-same-length Inv-loop μ-loop
 same-length c = c .before .loop .inv .size

@@ -29,11 +29,18 @@ between-requires-6 c κs = search needs
 returns : tie.Need-returns
 returns c =
     let b5 = c .before .before in
-    let b2 = b5 .before .before .before in
+    let b4 = b5 .before in
+    let b3 = b4 .before in
+    let b2 = b3 .before in
     let b1 = b2 .before .before in
     let x = b1 .before .args .c .0 in
-    (λ j. (((((((b1 .between .ensures j || eqb x 0x1a) || b2 .between2 .ensures j) || b5 .before .before .between3 .ensures j)
-    || b5 .before .between4 .ensures j) || b5 .between5 .ensures j) || eqb x 0x5f) || c .between6 .ensures j))
+    (λ j. (((((((b1 .between .ensures j || eqb x 0x1a)
+    || b2 .between2 .ensures j)
+    || b3 .between3 .ensures j)
+    || b4 .between4 .ensures j)
+    || b5 .between5 .ensures j)
+    || eqb x 0x5f)
+    || c .between6 .ensures j))
     ∙ in-dtmf x (search needs)
 
 pub waits-dtmf-spec : {M : Type 1} → statement M

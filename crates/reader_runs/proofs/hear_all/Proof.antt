@@ -24,6 +24,22 @@ Inv-loop mode heard bound words₀ at alike reader₀ i₀ n₀ words reader i n
 abbrev μ-loop : tie.MeasureT-loop
 μ-loop mode heard bound words₀ at alike reader₀ i₀ n₀ words reader i n = length heard + 1 - i
 
+-- ---- the moments of the walk
+
+abbrev start : tie.After-skip Inv-loop μ-loop → tie.Start Inv-loop μ-loop
+start c = c .before .before .before .before .before
+
+abbrev skip-of : tie.Else1 Inv-loop μ-loop → tie.After-skip Inv-loop μ-loop
+skip-of c = c .before .before
+
+abbrev anew-of : tie.After-hear Inv-loop μ-loop → tie.After-anew Inv-loop μ-loop
+anew-of c = c .before .before
+
+abbrev hear-of : tie.After-reader Inv-loop μ-loop → tie.After-hear Inv-loop μ-loop
+hear-of c = c .before .before .before .before .before
+
+-- ---- what each moment needs
+
 are-alike-requires : tie.Need-are-alike-requires Inv-loop μ-loop
 are-alike-requires c κs = c .before .before .pre .1 .0
 
@@ -37,10 +53,6 @@ skip-requires : tie.Need-skip-requires Inv-loop μ-loop
 skip-requires c κs =
     let l = c .loop .inv in
     (l .in-range, (c .before .are-alike .ensures, (levels (c .before .before .before .before), l .within)))
-
--- the start, from the ms that are skipped
-abbrev start : tie.After-skip Inv-loop μ-loop → tie.Start Inv-loop μ-loop
-start c = c .before .before .before .before .before
 
 -- after the ms that are skipped
 skipped : (c : tie.After-skip Inv-loop μ-loop)
@@ -64,51 +76,55 @@ anew-requires c κs = search needs
 
 -- not all are
 more : (c : tie.Else1 Inv-loop μ-loop)
-    → c .before .before .skip .result .to < length (start (c .before .before) .args .heard .now)
-more c = let w = skipped (c .before .before) .within in omega (arith, c .if1 .left)
+    → skip-of c .skip .result .to < length (start (skip-of c) .args .heard .now)
+more c = let w = skipped (skip-of c) .within in omega (arith, c .if1 .left)
 
 shared-slice-read-hear : tie.Need-shared-slice-read-hear Inv-loop μ-loop
 shared-slice-read-hear c = more (c .before .before)
 
 hear-requires : tie.Need-hear-requires Inv-loop μ-loop
 hear-requires c κs =
-    subst (ReaderIn (c .before .before .before .before .before .before .before .before .before .args .mode))
-    (sym (c .before .anew .ensures)) (skipped (c .before .before .before .before) .in-range)
+    let k = skip-of (c .before .before) in
+    subst (ReaderIn (start k .args .mode)) (sym (c .before .anew .ensures)) (skipped k .in-range)
 
 put-word-requires : tie.Need-put-word-requires Inv-loop μ-loop
 put-word-requires c κs =
-    let h = more (c .before .before .before .before) in
-    let l = skipped (c .before .before .before .before .before .before) .room in
+    let e = anew-of (c .before) .before in
+    let h = more e in
+    let l = skipped (skip-of e) .room in
     omega arith
 
 add-i : tie.Need-add-i Inv-loop μ-loop
 add-i c =
-    let h = more (c .before .before .before .before .before .before .before .before) in
-    let s = start (c .before .before .before .before .before .before .before .before .before .before) in
+    let e = anew-of (hear-of c) .before in
+    let h = more e in
+    let s = start (skip-of e) in
     search (needs, h)
 
 loop-less : tie.Need-loop-less Inv-loop μ-loop
 loop-less c =
-    let h = more (c .before .before .before .before .before .before .before .before) in
-    let k = c .before .before .before .before .before .before .before .before .before .before .skip .ensures .low in
+    let e = anew-of (hear-of c) .before in
+    let h = more e in
+    let k = skip-of e .skip .ensures .low in
     omega arith
 
 loop-again : tie.Need-loop-again Inv-loop μ-loop
 loop-again c =
-    let k = c .before .before .before .before .before .before .before .before .before .before in
+    let a = anew-of (hear-of c) in
+    let k = skip-of (a .before) in
     let s = start k in
-    let h = more (c .before .before .before .before .before .before .before .before) in
+    let h = more (a .before) in
     let l = skipped k in
     let to = k .skip .result .to in
     let x = at-most-at 16 (s .args .heard .now) (levels s) to h in
-    let q = c .before .before .before .before .before .hear in
+    let q = hear-of c .hear in
+    let w = c .before .before .before .put-word .ensures in
     let e = q .ensures
     ∙ ap (λ (r : Reader). hear (s .args .mode) r (getD (s .args .heard .now) to 0))
-    (c .before .before .before .before .before .before .before .anew .ensures) in
+    (a .anew .ensures) in
     let j = subst (λ (p : Reading). ReaderIn (s .args .mode) (p .reader)) (sym e)
     (hear-in (s .args .mode) _ _ x (l .in-range)) in
-    left-hear _ _ _ _ _ _ _ _ _ _ l h (q .result) e j _ (c .before .before .before .put-word .ensures .0) _
-    (c .before .before .before .put-word .ensures .1)
+    left-hear _ _ _ _ _ _ _ _ _ _ l h (q .result) e j _ (w .0) _ (w .1)
 
 pub hear-all-spec : {M : Type 1} → statement M
 hear-all-spec =

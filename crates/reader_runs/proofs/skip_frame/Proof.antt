@@ -23,6 +23,16 @@ Inv-loop mode r heard i place₀ digits₀ to₀ place digits to =
 abbrev μ-loop : tie.MeasureT-loop
 μ-loop mode r heard i place₀ digits₀ to₀ place digits to = length heard - to
 
+-- ---- the moments of the walk
+
+abbrev start-of : tie.At-loop Inv-loop μ-loop → tie.Start Inv-loop μ-loop
+start-of c = c .before .before .before .before .before
+
+abbrev loop-of : tie.After-pass Inv-loop μ-loop → tie.At-loop Inv-loop μ-loop
+loop-of c = c .before .before
+
+-- ---- what each moment needs
+
 cast-place : tie.Need-cast-place Inv-loop μ-loop
 cast-place c = search needs
 
@@ -36,7 +46,7 @@ loop-holds c =
 
 pass-requires : tie.Need-pass-requires Inv-loop μ-loop
 pass-requires c κs =
-    let s = c .before .before .before .before .before .before in
+    let s = start-of (c .before) in
     (s .pre .0, (c .before .loop .inv .in-range, c .loop-test .taken))
 
 -- a frame in range fits
@@ -48,36 +58,39 @@ fits mode f h =
 
 framed-requires : tie.Need-framed-requires Inv-loop μ-loop
 framed-requires c κs =
-    fits (c .before .before .before .before .before .before .before .before .before .args .mode) _
-    (c .before .before .pass .ensures .0 .in-range)
+    let p = c .before .before in
+    fits (start-of (loop-of p) .args .mode) _ (p .pass .ensures .0 .in-range)
 
 returns : tie.Need-returns Inv-loop μ-loop
 returns c =
-    let s = c .before .before .before .before .before .before .before .before .before .before in
-    let l = c .before .before .before .before .before .loop .inv in
-    let p = pass-chain (s .args .mode) (s .pre .0) _ _ _ _ _ _ _ l (c .before .before .before .pass .ensures .0) in
+    let t = c .before .before .before in
+    let l = loop-of t in
+    let s = start-of l in
+    let p = pass-chain (s .args .mode) (s .pre .0) _ _ _ _ _ _ _ (l .loop .inv) (t .pass .ensures .0) in
     subst (Skips (s .args .mode) (s .args .heard .now) (s .args .r) (s .args .i)) (sym (c .framed .ensures))
     (frame-skips (s .args .mode) (s .pre .0) _ (s .args .r) (s .pre .1 .0) _ _ _ p)
 
 loop-less : tie.Need-loop-less Inv-loop μ-loop
 loop-less c =
-    let t = c .before .before .before .loop-test .taken in
-    let m = c .before .before .pass .ensures .1 (not-false _ (c .if1 .left)) in
+    let p = c .before .before in
+    let t = p .before .loop-test .taken in
+    let m = p .pass .ensures .1 (not-false _ (c .if1 .left)) in
     omega arith
 
 loop-again : tie.Need-loop-again Inv-loop μ-loop
 loop-again c =
-    let s = c .before .before .before .before .before .before .before .before .before in
-    let l = c .before .before .before .before .loop .inv in
-    pass-chain (s .args .mode) (s .pre .0) _ _ _ _ _ _ _ l (c .before .before .pass .ensures .0)
+    let p = c .before .before in
+    let l = loop-of p in
+    let s = start-of l in
+    pass-chain (s .args .mode) (s .pre .0) _ _ _ _ _ _ _ (l .loop .inv) (p .pass .ensures .0)
 
 framed-requires-2 : tie.Need-framed-requires-2 Inv-loop μ-loop
 framed-requires-2 c κs =
-    fits (c .before .before .before .before .before .before .args .mode) _ (c .before .loop .inv .in-range)
+    fits (start-of (c .before) .args .mode) _ (c .before .loop .inv .in-range)
 
 returns-2 : tie.Need-returns-2 Inv-loop μ-loop
 returns-2 c =
-    let s = c .before .before .before .before .before .before .before in
+    let s = start-of (c .before .before) in
     subst (Skips (s .args .mode) (s .args .heard .now) (s .args .r) (s .args .i)) (sym (c .framed2 .ensures))
     (frame-skips (s .args .mode) (s .pre .0) _ (s .args .r) (s .pre .1 .0) _ _ _ (c .before .before .loop .inv))
 

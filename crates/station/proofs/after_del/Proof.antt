@@ -13,7 +13,9 @@ returns : tie.Need-returns
 returns c = simp (sym (c .before .has-del .ensures) ∙ not-true (c .before .has-del .result) (c .if1 .taken))
 
 returns-2 : tie.Need-returns-2
-returns-2 c = simp (sym (c .before .before .before .has-del .ensures) ∙ not-false (c .before .before .before .has-del .result) (c .before .before .if1 .left))
+returns-2 c =
+    let d = c .before .before .before .has-del in
+    simp (sym (d .ensures) ∙ not-false (d .result) (c .before .before .if1 .left))
 
 pub after-del-spec : {M : Type 1} → statement M
 after-del-spec = tie.close (tie.spec has-del-requires returns returns-2)

@@ -1,8 +1,9 @@
 -- `run` meets its contract: one law for each answer.
 use mathlib.Core.Path.{_≡_, _∙_, sym, ap}
-use mathlib.Core.Bool.{true}
+use mathlib.Core.Bool.{Bool, true}
 use Prim.Native.Nat.{ℕ}
 use native.Mathlib.Omega.{arith}
+use lib.Dec.{leb}
 use lib.ListN.{length}
 use borrow.Author.Tests.{le-leb, lt-leb, not-true, not-false}
 use Rattle.lists.specs.Lists.{allAtMost}
@@ -22,18 +23,48 @@ use Rattle.station_entry.proofs.refused.Reads as refused-reads
 use Rattle.station_entry.proofs.in_range.Reads as in-range-reads
 use Rattle.station_runs.proofs.run_all.Reads as run-all-reads
 
+-- ---- the moments of the walk
+
+abbrev start-of : tie.Else1 → tie.Start
+start-of c = c .before .before .before .before .before .before
+
+-- the block is not too long
+abbrev few-of : tie.After-highest-level → tie.Else2
+few-of c = c .before .before .before
+
+abbrev levels-of : tie.Else5 → tie.Else3
+levels-of c = c .before .before
+
+abbrev fits-of : tie.After-run-all-arg3 → tie.Else5
+fits-of c = c .before .before .before
+
+abbrev run-of : tie.After-core → tie.After-run-all
+run-of c = c .before .before .before .before .before
+
+-- ---- what they know
+
 -- question 1 is answered
-in-range : (c : tie.Else1) → inRange (station (c .before .before .before .before .before .before .args .c) (c .before .before .before .before .before .before .args .chars .now)) ≡ true
+in-range : (c : tie.Else1) → inRange (station (start-of c .args .c) (start-of c .args .chars .now)) ≡ true
 in-range c = let r = c .before .in-range in sym (r .ensures) ∙ not-false (r .result) (c .if1 .left)
 
 -- the highest level of the mode, and question 6
-highest : (c : tie.After-highest-level) → c .highest-level .result ≡ highestLevel (modeIn (c .before .before .before .before .before .before .before .before .before .before .args .c))
-highest c = c .highest-level .ensures ∙ ap highestLevel (c .before .of .ensures)
+module _ (c : tie.After-highest-level) where
+  abbrev s : tie.Start
+  s = start-of (few-of c .before)
 
-levels : (c : tie.Else3) → allAtMost (highestLevel (modeIn (c .before .before .before .before .before .before .before .before .before .before .before .args .c))) (c .before .before .before .before .before .before .before .before .before .before .before .args .heard .now) ≡ true
-levels c =
-    let h = c .before in
-    ap (λ (n : ℕ). allAtMost n (c .before .before .before .before .before .before .before .before .before .before .before .args .heard .now)) (sym (highest h)) ∙ sym (c .before .before .before .largest .ensures (h .highest-level .result)) ∙ le-leb _ _ (c .if3 .left)
+  highest : c .highest-level .result ≡ highestLevel (modeIn (s .args .c))
+  highest = c .highest-level .ensures ∙ ap highestLevel (c .before .of .ensures)
+
+  levels : {b : Bool} → leb (c .before .before .largest .result) (c .highest-level .result) ≡ b
+      → allAtMost (highestLevel (modeIn (s .args .c))) (s .args .heard .now) ≡ b
+  levels e =
+      ap (λ (n : ℕ). allAtMost n (s .args .heard .now)) (sym highest)
+      ∙ sym (c .before .before .largest .ensures (c .highest-level .result))
+      ∙ e
+
+low : (c : tie.Else3)
+    → allAtMost (highestLevel (modeIn (s (c .before) .args .c))) (s (c .before) .args .heard .now) ≡ true
+low c = levels (c .before) (le-leb _ _ (c .if3 .left))
 
 in-range-requires : tie.Need-in-range-requires
 in-range-requires c κs = search needs
@@ -44,13 +75,16 @@ refused-requires c κs = search needs
 returns : tie.Need-returns
 returns c =
     let r = c .before .before .in-range in
-    refused _ _ _ _ 1 (λ z. omega arith) (run-1 _ _ _ _ (sym (r .ensures) ∙ not-true (r .result) (c .before .if1 .taken))) _ (c .refused .ensures)
+    let e = sym (r .ensures) ∙ not-true (r .result) (c .before .if1 .taken) in
+    refused _ _ _ _ 1 (λ z. omega arith) (run-1 _ _ _ _ e) _ (c .refused .ensures)
 
 refused-requires-2 : tie.Need-refused-requires-2
 refused-requires-2 c κs = search needs
 
 returns-2 : tie.Need-returns-2
-returns-2 c = refused _ _ _ _ 5 (λ z. omega arith) (run-5 _ _ _ _ (in-range (c .before .before)) (c .before .if2 .taken)) _ (c .refused2 .ensures)
+returns-2 c =
+    let e = run-5 _ _ _ _ (in-range (c .before .before)) (c .before .if2 .taken) in
+    refused _ _ _ _ 5 (λ z. omega arith) e _ (c .refused2 .ensures)
 
 largest-requires : tie.Need-largest-requires
 largest-requires c κs = search needs
@@ -67,32 +101,49 @@ refused-requires-3 c κs = search needs
 returns-3 : tie.Need-returns-3
 returns-3 c =
     let h = c .before .before in
-    let l = ap (λ (n : ℕ). allAtMost n (c .before .before .before .before .before .before .before .before .before .before .before .before .args .heard .now)) (sym (highest h)) ∙ sym (c .before .before .before .before .largest .ensures (h .highest-level .result)) ∙ lt-leb _ _ (c .before .if3 .taken) in
-    refused _ _ _ _ 6 (λ z. omega arith) (run-6 _ _ _ _ (in-range (c .before .before .before .before .before .before)) (c .before .before .before .before .before .if2 .left) l) _ (c .refused3 .ensures)
+    let f = few-of h in
+    let l = run-6 _ _ _ _ (in-range (f .before)) (f .if2 .left) (levels h (lt-leb _ _ (c .before .if3 .taken))) in
+    refused _ _ _ _ 6 (λ z. omega arith) l _ (c .refused3 .ensures)
 
 refused-requires-4 : tie.Need-refused-requires-4
 refused-requires-4 c κs = search needs
 
 returns-4 : tie.Need-returns-4
 returns-4 c =
-    refused _ _ _ _ 7 (λ z. omega arith) (run-7 _ _ _ _ (in-range (c .before .before .before .before .before .before .before)) (c .before .before .before .before .before .before .if2 .left) (levels (c .before .before)) (c .before .if4 .taken)) _ (c .refused4 .ensures)
+    let l = c .before .before in
+    let f = few-of (l .before) in
+    let e = run-7 _ _ _ _ (in-range (f .before)) (f .if2 .left) (low l) (c .before .if4 .taken) in
+    refused _ _ _ _ 7 (λ z. omega arith) e _ (c .refused4 .ensures)
 
 refused-requires-5 : tie.Need-refused-requires-5
 refused-requires-5 c κs = search needs
 
 returns-5 : tie.Need-returns-5
 returns-5 c =
-    refused _ _ _ _ 8 (λ z. omega arith) (run-8 _ _ _ _ (in-range (c .before .before .before .before .before .before .before .before)) (c .before .before .before .before .before .before .before .if2 .left) (levels (c .before .before .before)) (c .before .before .if4 .left) (c .before .if5 .taken)) _
-    (c .refused5 .ensures)
+    let g = c .before .before in
+    let f = few-of (g .before .before) in
+    let w = c .before .if5 .taken in
+    let e = run-8 _ _ _ _ (in-range (f .before)) (f .if2 .left) (low (g .before)) (g .if4 .left) w in
+    refused _ _ _ _ 8 (λ z. omega arith) e _ (c .refused5 .ensures)
 
 run-all-requires : tie.Need-run-all-requires
 run-all-requires c κs =
-    let s = c .before .before .before .before .before .before .before .before .before .before .before .before .before .before .before .before in
-    let t = c .before .before .before .before .before .before .before .before .largest in
-    let h = highest (c .before .before .before .before .before .before) in
-    let b = c .before .before .before .before .before .if3 .left in
-    let f : length (s .args .chars .now) ≡ 256 = search needs in
-    (in-range (c .before .before .before .before .before .before .before .before .before .before), (f, (sym (t .ensures (t .result)) ∙ le-leb (t .result) (t .result) (omega arith), (omega arith, (c .before .before .before .before .if4 .left, c .before .before .before .if5 .left)))))
+    let e = fits-of c in
+    let h = levels-of e .before in
+    let f = few-of h in
+    let t = h .before .before .largest in
+    let n = highest h in
+    let b = levels-of e .if3 .left in
+    let full : length (s h .args .chars .now) ≡ 256 = search needs in (
+      in-range (f .before),
+      (
+        full,
+        (
+          sym (t .ensures (t .result)) ∙ le-leb (t .result) (t .result) (omega arith),
+          (omega arith, (e .before .if4 .left, e .if5 .left)),
+        ),
+      ),
+    )
 
 same-length : tie.Need-same-length
 same-length c = search needs
@@ -102,10 +153,14 @@ same-length-2 c = search needs
 
 returns-6 : tie.Need-returns-6
 returns-6 c =
-    let s = c .before .before .before .before .before .before .before .before .before .before .if4 .left in
-    let w = c .before .before .before .before .before .before .before .before .before .if5 .left in
-    let x = c .before .before .before .before .before .run-all .ensures in
-    accepted _ _ _ _ (run-0 _ _ _ _ (in-range (c .before .before .before .before .before .before .before .before .before .before .before .before .before .before .before .before)) (c .before .before .before .before .before .before .before .before .before .before .before .before .before .before .before .if2 .left) (levels (c .before .before .before .before .before .before .before .before .before .before .before)) s w) s w _ (λ j. station (x .0 j) (x .1 .1 .0 j)) _ (x .1 .0) _ (x .1 .1 .1 .0) _ (x .1 .1 .1 .1)
+    let e = fits-of (run-of c .before) in
+    let l = levels-of e in
+    let f = few-of (l .before) in
+    let p = e .before .if4 .left in
+    let q = e .if5 .left in
+    let x = run-of c .run-all .ensures in
+    let a = run-0 _ _ _ _ (in-range (f .before)) (f .if2 .left) (low l) p q in
+    accepted _ _ _ _ a p q _ (λ j. station (x .0 j) (x .1 .1 .0 j)) _ (x .1 .0) _ (x .1 .1 .1 .0) _ (x .1 .1 .1 .1)
 
 pub run-spec : {M : Type 1} → statement M
 run-spec =
