@@ -1,5 +1,6 @@
--- The station that a host lends: its core is taken out beside its characters, which are lent on for the time of a call; and the
--- characters come back with their last list, and the station is shut at that list and at the core that lies there then.
+-- The station that a host lends: its core is taken out beside its characters, which are lent on for the time of a call;
+-- and the characters come back with their last list, and the station is shut at that list and at the core that lies
+-- there then.
 use Prim.Native.Nat.{ℕ, zero, _+_}
 use mathlib.Core.Path.{refl, sym}
 use mathlib.Core.List.{List, [], _∷_, map-id}
@@ -96,14 +97,18 @@ module _ {M : Type 1} (𝓤 : URA M) (H : Heap 𝓤) (A : Atoms 𝓤) (W : Given
   unfolding partOf
   core-out c b o =
       qed W (core-part c b o ∷ []) ∵ fpick ! (λ vs. fsplit ! $
-      spelt ! K.the-row (Is K.the-row) (shows 𝓤 H A K.the-row) core-vals (LL.tells K.the-type K′.the-laws) fullShare c vs b (o + 0) $ done !)
+      spelt ! K.the-row (Is K.the-row) (shows 𝓤 H A K.the-row) core-vals
+      (LL.tells K.the-type K′.the-laws) fullShare c vs b (o + 0) $ done !)
 
-  core-in : (c : Core) (b o : ℕ) → Is K.the-row c (core-vals c) → ent 𝓤 (mean 𝓤 H A (core-cell c b o)) (mean 𝓤 H A (core-part c b o))
+  core-in : (c : Core) (b o : ℕ) → Is K.the-row c (core-vals c)
+      → ent 𝓤 (mean 𝓤 H A (core-cell c b o)) (mean 𝓤 H A (core-part c b o))
   unfolding partOf
   core-in c b o is =
       qed W (core-cell c b o ∷ []) ∵
-      owned ! K.the-row (Is K.the-row) (LL.makes K.the-type K′.the-plain 𝓤 H A) c (core-vals c) is $ move ! (1 ∷ 0 ∷ []) $ fjoin ! $
-      fpack ! (List Val) (λ vs. fsep (cellAt fullShare (K.the-row .mir) vs b (o + 0)) (K.the-row .own c vs)) (core-vals c) $ done !
+      owned ! K.the-row (Is K.the-row) (LL.makes K.the-type K′.the-plain 𝓤 H A) c (core-vals c) is $
+      move ! (1 ∷ 0 ∷ []) $ fjoin ! $
+      fpack ! (List Val) (λ vs. fsep (cellAt fullShare (K.the-row .mir) vs b (o + 0)) (K.the-row .own c vs))
+      (core-vals c) $ done !
 
   module _ (κ κ′ : Lft) (q : Share) (γ : GName) (b o : ℕ) where
     -- what the holder of the `&κ mut Station` has of it at the station s
@@ -134,16 +139,21 @@ module _ {M : Type 1} (𝓤 : URA M) (H : Heap 𝓤) (A : Atoms 𝓤) (W : Given
       lends ℓ =
           qed W (held h ∷ []) ∵ updating ! $ split ! $ move ! (1 ∷ []) $ split ! $ move ! (2 ∷ 0 ∷ 1 ∷ []) $
           open-ref ! tt (mem T.the-row) {b = b} {o = o} $
-          use1 W (‵ (partsAt fullShare members zero (T.the-type .to h) b o) ⊛ raw (Back b o)) (apart h b o) $ split ! $ fsplit ! $
+          use1 W (‵ (partsAt fullShare members zero (T.the-type .to h) b o) ⊛ raw (Back b o)) (apart h b o) $ split ! $
+          fsplit ! $
           use1 W (core-cell (h .core) b o ⊛ core-own (h .core)) (core-out (h .core) b o) $ split ! $
           move ! (2 ∷ []) $ fsplit ! $ rewrite ! 0 chars-part (map-id (h .chars)) refl $
-          use1 W (later (some (λ (γ₁ : GName). chars-own ℓ γ₁ (h .chars) ⊛ lender γ₁))) (lends-ref 𝓤 H A W Chars ℓ κ′ (h .chars) b (o + past)) $
+          use1 W (later (some (λ (γ₁ : GName). chars-own ℓ γ₁ (h .chars) ⊛ lender γ₁)))
+          (lends-ref 𝓤 H A W Chars ℓ κ′ (h .chars) b (o + past)) $
           await ! tt $ pick ! (λ γ₁. split ! $
-          -- [the reference to the characters; the lender's part; true; the core's cell; what it owns; the way back; the open borrow; obs; auth]
-          at-once ! $ show ! (λ (δ : GName). mean 𝓤 H A (opened ℓ δ)) γ₁ $ keep ! (3 ∷ 4 ∷ 0 ∷ 1 ∷ 5 ∷ 6 ∷ 7 ∷ 8 ∷ []) $ done !)
+          -- [the reference to the characters; the lender's part; true; the core's cell; what it owns; the way back; the
+          -- open borrow; obs; auth]
+          at-once ! $ show ! (λ (δ : GName). mean 𝓤 H A (opened ℓ δ)) γ₁ $ keep ! (3 ∷ 4 ∷ 0 ∷ 1 ∷ 5 ∷ 6 ∷ 7 ∷ 8 ∷ []) $
+          done !)
 
       takes : (γ₁ : GName) (c : Core) (cs : List ℕ) → Is K.the-row c (core-vals c)
-          → ent 𝓤 (sep 𝓤 (A .dead κ′) (sep 𝓤 (A .res γ₁ (Chars .coded .code cs)) (mean 𝓤 H A (core-cell c b o ⊛ kept γ₁))))
+          → ent 𝓤 (sep 𝓤 (A .dead κ′) (sep 𝓤 (A .res γ₁ (Chars .coded .code cs))
+          (mean 𝓤 H A (core-cell c b o ⊛ kept γ₁))))
           (H .⇛ (mean 𝓤 H A (held (station c cs))))
       takes γ₁ c cs is =
           qed W (‵ (fdead κ′) ∷ ‵ (fres γ₁ (Chars .coded .code cs)) ∷ core-cell c b o ∷ kept γ₁ ∷ []) ∵ updating ! $
@@ -157,20 +167,26 @@ module _ {M : Type 1} (𝓤 : URA M) (H : Heap 𝓤) (A : Atoms 𝓤) (W : Given
           close-ref ! tt (mem T.the-row) (station c cs) {b = b} {o = o} $ at-once ! $ done !
 
 -- ---- as steps of a walk
-module _ {M : Type 1} {𝓤 : URA M} {H : Heap 𝓤} {A : Atoms 𝓤} {X : Type 0} {W : Given 𝓤 H A} {Γ : List (Item 𝓤)} {G : Goal 𝓤 H} where
+module _ {M : Type 1} {𝓤 : URA M} {H : Heap 𝓤} {A : Atoms 𝓤} {X : Type 0} {W : Given 𝓤 H A} {Γ : List (Item 𝓤)}
+    {G : Goal 𝓤 H} where
   -- the station h behind a `&mut` is opened, and its characters are lent on for κ′
   pub lends-on : X → Soaks G → (ℓ : Lifetime) (κ′ : Lft) {κ : Lft} {q : Share} {γ : GName} (b o : ℕ) (h : Station)
       → ((γ₁ : GName) → Seq X W (core-cell 𝓤 H A W (h .core) b o ∷ core-own 𝓤 H A W (h .core)
       ∷ chars-own 𝓤 H A W κ κ′ q γ b o ℓ γ₁ (h .chars) ∷ kept 𝓤 H A W κ κ′ q γ b o h γ₁ ∷ Γ) G)
       → Seq X W (‵ (fobs γ (T.the-row .coded .code h)) ∷ ‵ (fbor κ (Body (mem T.the-row) b o γ)) ∷ ‵ (flft κ q) ∷ Γ) G
   lends-on t z ℓ κ′ {κ} {q} {γ} b o h k =
-      use3 W (later (some (λ (γ₁ : GName). opened 𝓤 H A W κ κ′ q γ b o h ℓ γ₁))) (lends 𝓤 H A W κ κ′ q γ b o h ℓ) $ await t z $ pick t (λ γ₁.
+      use3 W (later (some (λ (γ₁ : GName). opened 𝓤 H A W κ κ′ q γ b o h ℓ γ₁))) (lends 𝓤 H A W κ κ′ q γ b o h ℓ) $
+      await t z $ pick t (λ γ₁.
       split t $ move t (1 ∷ []) $ split t $ move t (1 ∷ []) $ split t $ move t (3 ∷ 2 ∷ 0 ∷ 1 ∷ []) $ k γ₁)
 
   -- the characters come back as cs, and the station is shut at them and at the core c
-  pub takes-back : X → Soaks G → {κ κ′ : Lft} {q : Share} {γ γ₁ : GName} (b o : ℕ) (h : Station) (c : Core) (cs : List ℕ) → Is K.the-row c (core-vals c)
-      → Step X W (‵ (fobs γ (T.the-row .coded .code (station c cs))) ∷ ‵ (fbor κ (Body (mem T.the-row) b o γ)) ∷ ‵ (flft κ q) ∷ Γ) G
-      (‵ (fdead κ′) ∷ ‵ (fres γ₁ (Chars .coded .code cs)) ∷ core-cell 𝓤 H A W c b o ∷ kept 𝓤 H A W κ κ′ q γ b o h γ₁ ∷ Γ) G
-  takes-back t z {κ} {κ′} {q} {γ} {γ₁} b o h c cs is = step (λ s. move t (2 ∷ 3 ∷ []) $ join t $ move t (1 ∷ 2 ∷ 0 ∷ []) $
+  pub takes-back : X → Soaks G → {κ κ′ : Lft} {q : Share} {γ γ₁ : GName} (b o : ℕ) (h : Station) (c : Core)
+      (cs : List ℕ) → Is K.the-row c (core-vals c)
+      → Step X W (‵ (fobs γ (T.the-row .coded .code (station c cs))) ∷ ‵ (fbor κ (Body (mem T.the-row) b o γ))
+      ∷ ‵ (flft κ q) ∷ Γ) G
+      (‵ (fdead κ′) ∷ ‵ (fres γ₁ (Chars .coded .code cs)) ∷ core-cell 𝓤 H A W c b o ∷ kept 𝓤 H A W κ κ′ q γ b o h γ₁
+      ∷ Γ) G
+  takes-back t z {κ} {κ′} {q} {γ} {γ₁} b o h c cs is =
+      step (λ s. move t (2 ∷ 3 ∷ []) $ join t $ move t (1 ∷ 2 ∷ 0 ∷ []) $
       use3 W (later (held 𝓤 H A W κ κ′ q γ b o (station c cs))) (takes 𝓤 H A W κ κ′ q γ b o h γ₁ c cs is) $
       await t z $ split t $ move t (1 ∷ []) $ split t $ move t (2 ∷ 0 ∷ 1 ∷ []) $ s)
