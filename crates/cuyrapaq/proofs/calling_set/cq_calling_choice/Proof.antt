@@ -15,7 +15,7 @@ use ghost.Atoms.{Atoms}
 use contract.Monad.{Fun}
 use contract.Running.{givenOf, tables, tablesOf}
 use types.Kit.{Given, Item, ⋆, ‵, _⊛_, _$_, _∵_, !, qed, by, move, keep, drop, split, join, fsplit, fsplit3, fjoin, fjoin3, feqI, suffices, frame, done}
-use types.Run.{look, init, forget, stop, hop, fld, from, load, of-opd, assigns, returns, enter, alloc1, alloc0, params1, pass1, pass0, free1, free0}
+use types.Run.{look, init, stop, hop, fld, from, load, of-opd, assigns, returns, enter, alloc1, alloc0, params1, pass1, pass0, free0}
 use types.Part.{whole, sub, look-in}
 use sound.WpLaws.{WpFn-mono}
 use denote.RattleType.{owns}
@@ -36,6 +36,7 @@ use denote.Exit.{yes}
 use Rattle.calling.specs.declared.Calling.{Calling}
 use Rattle.calling.proofs.Calling as T
 use Rattle.calling.proofs.Calling.Laws as T′
+use Rattle.cuyrapaq.proofs.Steps.{frees-at}
 use Rattle.cuyrapaq.proofs.calling_set.cq_calling_choice.Key.{name as #cuyrapaq·calling-set·cq-calling-choice}
 use Rattle.cuyrapaq.proofs.calling_set.cq_calling_choice as f
 use Rattle.cuyrapaq.proofs.calling_set.cq_calling_choice.Statement as stated
@@ -91,8 +92,8 @@ module _ {M : Type 1} (𝓤 : URA M) (H : Heap 𝓤) (A : Atoms 𝓤) (W : Given
         (look-in ! 0 (sub ! 3 refl (whole !))))) (from ! (stop !))
         (init ! 9 refl (tt, record { fits = g .1 .1 .1 .1 .1 .0 .1 })) $
         shuts ! tt T.the-row q′ h (vals h) b o $
-        returns ! (look ! 7 refl) $ forget ! 5 refl $ forget ! 7 refl $
-        move ! (7 ∷ 8 ∷ []) $ free1 ! $ move ! (5 ∷ 6 ∷ []) $ free1 ! $ free0 ! $
+        returns ! (look ! 7 refl) $
+        frees-at ! 7 refl refl $ frees-at ! 5 refl refl $ free0 ! $
         keep ! (0 ∷ 3 ∷ 1 ∷ []) $ by ! (exits (g .1 .1 .1 .1 .1 .0 .1))))))
 
 module _ {M : Type 1} (𝓤 : URA M) (H : Heap 𝓤) (A : Atoms 𝓤) (W : Given 𝓤 H A) (at-mem : Memory → SProp 𝓤)

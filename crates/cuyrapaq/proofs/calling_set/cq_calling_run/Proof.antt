@@ -17,7 +17,7 @@ use ghost.Atoms.{Atoms}
 use contract.Monad.{Fun, fact}
 use contract.Running.{givenOf, tables, tablesOf}
 use types.Kit.{Given, Item, ‵, raw, _⊛_, ⋆, rewrite, some, later, _$_, _∵_, !, qed, by, move, keep, drop, use1, use2, split, join, pick, fsplit, fsplit3, fjoin, fjoin3, feqI, feqL, suffices, frame, await, done}
-use types.Run.{look, look-raw, addr, fld, init, store-raw, forget, stop, hop, from, load, and-then, no-more, of-opd, assigns, land, returns, enter, alloc1, alloc0, params1, pass1, pass0, free1, free0}
+use types.Run.{look, look-raw, addr, fld, init, store-raw, stop, hop, from, load, and-then, no-more, of-opd, assigns, land, returns, enter, alloc1, alloc0, params1, pass1, pass0, free0}
 use types.SemTy.{Body}
 use types.Part.{agg, whole, sub, look-in}
 use sound.WpLaws.{FmC, fmOf, WpFn-mono}
@@ -51,6 +51,7 @@ use Rattle.calling.proofs.run as g
 use Rattle.calling.proofs.run.Symbol as g-def
 use Rattle.calling.proofs.run.Symbol.{name as #calling·run}
 use Rattle.calling.proofs.run.Met as g-thm
+use Rattle.cuyrapaq.proofs.Steps.{local-at, field-at, frees-at}
 use Rattle.cuyrapaq.proofs.calling_set.cq_calling_run.Key.{name as #cuyrapaq·calling-set·cq-calling-run}
 use Rattle.cuyrapaq.proofs.calling_set.cq_calling_run as f
 use Rattle.cuyrapaq.proofs.calling_set.cq_calling_run.Statement as stated
@@ -176,8 +177,8 @@ module _ {M : Type 1} (𝓤 : URA M) (H : Heap 𝓤) (A : Atoms 𝓤) (W : Given
         (init ! 9 refl (LL.lawful T.the-type T′.the-laws 𝓤 H A W .typed h _ was .0)) $
         assigns ! (addr ! (from ! (fld ! refl (hop ! (look-in ! 13 (sub ! 0 refl (whole !))) (stop !)))))
         (from ! (stop !)) (init ! 7 refl (tt, tt)) $
-        assigns ! (agg ! (and-then ! (load ! (from ! (stop !)) (look ! 7 refl))
-        (and-then ! (load ! (from ! (fld ! refl (stop !))) (look-in ! 13 (sub ! 1 refl (whole !)))) (no-more !))))
+        assigns ! (agg ! (and-then ! (local-at ! 7 refl)
+        (and-then ! (field-at ! 13 1 refl refl refl) (no-more !))))
         (from ! (stop !))
         (init ! 5 refl (tt, (tt, (record { fits = gs .0 .1 .0 }, tt)))) $
         -- what the callee asks
@@ -185,9 +186,9 @@ module _ {M : Type 1} (𝓤 : URA M) (H : Heap 𝓤) (A : Atoms 𝓤) (W : Given
         move ! (23 ∷ 0 ∷ []) $
         use2 W (raw (G 𝓤 H A at-mem run .pre to)) asked $
         calls-at ! fm (G 𝓤 H A at-mem run) known to
-        (and-then ! (load ! (from ! (stop !)) (look ! 9 refl))
-        (and-then ! (load ! (from ! (stop !)) (look ! 15 refl))
-        (and-then ! (load ! (from ! (stop !)) (look ! 5 refl)) (no-more !)))) (λ v.
+        (and-then ! (local-at ! 9 refl)
+        (and-then ! (local-at ! 15 refl)
+        (and-then ! (local-at ! 5 refl) (no-more !)))) (λ v.
         -- what it gives
         use1 W (later (some (λ (r : Ran). (tokens ⊛ ‵ (R.the-row .own r (v ∷ [])))
         ⊛ raw (ensured 𝓤 H A g.ended (g.clauses 𝓤 H A at-mem run) (κ₁, (κ₂, tt)) args tt r)))) (id⊢ 𝓤 _) $ await ! tt $
@@ -205,22 +206,19 @@ module _ {M : Type 1} (𝓤 : URA M) (H : Heap 𝓤) (A : Atoms 𝓤) (W : Given
         rewrite ! 14 (λ (u : Val). ‵ (fat fullShare R′.mir l₄ 0 u))
         (ap only (LL.tells R.the-type R′.the-laws r (v ∷ []) is)) refl $
         -- the state is stored, the answer is the result, and the state is shut
-        assigns ! (of-opd ! (load ! (from ! (fld ! refl (stop !))) (look-in ! 14 (sub ! 0 refl (whole !)))))
+        assigns ! (of-opd ! (field-at ! 14 0 refl refl refl))
         (from ! (hop ! (look ! 20 refl) (stop !)))
         (store-raw ! 4 refl (LL.lawful T.the-type T′.the-laws 𝓤 H A W .typed (r .state) _ (parts .0) .0)) $
-        assigns ! (of-opd ! (load ! (from ! (fld ! refl (stop !))) (look-in ! 14 (sub ! 1 refl (whole !)))))
+        assigns ! (of-opd ! (field-at ! 14 1 refl refl refl))
         (from ! (stop !))
         (init ! 22 refl (tt, record { fits = parts .1 .0 .1 })) $
         drop ! $ owned ! T.the-row (Is T.the-row) ((LL.makes T.the-type T′.the-plain) 𝓤 H A) (r .state) _ (parts .0) $
         move ! (4 ∷ 0 ∷ 5 ∷ 6 ∷ 7 ∷ []) $ closes ! tt T.the-row (r .state) (vals (r .state)) b o $
         -- the locals are freed
         returns ! (look ! 20 refl) $
-        forget ! 6 refl $ forget ! 8 refl $ forget ! 10 refl $ forget ! 12 refl $
-        forget ! 14 refl $ forget ! 16 refl $ forget ! 18 refl $ forget ! 20 refl $
-        move ! (20 ∷ 21 ∷ []) $ free1 ! $ move ! (18 ∷ 19 ∷ []) $ free1 ! $ move ! (16 ∷ 17 ∷ []) $ free1 ! $
-        move ! (14 ∷ 15 ∷ []) $ free1 ! $
-        move ! (12 ∷ 13 ∷ []) $ free1 ! $ move ! (10 ∷ 11 ∷ []) $ free1 ! $ move ! (8 ∷ 9 ∷ []) $ free1 ! $
-        move ! (6 ∷ 7 ∷ []) $ free1 ! $ free0 ! $
+        frees-at ! 20 refl refl $ frees-at ! 18 refl refl $ frees-at ! 16 refl refl $ frees-at ! 14 refl refl $
+        frees-at ! 12 refl refl $ frees-at ! 10 refl refl $ frees-at ! 8 refl refl $ frees-at ! 6 refl refl $
+        free0 ! $
         keep ! (0 ∷ 1 ∷ 2 ∷ 3 ∷ 4 ∷ 7 ∷ []) $ by ! (exits r (zs .1 .1 .0) e l (parts .1 .0 .1))))))))))))))))))
 
 module _ {M : Type 1} (𝓤 : URA M) (H : Heap 𝓤) (A : Atoms 𝓤) (W : Given 𝓤 H A) (at-mem : Memory → SProp 𝓤)

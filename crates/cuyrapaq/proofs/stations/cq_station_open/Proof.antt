@@ -16,10 +16,9 @@ use ghost.Atoms.{Atoms}
 use contract.Monad.{Fun, fact}
 use contract.Running.{givenOf, tables, tablesOf}
 use types.Kit.{Given, Item, ‵, raw, _⊛_, ⋆, rewrite, some, later, _$_, _∵_, !, qed, by, move, keep, drop, use1, use2, split, join, pick, fsplit, fsplit3, fjoin, fjoin3, feqI, suffices, frame, await, done}
-use types.Run.{look, addr, fld, init, store-raw, forget, stop, hop, from, load, and-then, no-more, of-opd, assigns, land, returns, enter, alloc1, alloc0, params1, pass1, pass0, free1, free0}
+use types.Run.{look, addr, fld, init, store-raw, stop, hop, from, and-then, no-more, of-opd, assigns, land, returns, enter, alloc1, alloc0, params1, pass1, pass0, free0}
 use types.Tokens.{lft-new, lft-end}
 use types.SemTy.{Body}
-use types.Part.{whole, sub, look-in}
 use sound.WpLaws.{FmC, fmOf, WpFn-mono}
 use denote.RattleType.{owns}
 use denote.Laws.{Is, shows}
@@ -52,6 +51,7 @@ use Rattle.station.proofs.open.Symbol as g-def
 use Rattle.station.proofs.open.Symbol.{name as #station·open}
 use Rattle.station.proofs.open.Met as g-thm
 use Rattle.cuyrapaq.proofs.Lent.{Chars, chars-ty, past, lent-ref, lends-on, takes-back}
+use Rattle.cuyrapaq.proofs.Steps.{local-at, field-at, frees-at}
 use Rattle.cuyrapaq.proofs.stations.cq_station_open.Key.{name as #cuyrapaq·stations·cq-station-open}
 use Rattle.cuyrapaq.proofs.stations.cq_station_open as f
 use Rattle.cuyrapaq.proofs.stations.cq_station_open.Statement as stated
@@ -154,8 +154,8 @@ module _ {M : Type 1} (𝓤 : URA M) (H : Heap 𝓤) (A : Atoms 𝓤) (W : Given
         join ! $
         use2 W (raw (G 𝓤 H A at-mem run .pre (to α γ₁))) (asked α γ₁) $
         calls-at ! fm (G 𝓤 H A at-mem run) known (to α γ₁)
-        (and-then ! (load ! (from ! (stop !)) (look ! 3 refl))
-        (and-then ! (load ! (from ! (stop !)) (look ! 7 refl)) (no-more !))) (λ v.
+        (and-then ! (local-at ! 3 refl)
+        (and-then ! (local-at ! 7 refl) (no-more !))) (λ v.
         -- what it gives
         use1 W (later (some (λ (r : Answered). (tokens α γ₁ ⊛ ‵ (R.the-row .own r (v ∷ [])))
         ⊛ raw (ensured 𝓤 H A g.ended (g.clauses 𝓤 H A at-mem run) (α ∷ [], tt) (args α γ₁) tt r)))) (id⊢ 𝓤 _) $
@@ -172,19 +172,16 @@ module _ {M : Type 1} (𝓤 : URA M) (H : Heap 𝓤) (A : Atoms 𝓤) (W : Given
         rewrite ! 9 (λ (u : Val). ‵ (fat fullShare R′.mir l₃ 0 u))
         (ap only (LL.tells R.the-type R′.the-laws r (v ∷ []) is)) refl $
         -- the core is stored, the answer is the result, and the station is shut
-        assigns ! (of-opd ! (load ! (from ! (fld ! {τ = K′.mir} {d = 0} refl (stop !)))
-        (look-in ! 9 {τ = K′.mir} (sub ! {τs = tys} 0 {τ = K′.mir} {d = 0} refl (whole !)))))
+        assigns ! (of-opd ! (field-at ! 9 0 {τs = tys} {τ = K′.mir} {d = 0} refl refl refl))
         (from ! (hop ! (look ! 13 refl) (fld ! {τ = K′.mir} {d = 0} refl (stop !))))
         (store-raw ! 5 {τ = K′.mir} refl (LL.lawful K.the-type K′.the-laws 𝓤 H A W .typed (r .core) _ (parts .0) .0)) $
-        assigns ! (of-opd ! (load ! (from ! (fld ! {τ = tyInt w8} {d = 20} refl (stop !)))
-        (look-in ! 9 {τ = tyInt w8} (sub ! {τs = tys} 1 {τ = tyInt w8} {d = 20} refl (whole !))))) (from ! (stop !))
+        assigns ! (of-opd ! (field-at ! 9 1 {τs = tys} {τ = tyInt w8} {d = 20} refl refl refl)) (from ! (stop !))
         (init ! 15 refl (tt, record { fits = parts .1 .0 .1 })) $
         move ! (1 ∷ 3 ∷ 5 ∷ 6 ∷ []) $ takes-back ! tt b o h (r .core) (zs .0) (parts .0) $
         -- [obs; the borrow; the token; the result; true; …; _4; …]
         returns ! (look ! 14 refl) $
-        forget ! 6 refl $ forget ! 8 refl $ forget ! 10 refl $ forget ! 12 refl $ forget ! 14 refl $
-        move ! (14 ∷ 15 ∷ []) $ free1 ! $ move ! (12 ∷ 13 ∷ []) $ free1 ! $ move ! (10 ∷ 11 ∷ []) $ free1 ! $
-        move ! (8 ∷ 9 ∷ []) $ free1 ! $ move ! (6 ∷ 7 ∷ []) $ free1 ! $ free0 ! $
+        frees-at ! 14 refl refl $ frees-at ! 12 refl refl $ frees-at ! 10 refl refl $ frees-at ! 8 refl refl $
+        frees-at ! 6 refl refl $ free0 ! $
         keep ! (0 ∷ 1 ∷ 2 ∷ []) $ by ! (exits r (zs .0) es ea (gn .1) (parts .1 .0 .1))))))))))))))))
 
 module _ {M : Type 1} (𝓤 : URA M) (H : Heap 𝓤) (A : Atoms 𝓤) (W : Given 𝓤 H A) (at-mem : Memory → SProp 𝓤)

@@ -18,7 +18,7 @@ use ghost.Atoms.{Atoms}
 use contract.Monad.{Fun, fact}
 use contract.Running.{givenOf, tables, tablesOf}
 use types.Kit.{Given, Item, ‵, raw, _⊛_, ⋆, rewrite, some, later, _$_, _∵_, !, qed, by, move, keep, drop, use1, use2, split, join, pick, fsplit, fsplit3, fjoin, fjoin3, feqI, feqL, suffices, frame, await, done}
-use types.Run.{look, look-raw, addr, fld, init, store-raw, forget, stop, hop, from, load, and-then, no-more, of-opd, assigns, land, returns, enter, alloc1, alloc0, params1, pass1, pass0, free1, free0}
+use types.Run.{look, look-raw, addr, fld, init, store-raw, stop, hop, from, load, and-then, no-more, of-opd, assigns, land, returns, enter, alloc1, alloc0, params1, pass1, pass0, free0}
 use types.Tokens.{lft-new, lft-end}
 use types.SemTy.{Body}
 use types.Part.{agg, whole, sub, look-in}
@@ -58,6 +58,7 @@ use Rattle.cuyrapaq.proofs.Lent.{Chars, chars-ty, core-vals, past, lent
 use Rattle.cuyrapaq.specs.declared.stations.StationRan.{StationRan}
 use Rattle.cuyrapaq.proofs.stations.StationRan as S
 use Rattle.cuyrapaq.proofs.stations.StationRan.Laws as S′
+use Rattle.cuyrapaq.proofs.Steps.{local-at, field-at, frees-at}
 use Rattle.cuyrapaq.proofs.stations.cq_station_run.Key.{name as #cuyrapaq·stations·cq-station-run}
 use Rattle.cuyrapaq.proofs.stations.cq_station_run as f
 use Rattle.cuyrapaq.proofs.stations.cq_station_run.Statement as stated
@@ -222,14 +223,14 @@ module _ {M : Type 1} (𝓤 : URA M) (H : Heap 𝓤) (A : Atoms 𝓤) (W : Given
         -- the slices to be written are lent on
         assigns ! (addr ! (from ! (fld ! refl (hop ! (look-in ! 21 (sub ! 0 refl (whole !))) (stop !)))))
         (from ! (stop !)) (init ! 11 refl (tt, tt)) $
-        assigns ! (agg ! (and-then ! (load ! (from ! (stop !)) (look ! 11 refl))
-        (and-then ! (load ! (from ! (fld ! refl (stop !))) (look-in ! 21 (sub ! 1 refl (whole !)))) (no-more !))))
+        assigns ! (agg ! (and-then ! (local-at ! 11 refl)
+        (and-then ! (field-at ! 21 1 refl refl refl) (no-more !))))
         (from ! (stop !))
         (init ! 9 refl (tt, (tt, (record { fits = gs .0 .1 .0 }, tt)))) $
         assigns ! (addr ! (from ! (fld ! refl (hop ! (look-in ! 19 (sub ! 0 refl (whole !))) (stop !)))))
         (from ! (stop !)) (init ! 7 refl (tt, tt)) $
-        assigns ! (agg ! (and-then ! (load ! (from ! (stop !)) (look ! 7 refl))
-        (and-then ! (load ! (from ! (fld ! refl (stop !))) (look-in ! 19 (sub ! 1 refl (whole !)))) (no-more !))))
+        assigns ! (agg ! (and-then ! (local-at ! 7 refl)
+        (and-then ! (field-at ! 19 1 refl refl refl) (no-more !))))
         (from ! (stop !))
         (init ! 5 refl (tt, (tt, (record { fits = gw .0 .1 .0 }, tt)))) $
         -- what the callee asks
@@ -237,11 +238,11 @@ module _ {M : Type 1} (𝓤 : URA M) (H : Heap 𝓤) (A : Atoms 𝓤) (W : Given
         $ move ! (3 ∷ 0 ∷ []) $ fjoin ! $ move ! (2 ∷ 0 ∷ []) $ fjoin ! $ move ! (3 ∷ 30 ∷ []) $ join ! $
         use2 W (raw (G 𝓤 H A at-mem run .pre (to α γ₁))) (asked α γ₁) $
         calls-at ! fm (G 𝓤 H A at-mem run) known (to α γ₁)
-        (and-then ! (load ! (from ! (stop !)) (look ! 15 refl))
-        (and-then ! (load ! (from ! (stop !)) (look ! 11 refl))
-        (and-then ! (load ! (from ! (stop !)) (look ! 21 refl))
-        (and-then ! (load ! (from ! (stop !)) (look ! 7 refl))
-        (and-then ! (load ! (from ! (stop !)) (look ! 3 refl)) (no-more !)))))) (λ v.
+        (and-then ! (local-at ! 15 refl)
+        (and-then ! (local-at ! 11 refl)
+        (and-then ! (local-at ! 21 refl)
+        (and-then ! (local-at ! 7 refl)
+        (and-then ! (local-at ! 3 refl) (no-more !)))))) (λ v.
         -- what it gives
         use1 W (later (some (λ (r : Ran). (tokens α γ₁ ⊛ ‵ (R.the-row .own r (v ∷ [])))
         ⊛ raw (ensured 𝓤 H A g.ended (g.clauses 𝓤 H A at-mem run) (α ∷ [], (κ₁, (κ₂, (κ₃, tt)))) (args α γ₁) tt r))))
@@ -269,29 +270,21 @@ module _ {M : Type 1} (𝓤 : URA M) (H : Heap 𝓤) (A : Atoms 𝓤) (W : Given
         rewrite ! 19 (λ (u : Val). ‵ (fat fullShare R′.mir l₆ 0 u))
         (ap only (LL.tells R.the-type R′.the-laws r (v ∷ []) is)) refl $
         -- the core is stored, the answer and the count are the result, and the station is shut
-        assigns ! (of-opd ! (load ! (from ! (fld ! {τ = K′.mir} {d = 0} refl (stop !)))
-        (look-in ! 19 {τ = K′.mir} (sub ! {τs = tys} 0 {τ = K′.mir} {d = 0} refl (whole !)))))
+        assigns ! (of-opd ! (field-at ! 19 0 {τs = tys} {τ = K′.mir} {d = 0} refl refl refl))
         (from ! (hop ! (look ! 29 refl) (fld ! {τ = K′.mir} {d = 0} refl (stop !))))
         (store-raw ! 7 {τ = K′.mir} refl (LL.lawful K.the-type K′.the-laws 𝓤 H A W .typed (r .core) _ (parts .0) .0)) $
-        assigns ! (agg ! (and-then ! (load ! (from ! (fld ! {τ = tyInt w8} {d = 20} refl (stop !)))
-        (look-in ! 19 {τ = tyInt w8} (sub ! {τs = tys} 1 {τ = tyInt w8} {d = 20} refl (whole !))))
-        (and-then ! (load ! (from ! (fld ! {τ = tyInt w64} {d = 24} refl (stop !)))
-        (look-in ! 19 {τ = tyInt w64} (sub ! {τs = tys} 2 {τ = tyInt w64} {d = 24} refl (whole !)))) (no-more !))))
+        assigns ! (agg ! (and-then ! (field-at ! 19 1 {τs = tys} {τ = tyInt w8} {d = 20} refl refl refl)
+        (and-then ! (field-at ! 19 2 {τs = tys} {τ = tyInt w64} {d = 24} refl refl refl) (no-more !))))
         (from ! (stop !))
         (init ! 31 refl (tt, (record { fits = parts .1 .0 .1 }, (record { fits = parts .1 .1 .0 .1 }, tt)))) $
         move ! (1 ∷ 6 ∷ 7 ∷ 8 ∷ []) $ takes-back ! tt b o h (r .core) (zs .1 .0) (parts .0) $
         -- [obs; the borrow; the token; the result; the slices' tokens; the last words; true; the last sent; _11; …;
         -- room for _0; …; true; heard]
         returns ! (look ! 30 refl) $
-        forget ! 8 refl $ forget ! 10 refl $ forget ! 12 refl $ forget ! 14 refl $ forget ! 16 refl $ forget ! 18 refl $
-        forget ! 20 refl $ forget ! 22 refl $ forget ! 24 refl $ forget ! 26 refl $ forget ! 28 refl $
-        forget ! 30 refl $
-        move ! (30 ∷ 31 ∷ []) $ free1 ! $ move ! (28 ∷ 29 ∷ []) $ free1 ! $ move ! (26 ∷ 27 ∷ []) $ free1 ! $
-        move ! (24 ∷ 25 ∷ []) $ free1 ! $
-        move ! (22 ∷ 23 ∷ []) $ free1 ! $ move ! (20 ∷ 21 ∷ []) $ free1 ! $ move ! (18 ∷ 19 ∷ []) $ free1 ! $
-        move ! (16 ∷ 17 ∷ []) $ free1 ! $
-        move ! (14 ∷ 15 ∷ []) $ free1 ! $ move ! (12 ∷ 13 ∷ []) $ free1 ! $ move ! (10 ∷ 11 ∷ []) $ free1 ! $
-        move ! (8 ∷ 9 ∷ []) $ free1 ! $ free0 ! $
+        frees-at ! 30 refl refl $ frees-at ! 28 refl refl $ frees-at ! 26 refl refl $ frees-at ! 24 refl refl $
+        frees-at ! 22 refl refl $ frees-at ! 20 refl refl $ frees-at ! 18 refl refl $ frees-at ! 16 refl refl $
+        frees-at ! 14 refl refl $ frees-at ! 12 refl refl $ frees-at ! 10 refl refl $ frees-at ! 8 refl refl $
+        free0 ! $
         keep ! (0 ∷ 1 ∷ 2 ∷ 4 ∷ 5 ∷ 7 ∷ 9 ∷ []) $
         by ! (exits r (zs .1 .0) (zs .1 .1 .1 .0) (zs .1 .1 .1 .1 .0) ec ea en es ew ls lw
         (LL.owes S.the-type S′.the-laws (given r) (parts .1)))))))))))))))))))))))))))))
