@@ -177,8 +177,7 @@ module _ {M : Type 1} (𝓤 : URA M) (H : Heap 𝓤) (A : Atoms 𝓤) (W : Given
         (init ! 9 refl (LL.lawful T.the-type T′.the-laws 𝓤 H A W .typed h _ was .0)) $
         assigns ! (addr ! (from ! (fld ! refl (hop ! (look-in ! 13 (sub ! 0 refl (whole !))) (stop !)))))
         (from ! (stop !)) (init ! 7 refl (tt, tt)) $
-        assigns ! (agg ! (and-then ! (local-at ! 7 refl)
-        (and-then ! (field-at ! 13 1 refl refl refl) (no-more !))))
+        assigns ! (agg ! (and-then ! (local-at ! 7 refl) (and-then ! (field-at ! 13 1 refl refl refl) (no-more !))))
         (from ! (stop !))
         (init ! 5 refl (tt, (tt, (record { fits = gs .0 .1 .0 }, tt)))) $
         -- what the callee asks
@@ -186,8 +185,7 @@ module _ {M : Type 1} (𝓤 : URA M) (H : Heap 𝓤) (A : Atoms 𝓤) (W : Given
         move ! (23 ∷ 0 ∷ []) $
         use2 W (raw (G 𝓤 H A at-mem run .pre to)) asked $
         calls-at ! fm (G 𝓤 H A at-mem run) known to
-        (and-then ! (local-at ! 9 refl)
-        (and-then ! (local-at ! 15 refl)
+        (and-then ! (local-at ! 9 refl) (and-then ! (local-at ! 15 refl)
         (and-then ! (local-at ! 5 refl) (no-more !)))) (λ v.
         -- what it gives
         use1 W (later (some (λ (r : Ran). (tokens ⊛ ‵ (R.the-row .own r (v ∷ [])))
@@ -217,8 +215,7 @@ module _ {M : Type 1} (𝓤 : URA M) (H : Heap 𝓤) (A : Atoms 𝓤) (W : Given
         -- the locals are freed
         returns ! (look ! 20 refl) $
         frees-at ! 20 refl refl $ frees-at ! 18 refl refl $ frees-at ! 16 refl refl $ frees-at ! 14 refl refl $
-        frees-at ! 12 refl refl $ frees-at ! 10 refl refl $ frees-at ! 8 refl refl $ frees-at ! 6 refl refl $
-        free0 ! $
+        frees-at ! 12 refl refl $ frees-at ! 10 refl refl $ frees-at ! 8 refl refl $ frees-at ! 6 refl refl $ free0 ! $
         keep ! (0 ∷ 1 ∷ 2 ∷ 3 ∷ 4 ∷ 7 ∷ []) $ by ! (exits r (zs .1 .1 .0) e l (parts .1 .0 .1))))))))))))))))))
 
 module _ {M : Type 1} (𝓤 : URA M) (H : Heap 𝓤) (A : Atoms 𝓤) (W : Given 𝓤 H A) (at-mem : Memory → SProp 𝓤)

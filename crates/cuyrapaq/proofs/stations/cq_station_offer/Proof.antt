@@ -17,7 +17,7 @@ use ghost.Atoms.{Atoms}
 use contract.Monad.{Fun, fact}
 use contract.Running.{givenOf, tables, tablesOf}
 use types.Kit.{Given, Item, ‵, raw, _⊛_, ⋆, rewrite, some, later, _$_, _∵_, !, qed, by, move, keep, drop, use1, use2, split, join, pick, fsplit, fsplit3, fjoin, fjoin3, feqI, suffices, frame, await, done}
-use types.Run.{look, look-raw, addr, fld, init, store-raw, stop, hop, from, load, and-then, no-more, of-opd, assigns, land, returns, enter, alloc1, alloc0, params1, pass1, pass0, free0}
+use types.Run.{look, init, stop, from, and-then, no-more, of-opd, assigns, land, returns, enter, alloc1, alloc0, params1, pass1, pass0, free0}
 use types.Tokens.{lft-new, lft-end}
 use types.SemTy.{Body}
 use sound.WpLaws.{FmC, fmOf, WpFn-mono}
@@ -53,7 +53,7 @@ use Rattle.station.proofs.offer as g
 use Rattle.station.proofs.offer.Symbol as g-def
 use Rattle.station.proofs.offer.Symbol.{name as #station·offer}
 use Rattle.station.proofs.offer.Met as g-thm
-use Rattle.cuyrapaq.proofs.Lent.{Chars, chars-ty, core-vals, past, lent-ref, lends-on, takes-back}
+use Rattle.cuyrapaq.proofs.Lent.{Chars, core-vals, past, lent-ref, lends-on, takes-back, loads-core, points-chars, stores-core}
 use Rattle.cuyrapaq.proofs.Steps.{local-at, field-at, frees-at}
 use Rattle.cuyrapaq.proofs.stations.cq_station_offer.Key.{name as #cuyrapaq·stations·cq-station-offer}
 use Rattle.cuyrapaq.proofs.stations.cq_station_offer as f
@@ -169,18 +169,14 @@ module _ {M : Type 1} (𝓤 : URA M) (H : Heap 𝓤) (A : Atoms 𝓤) (W : Given
         (λ was. move ! (1 ∷ 0 ∷ []) $
         -- [the core's cell; what it owns; the reference to the characters; what is kept; their token; _5; …; _4; …; and
         -- so on; _1; …; room for _0; …; text, twice; true; its token]
-        assigns ! (of-opd ! (load ! (from ! (hop ! (look ! 13 refl) (fld ! {τ = K′.mir} {d = 0} refl (stop !))))
-        (look-raw ! 0 {τ = K′.mir} refl))) (from ! (stop !))
-        (init ! 9 refl (LL.lawful K.the-type K′.the-laws 𝓤 H A W .typed (h .core) _ was .0)) $
-        assigns ! (addr ! (from ! (hop ! (look ! 13 refl) (fld ! {τ = chars-ty} {d = past} refl (stop !)))))
-        (from ! (stop !)) (init ! 5 refl (tt, tt)) $
+        loads-core ! 13 0 9 (h .core) was refl refl refl refl refl $
+        points-chars ! 13 5 refl refl refl (tt, tt) $
         -- what the callee asks
         nothing ! $ move ! (18 ∷ 0 ∷ []) $ fjoin ! $ move ! (3 ∷ 0 ∷ []) $ fjoin ! $ move ! (2 ∷ 0 ∷ []) $ fjoin ! $
         move ! (3 ∷ 18 ∷ []) $ join ! $
         use2 W (raw (G 𝓤 H A at-mem run .pre (to α γ₁))) (asked α γ₁) $
         calls-at ! fm (G 𝓤 H A at-mem run) known (to α γ₁)
-        (and-then ! (local-at ! 7 refl)
-        (and-then ! (local-at ! 3 refl)
+        (and-then ! (local-at ! 7 refl) (and-then ! (local-at ! 3 refl)
         (and-then ! (local-at ! 9 refl) (no-more !)))) (λ v.
         -- what it gives
         use1 W (later (some (λ (r : Answered). (tokens α γ₁ ⊛ ‵ (R.the-row .own r (v ∷ [])))
@@ -199,9 +195,7 @@ module _ {M : Type 1} (𝓤 : URA M) (H : Heap 𝓤) (A : Atoms 𝓤) (W : Given
         rewrite ! 9 (λ (u : Val). ‵ (fat fullShare R′.mir l₄ 0 u))
         (ap only (LL.tells R.the-type R′.the-laws r (v ∷ []) is)) refl $
         -- the core is stored, the answer is the result, and the station is shut
-        assigns ! (of-opd ! (field-at ! 9 0 {τs = tys} {τ = K′.mir} {d = 0} refl refl refl))
-        (from ! (hop ! (look ! 15 refl) (fld ! {τ = K′.mir} {d = 0} refl (stop !))))
-        (store-raw ! 5 {τ = K′.mir} refl (LL.lawful K.the-type K′.the-laws 𝓤 H A W .typed (r .core) _ (parts .0) .0)) $
+        stores-core ! 15 5 (r .core) (parts .0) (field-at ! 9 0 {τs = tys} {τ = K′.mir} {d = 0} refl refl refl) refl refl refl $
         assigns ! (of-opd ! (field-at ! 9 1 {τs = tys} {τ = tyInt w8} {d = 20} refl refl refl)) (from ! (stop !))
         (init ! 17 refl (tt, record { fits = parts .1 .0 .1 })) $
         move ! (1 ∷ 3 ∷ 5 ∷ 6 ∷ []) $ takes-back ! tt b o h (r .core) (zs .1 .0) (parts .0) $

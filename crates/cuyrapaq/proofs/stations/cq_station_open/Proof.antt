@@ -16,7 +16,7 @@ use ghost.Atoms.{Atoms}
 use contract.Monad.{Fun, fact}
 use contract.Running.{givenOf, tables, tablesOf}
 use types.Kit.{Given, Item, ‵, raw, _⊛_, ⋆, rewrite, some, later, _$_, _∵_, !, qed, by, move, keep, drop, use1, use2, split, join, pick, fsplit, fsplit3, fjoin, fjoin3, feqI, suffices, frame, await, done}
-use types.Run.{look, addr, fld, init, store-raw, stop, hop, from, and-then, no-more, of-opd, assigns, land, returns, enter, alloc1, alloc0, params1, pass1, pass0, free0}
+use types.Run.{look, init, stop, from, and-then, no-more, of-opd, assigns, land, returns, enter, alloc1, alloc0, params1, pass1, pass0, free0}
 use types.Tokens.{lft-new, lft-end}
 use types.SemTy.{Body}
 use sound.WpLaws.{FmC, fmOf, WpFn-mono}
@@ -50,7 +50,7 @@ use Rattle.station.proofs.open as g
 use Rattle.station.proofs.open.Symbol as g-def
 use Rattle.station.proofs.open.Symbol.{name as #station·open}
 use Rattle.station.proofs.open.Met as g-thm
-use Rattle.cuyrapaq.proofs.Lent.{Chars, chars-ty, past, lent-ref, lends-on, takes-back}
+use Rattle.cuyrapaq.proofs.Lent.{Chars, past, lent-ref, lends-on, takes-back, points-chars, stores-core}
 use Rattle.cuyrapaq.proofs.Steps.{local-at, field-at, frees-at}
 use Rattle.cuyrapaq.proofs.stations.cq_station_open.Key.{name as #cuyrapaq·stations·cq-station-open}
 use Rattle.cuyrapaq.proofs.stations.cq_station_open as f
@@ -147,15 +147,13 @@ module _ {M : Type 1} (𝓤 : URA M) (H : Heap 𝓤) (A : Atoms 𝓤) (W : Given
         lends-on ! tt (named 0) (α ∷ []) b o h (λ γ₁. move ! (1 ∷ []) $ drop ! $
         -- [the core's cell; the reference to the characters; what is kept; their token; _4; …; _3; …; _2; …; _1; …;
         -- room for _0; …; what mode owns]
-        assigns ! (addr ! (from ! (hop ! (look ! 10 refl) (fld ! {τ = chars-ty} {d = past} refl (stop !)))))
-        (from ! (stop !)) (init ! 4 refl (tt, tt)) $
+        points-chars ! 10 4 refl refl refl (tt, tt) $
         -- what the callee asks
         nothing ! $ move ! (15 ∷ 0 ∷ []) $ fjoin ! $ move ! (2 ∷ 0 ∷ []) $ fjoin ! $ nothing ! $ move ! (4 ∷ 0 ∷ []) $
         join ! $
         use2 W (raw (G 𝓤 H A at-mem run .pre (to α γ₁))) (asked α γ₁) $
         calls-at ! fm (G 𝓤 H A at-mem run) known (to α γ₁)
-        (and-then ! (local-at ! 3 refl)
-        (and-then ! (local-at ! 7 refl) (no-more !))) (λ v.
+        (and-then ! (local-at ! 3 refl) (and-then ! (local-at ! 7 refl) (no-more !))) (λ v.
         -- what it gives
         use1 W (later (some (λ (r : Answered). (tokens α γ₁ ⊛ ‵ (R.the-row .own r (v ∷ [])))
         ⊛ raw (ensured 𝓤 H A g.ended (g.clauses 𝓤 H A at-mem run) (α ∷ [], tt) (args α γ₁) tt r)))) (id⊢ 𝓤 _) $
@@ -172,9 +170,7 @@ module _ {M : Type 1} (𝓤 : URA M) (H : Heap 𝓤) (A : Atoms 𝓤) (W : Given
         rewrite ! 9 (λ (u : Val). ‵ (fat fullShare R′.mir l₃ 0 u))
         (ap only (LL.tells R.the-type R′.the-laws r (v ∷ []) is)) refl $
         -- the core is stored, the answer is the result, and the station is shut
-        assigns ! (of-opd ! (field-at ! 9 0 {τs = tys} {τ = K′.mir} {d = 0} refl refl refl))
-        (from ! (hop ! (look ! 13 refl) (fld ! {τ = K′.mir} {d = 0} refl (stop !))))
-        (store-raw ! 5 {τ = K′.mir} refl (LL.lawful K.the-type K′.the-laws 𝓤 H A W .typed (r .core) _ (parts .0) .0)) $
+        stores-core ! 13 5 (r .core) (parts .0) (field-at ! 9 0 {τs = tys} {τ = K′.mir} {d = 0} refl refl refl) refl refl refl $
         assigns ! (of-opd ! (field-at ! 9 1 {τs = tys} {τ = tyInt w8} {d = 20} refl refl refl)) (from ! (stop !))
         (init ! 15 refl (tt, record { fits = parts .1 .0 .1 })) $
         move ! (1 ∷ 3 ∷ 5 ∷ 6 ∷ []) $ takes-back ! tt b o h (r .core) (zs .0) (parts .0) $

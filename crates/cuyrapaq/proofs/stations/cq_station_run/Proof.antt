@@ -18,7 +18,7 @@ use ghost.Atoms.{Atoms}
 use contract.Monad.{Fun, fact}
 use contract.Running.{givenOf, tables, tablesOf}
 use types.Kit.{Given, Item, ‵, raw, _⊛_, ⋆, rewrite, some, later, _$_, _∵_, !, qed, by, move, keep, drop, use1, use2, split, join, pick, fsplit, fsplit3, fjoin, fjoin3, feqI, feqL, suffices, frame, await, done}
-use types.Run.{look, look-raw, addr, fld, init, store-raw, stop, hop, from, load, and-then, no-more, of-opd, assigns, land, returns, enter, alloc1, alloc0, params1, pass1, pass0, free0}
+use types.Run.{look, addr, fld, init, stop, hop, from, and-then, no-more, assigns, land, returns, enter, alloc1, alloc0, params1, pass1, pass0, free0}
 use types.Tokens.{lft-new, lft-end}
 use types.SemTy.{Body}
 use types.Part.{agg, whole, sub, look-in}
@@ -54,7 +54,7 @@ use Rattle.station_entry.proofs.run as g
 use Rattle.station_entry.proofs.run.Symbol as g-def
 use Rattle.station_entry.proofs.run.Symbol.{name as #station_entry·run}
 use Rattle.station_entry.proofs.run.Met as g-thm
-use Rattle.cuyrapaq.proofs.Lent.{Chars, chars-ty, core-vals, past, lent-ref, lends-on, takes-back}
+use Rattle.cuyrapaq.proofs.Lent.{Chars, core-vals, past, lent-ref, lends-on, takes-back, loads-core, points-chars, stores-core}
 use Rattle.cuyrapaq.specs.declared.stations.StationRan.{StationRan}
 use Rattle.cuyrapaq.proofs.stations.StationRan as S
 use Rattle.cuyrapaq.proofs.stations.StationRan.Laws as S′
@@ -215,22 +215,17 @@ module _ {M : Type 1} (𝓤 : URA M) (H : Heap 𝓤) (A : Atoms 𝓤) (W : Given
         (λ was. move ! (1 ∷ 0 ∷ []) $
         -- [the core's cell; what it owns; the reference to the characters; what is kept; their token; _11; …; _10; …;
         -- and so on; _1; …; room for _0; …; what words owns; …]
-        assigns ! (of-opd ! (load ! (from ! (hop ! (look ! 25 refl) (fld ! {τ = K′.mir} {d = 0} refl (stop !))))
-        (look-raw ! 0 {τ = K′.mir} refl))) (from ! (stop !))
-        (init ! 17 refl (LL.lawful K.the-type K′.the-laws 𝓤 H A W .typed (h .core) _ was .0)) $
-        assigns ! (addr ! (from ! (hop ! (look ! 25 refl) (fld ! {τ = chars-ty} {d = past} refl (stop !)))))
-        (from ! (stop !)) (init ! 13 refl (tt, tt)) $
+        loads-core ! 25 0 17 (h .core) was refl refl refl refl refl $
+        points-chars ! 25 13 refl refl refl (tt, tt) $
         -- the slices to be written are lent on
         assigns ! (addr ! (from ! (fld ! refl (hop ! (look-in ! 21 (sub ! 0 refl (whole !))) (stop !)))))
         (from ! (stop !)) (init ! 11 refl (tt, tt)) $
-        assigns ! (agg ! (and-then ! (local-at ! 11 refl)
-        (and-then ! (field-at ! 21 1 refl refl refl) (no-more !))))
+        assigns ! (agg ! (and-then ! (local-at ! 11 refl) (and-then ! (field-at ! 21 1 refl refl refl) (no-more !))))
         (from ! (stop !))
         (init ! 9 refl (tt, (tt, (record { fits = gs .0 .1 .0 }, tt)))) $
         assigns ! (addr ! (from ! (fld ! refl (hop ! (look-in ! 19 (sub ! 0 refl (whole !))) (stop !)))))
         (from ! (stop !)) (init ! 7 refl (tt, tt)) $
-        assigns ! (agg ! (and-then ! (local-at ! 7 refl)
-        (and-then ! (field-at ! 19 1 refl refl refl) (no-more !))))
+        assigns ! (agg ! (and-then ! (local-at ! 7 refl) (and-then ! (field-at ! 19 1 refl refl refl) (no-more !))))
         (from ! (stop !))
         (init ! 5 refl (tt, (tt, (record { fits = gw .0 .1 .0 }, tt)))) $
         -- what the callee asks
@@ -238,11 +233,8 @@ module _ {M : Type 1} (𝓤 : URA M) (H : Heap 𝓤) (A : Atoms 𝓤) (W : Given
         $ move ! (3 ∷ 0 ∷ []) $ fjoin ! $ move ! (2 ∷ 0 ∷ []) $ fjoin ! $ move ! (3 ∷ 30 ∷ []) $ join ! $
         use2 W (raw (G 𝓤 H A at-mem run .pre (to α γ₁))) (asked α γ₁) $
         calls-at ! fm (G 𝓤 H A at-mem run) known (to α γ₁)
-        (and-then ! (local-at ! 15 refl)
-        (and-then ! (local-at ! 11 refl)
-        (and-then ! (local-at ! 21 refl)
-        (and-then ! (local-at ! 7 refl)
-        (and-then ! (local-at ! 3 refl) (no-more !)))))) (λ v.
+        (and-then ! (local-at ! 15 refl) (and-then ! (local-at ! 11 refl) (and-then ! (local-at ! 21 refl)
+        (and-then ! (local-at ! 7 refl) (and-then ! (local-at ! 3 refl) (no-more !)))))) (λ v.
         -- what it gives
         use1 W (later (some (λ (r : Ran). (tokens α γ₁ ⊛ ‵ (R.the-row .own r (v ∷ [])))
         ⊛ raw (ensured 𝓤 H A g.ended (g.clauses 𝓤 H A at-mem run) (α ∷ [], (κ₁, (κ₂, (κ₃, tt)))) (args α γ₁) tt r))))
@@ -270,9 +262,7 @@ module _ {M : Type 1} (𝓤 : URA M) (H : Heap 𝓤) (A : Atoms 𝓤) (W : Given
         rewrite ! 19 (λ (u : Val). ‵ (fat fullShare R′.mir l₆ 0 u))
         (ap only (LL.tells R.the-type R′.the-laws r (v ∷ []) is)) refl $
         -- the core is stored, the answer and the count are the result, and the station is shut
-        assigns ! (of-opd ! (field-at ! 19 0 {τs = tys} {τ = K′.mir} {d = 0} refl refl refl))
-        (from ! (hop ! (look ! 29 refl) (fld ! {τ = K′.mir} {d = 0} refl (stop !))))
-        (store-raw ! 7 {τ = K′.mir} refl (LL.lawful K.the-type K′.the-laws 𝓤 H A W .typed (r .core) _ (parts .0) .0)) $
+        stores-core ! 29 7 (r .core) (parts .0) (field-at ! 19 0 {τs = tys} {τ = K′.mir} {d = 0} refl refl refl) refl refl refl $
         assigns ! (agg ! (and-then ! (field-at ! 19 1 {τs = tys} {τ = tyInt w8} {d = 20} refl refl refl)
         (and-then ! (field-at ! 19 2 {τs = tys} {τ = tyInt w64} {d = 24} refl refl refl) (no-more !))))
         (from ! (stop !))
@@ -283,8 +273,7 @@ module _ {M : Type 1} (𝓤 : URA M) (H : Heap 𝓤) (A : Atoms 𝓤) (W : Given
         returns ! (look ! 30 refl) $
         frees-at ! 30 refl refl $ frees-at ! 28 refl refl $ frees-at ! 26 refl refl $ frees-at ! 24 refl refl $
         frees-at ! 22 refl refl $ frees-at ! 20 refl refl $ frees-at ! 18 refl refl $ frees-at ! 16 refl refl $
-        frees-at ! 14 refl refl $ frees-at ! 12 refl refl $ frees-at ! 10 refl refl $ frees-at ! 8 refl refl $
-        free0 ! $
+        frees-at ! 14 refl refl $ frees-at ! 12 refl refl $ frees-at ! 10 refl refl $ frees-at ! 8 refl refl $ free0 ! $
         keep ! (0 ∷ 1 ∷ 2 ∷ 4 ∷ 5 ∷ 7 ∷ 9 ∷ []) $
         by ! (exits r (zs .1 .0) (zs .1 .1 .1 .0) (zs .1 .1 .1 .1 .0) ec ea en es ew ls lw
         (LL.owes S.the-type S′.the-laws (given r) (parts .1)))))))))))))))))))))))))))))
