@@ -51,7 +51,7 @@ use Rattle.calling.proofs.run as g
 use Rattle.calling.proofs.run.Symbol as g-def
 use Rattle.calling.proofs.run.Symbol.{name as #calling·run}
 use Rattle.calling.proofs.run.Met as g-thm
-use Rattle.cuyrapaq.proofs.Steps.{local-at, field-at, frees-at}
+use Rattle.cuyrapaq.proofs.Steps.{local-at, field-at, lands-struct, frees-at}
 use Rattle.cuyrapaq.proofs.calling_set.cq_calling_run.Key.{name as #cuyrapaq·calling-set·cq-calling-run}
 use Rattle.cuyrapaq.proofs.calling_set.cq_calling_run as f
 use Rattle.cuyrapaq.proofs.calling_set.cq_calling_run.Statement as stated
@@ -200,9 +200,7 @@ module _ {M : Type 1} (𝓤 : URA M) (H : Heap 𝓤) (A : Atoms 𝓤) (W : Given
         move ! (2 ∷ []) $ split ! $ move ! (1 ∷ []) $
         peeks ! R.the-row (Is R.the-row) (shows 𝓤 H A R.the-row) r (v ∷ []) (λ is.
         let parts = LL.owed R.the-type R′.the-laws r (v ∷ []) is in
-        land ! (from ! (stop !)) (init ! 14 refl (LL.lawful R.the-type R′.the-laws 𝓤 H A W .typed r _ is .0)) $
-        rewrite ! 14 (λ (u : Val). ‵ (fat fullShare R′.mir l₄ 0 u))
-        (ap only (LL.tells R.the-type R′.the-laws r (v ∷ []) is)) refl $
+        lands-struct ! 14 R.the-type R′.the-laws r is refl refl $
         -- the state is stored, the answer is the result, and the state is shut
         assigns ! (of-opd ! (field-at ! 14 0 refl refl refl))
         (from ! (hop ! (look ! 20 refl) (stop !)))

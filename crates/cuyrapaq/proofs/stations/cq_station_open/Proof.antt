@@ -51,7 +51,7 @@ use Rattle.station.proofs.open.Symbol as g-def
 use Rattle.station.proofs.open.Symbol.{name as #station·open}
 use Rattle.station.proofs.open.Met as g-thm
 use Rattle.cuyrapaq.proofs.Lent.{Chars, past, lent-ref, lends-on, takes-back, points-chars, stores-core}
-use Rattle.cuyrapaq.proofs.Steps.{local-at, field-at, frees-at}
+use Rattle.cuyrapaq.proofs.Steps.{local-at, field-at, lands-struct, frees-at}
 use Rattle.cuyrapaq.proofs.stations.cq_station_open.Key.{name as #cuyrapaq·stations·cq-station-open}
 use Rattle.cuyrapaq.proofs.stations.cq_station_open as f
 use Rattle.cuyrapaq.proofs.stations.cq_station_open.Statement as stated
@@ -166,9 +166,7 @@ module _ {M : Type 1} (𝓤 : URA M) (H : Heap 𝓤) (A : Atoms 𝓤) (W : Given
         -- [the end of their lifetime; true; the result; the last list; …; the core's cell; what is kept; _4; …]
         move ! (2 ∷ []) $ peeks ! R.the-row (Is R.the-row) (shows 𝓤 H A R.the-row) r (v ∷ []) (λ is.
         let parts = LL.owed R.the-type R′.the-laws r (v ∷ []) is in
-        land ! (from ! (stop !)) (init ! 9 refl (LL.lawful R.the-type R′.the-laws 𝓤 H A W .typed r _ is .0)) $
-        rewrite ! 9 (λ (u : Val). ‵ (fat fullShare R′.mir l₃ 0 u))
-        (ap only (LL.tells R.the-type R′.the-laws r (v ∷ []) is)) refl $
+        lands-struct ! 9 R.the-type R′.the-laws r is refl refl $
         -- the core is stored, the answer is the result, and the station is shut
         stores-core ! 13 5 (r .core) (parts .0) (field-at ! 9 0 {τs = tys} {τ = K′.mir} {d = 0} refl refl refl) refl refl refl $
         assigns ! (of-opd ! (field-at ! 9 1 {τs = tys} {τ = tyInt w8} {d = 20} refl refl refl)) (from ! (stop !))

@@ -58,7 +58,7 @@ use Rattle.cuyrapaq.proofs.Lent.{Chars, core-vals, past, lent-ref, lend
 use Rattle.cuyrapaq.specs.declared.stations.StationRan.{StationRan}
 use Rattle.cuyrapaq.proofs.stations.StationRan as S
 use Rattle.cuyrapaq.proofs.stations.StationRan.Laws as S′
-use Rattle.cuyrapaq.proofs.Steps.{local-at, field-at, frees-at}
+use Rattle.cuyrapaq.proofs.Steps.{local-at, field-at, lands-struct, frees-at}
 use Rattle.cuyrapaq.proofs.stations.cq_station_run.Key.{name as #cuyrapaq·stations·cq-station-run}
 use Rattle.cuyrapaq.proofs.stations.cq_station_run as f
 use Rattle.cuyrapaq.proofs.stations.cq_station_run.Statement as stated
@@ -258,9 +258,7 @@ module _ {M : Type 1} (𝓤 : URA M) (H : Heap 𝓤) (A : Atoms 𝓤) (W : Given
         let parts = LL.owed R.the-type R′.the-laws r (v ∷ []) is in
         -- [the result; the end of their lifetime; the slices' tokens; the last words; true; the last sent; the
         -- characters' last list; the core's cell; what is kept; _11; …]
-        land ! (from ! (stop !)) (init ! 19 refl (LL.lawful R.the-type R′.the-laws 𝓤 H A W .typed r _ is .0)) $
-        rewrite ! 19 (λ (u : Val). ‵ (fat fullShare R′.mir l₆ 0 u))
-        (ap only (LL.tells R.the-type R′.the-laws r (v ∷ []) is)) refl $
+        lands-struct ! 19 R.the-type R′.the-laws r is refl refl $
         -- the core is stored, the answer and the count are the result, and the station is shut
         stores-core ! 29 7 (r .core) (parts .0) (field-at ! 19 0 {τs = tys} {τ = K′.mir} {d = 0} refl refl refl) refl refl refl $
         assigns ! (agg ! (and-then ! (field-at ! 19 1 {τs = tys} {τ = tyInt w8} {d = 20} refl refl refl)
