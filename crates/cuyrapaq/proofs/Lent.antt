@@ -11,7 +11,7 @@ use lib.Dec.{T as Holds}
 use mir.Syntax.{Ty, Lifetime, w8, tyInt, tyArray, place, field, deref, Opd as Operand, copy, rvOpd, addrOf, Body as Code, seq, assign}
 use mir.Val.{Val, vptr, hasTy, WT}
 use base.Logic.{SProp, ent, sep, ex, wand, wandE, allE}
-use base.Fml.{Lft, GName, Share, fsep, flft, fdead, fobs, fauth, fres, fbor, fobor, flent, fat, froom}
+use base.Fml.{Lft, GName, Share, fsep, flft, fdead, fobs, fauth, fres, fbor, fobor, flent}
 use prog.Memory.{fieldOf}
 use prog.Wp.{Heap, Env, Calls, Loops, spotOf}
 use ghost.Atoms.{Atoms, sem}
@@ -33,6 +33,7 @@ use denote.Struct.Declared.{shape}
 use denote.Struct.Members.{Member, rowsOf, partsAt}
 use denote.Struct.Parts.{shapeOf, PartsBack, struct-parts}
 use denote.Struct.Laws as LL
+use Rattle.cuyrapaq.proofs.Steps.{cell, room}
 use Rattle.half_duplex.specs.declared.Core.{Core}
 use Rattle.half_duplex.proofs.Core as K
 use Rattle.half_duplex.proofs.Core.Laws as K′
@@ -201,42 +202,37 @@ module _ {M : Type 1} {𝓤 : URA M} {H : Heap 𝓤} {A : Atoms 𝓤} {X : Type 
 -- the local i, whose cell is entry n, points to the station at (b, o)
 module _ {M : Type 1} {𝓤 : URA M} {H : Heap 𝓤} {A : Atoms 𝓤} {X : Type 0} {W : Given 𝓤 H A} {Γ : List (Item 𝓤)}
     {E : Env 𝓤 H} {C : Calls 𝓤 H} {Λ : Loops 𝓤 H} {post : Post 𝓤 H} {i : ℕ} {q : Share} {b o : ℕ} {σ : Ty} {rest : Code}
-    where
-  -- its core, at entry m, is loaded into the local j, which has room at entry k
-  pub loads-core : X → (n m k : ℕ) {j : ℕ} (c : Core) → Is K.the-row c (core-vals c)
-      → nth 𝓤 H A n Γ ≡ ‵ (fat q (spotOf 𝓤 H E i .0) (spotOf 𝓤 H E i .1) zero (vptr b o))
-      → fieldOf σ 0 ≡ just (K′.mir, 0) → nth 𝓤 H A m Γ ≡ core-cell 𝓤 H A W c b o
-      → nth 𝓤 H A k Γ ≡ ‵ (froom (spotOf 𝓤 H E j .0) (spotOf 𝓤 H E j .1) zero) → K′.mir ≡ spotOf 𝓤 H E j .0
-      → Step X W (put 𝓤 H A k (‵ (fat fullShare (spotOf 𝓤 H E j .0) (spotOf 𝓤 H E j .1) zero (core-val c))) Γ)
-      (runs C Λ E rest post) Γ
-      (runs C Λ E (seq (assign (place j []) (rvOpd (copy (place i (deref σ ∷ field 0 ∷ []))))) rest) post)
-  loads-core t n m k {j} c is at f cell room same =
-      assigns t (of-opd t (load t (from t (hop t (look t n at) (fld t {τ = K′.mir} {d = 0} f (stop t))))
-      (look-raw t m {τ = K′.mir} cell))) (from t (stop t))
-      (init t k room (subst (λ (τ : Ty). Holds (hasTy τ (core-val c)) × WT (core-val c)) same
-      (LL.lawful K.the-type K′.the-laws 𝓤 H A W .typed c _ is .0)))
+  where
+    -- its core, at entry m, is loaded into the local j, which has room at entry k
+    pub loads-core : X → (n m k : ℕ) {j : ℕ} (c : Core) → Is K.the-row c (core-vals c)
+        → nth 𝓤 H A n Γ ≡ cell 𝓤 H E q i (vptr b o)
+        → fieldOf σ 0 ≡ just (K′.mir, 0) → nth 𝓤 H A m Γ ≡ core-cell 𝓤 H A W c b o
+        → nth 𝓤 H A k Γ ≡ room 𝓤 H E j → K′.mir ≡ spotOf 𝓤 H E j .0
+        → Step X W (put 𝓤 H A k (cell 𝓤 H E fullShare j (core-val c)) Γ) (runs C Λ E rest post) Γ
+        (runs C Λ E (seq (assign (place j []) (rvOpd (copy (place i (deref σ ∷ field 0 ∷ []))))) rest) post)
+    loads-core t n m k {j} c is at f core free same =
+        assigns t (of-opd t (load t (from t (hop t (look t n at) (fld t {τ = K′.mir} {d = 0} f (stop t))))
+        (look-raw t m {τ = K′.mir} core))) (from t (stop t))
+        (init t k free (subst (λ (τ : Ty). Holds (hasTy τ (core-val c)) × WT (core-val c)) same
+        (LL.lawful K.the-type K′.the-laws 𝓤 H A W .typed c _ is .0)))
 
-  -- the local j, which has room at entry k, is pointed to its characters
-  pub points-chars : X → (n k : ℕ) {j : ℕ}
-      → nth 𝓤 H A n Γ ≡ ‵ (fat q (spotOf 𝓤 H E i .0) (spotOf 𝓤 H E i .1) zero (vptr b o))
-      → fieldOf σ 1 ≡ just (chars-ty, past)
-      → nth 𝓤 H A k Γ ≡ ‵ (froom (spotOf 𝓤 H E j .0) (spotOf 𝓤 H E j .1) zero)
-      → Holds (hasTy (spotOf 𝓤 H E j .0) (vptr b (o + past))) × WT (vptr b (o + past))
-      → Step X W
-      (put 𝓤 H A k (‵ (fat fullShare (spotOf 𝓤 H E j .0) (spotOf 𝓤 H E j .1) zero (vptr b (o + past)))) Γ)
-      (runs C Λ E rest post) Γ
-      (runs C Λ E (seq (assign (place j []) (addrOf (place i (deref σ ∷ field 1 ∷ [])))) rest) post)
-  points-chars t n k at f room fits =
-      assigns t (addr t (from t (hop t (look t n at) (fld t {τ = chars-ty} {d = past} f (stop t)))))
-      (from t (stop t)) (init t k room fits)
+    -- the local j, which has room at entry k, is pointed to its characters
+    pub points-chars : X → (n k : ℕ) {j : ℕ}
+        → nth 𝓤 H A n Γ ≡ cell 𝓤 H E q i (vptr b o)
+        → fieldOf σ 1 ≡ just (chars-ty, past) → nth 𝓤 H A k Γ ≡ room 𝓤 H E j
+        → Holds (hasTy (spotOf 𝓤 H E j .0) (vptr b (o + past))) × WT (vptr b (o + past))
+        → Step X W (put 𝓤 H A k (cell 𝓤 H E fullShare j (vptr b (o + past))) Γ) (runs C Λ E rest post) Γ
+        (runs C Λ E (seq (assign (place j []) (addrOf (place i (deref σ ∷ field 1 ∷ [])))) rest) post)
+    points-chars t n k at f free fits =
+        assigns t (addr t (from t (hop t (look t n at) (fld t {τ = chars-ty} {d = past} f (stop t)))))
+        (from t (stop t)) (init t k free fits)
 
-  -- its core, at entry m, is stored from the operand x
-  pub stores-core : X → (n m : ℕ) {x : Operand} {c₀ : Core} (c : Core) → Is K.the-row c (core-vals c)
-      → Opd X W Γ E x (core-val c)
-      → nth 𝓤 H A n Γ ≡ ‵ (fat q (spotOf 𝓤 H E i .0) (spotOf 𝓤 H E i .1) zero (vptr b o))
-      → fieldOf σ 0 ≡ just (K′.mir, 0) → nth 𝓤 H A m Γ ≡ core-cell 𝓤 H A W c₀ b o
-      → Step X W (put 𝓤 H A m (core-cell 𝓤 H A W c b o) Γ) (runs C Λ E rest post) Γ
-      (runs C Λ E (seq (assign (place i (deref σ ∷ field 0 ∷ [])) (rvOpd x)) rest) post)
-  stores-core t n m c is x at f cell =
-      assigns t (of-opd t x) (from t (hop t (look t n at) (fld t {τ = K′.mir} {d = 0} f (stop t))))
-      (store-raw t m {τ = K′.mir} cell (LL.lawful K.the-type K′.the-laws 𝓤 H A W .typed c _ is .0))
+    -- its core, at entry m, is stored from the operand x
+    pub stores-core : X → (n m : ℕ) {x : Operand} {c₀ : Core} (c : Core) → Is K.the-row c (core-vals c)
+        → Opd X W Γ E x (core-val c) → nth 𝓤 H A n Γ ≡ cell 𝓤 H E q i (vptr b o)
+        → fieldOf σ 0 ≡ just (K′.mir, 0) → nth 𝓤 H A m Γ ≡ core-cell 𝓤 H A W c₀ b o
+        → Step X W (put 𝓤 H A m (core-cell 𝓤 H A W c b o) Γ) (runs C Λ E rest post) Γ
+        (runs C Λ E (seq (assign (place i (deref σ ∷ field 0 ∷ [])) (rvOpd x)) rest) post)
+    stores-core t n m c is x at f core =
+        assigns t (of-opd t x) (from t (hop t (look t n at) (fld t {τ = K′.mir} {d = 0} f (stop t))))
+        (store-raw t m {τ = K′.mir} core (LL.lawful K.the-type K′.the-laws 𝓤 H A W .typed c _ is .0))

@@ -84,16 +84,15 @@ module _ {M : Type 1} (𝓤 : URA M) (H : Heap 𝓤) (A : Atoms 𝓤) (W : Given
         looks ! tt T.the-row (Is T.the-row) (shows 𝓤 H A T.the-row) vals (LL.tells T.the-type T′.the-laws)
         ((LL.copy T.the-type T′.the-copy) 𝓤 H A W) h b o (λ q′ vs.
         spelt ! T.the-row (Is T.the-row) (shows 𝓤 H A T.the-row) vals (LL.tells T.the-type T′.the-laws) q′ h vs b o $
-        move ! (1 ∷ []) $ peeks ! T.the-row (Is T.the-row) (shows 𝓤 H A T.the-row) h (vals h)
-        (λ g. move ! (1 ∷ 0 ∷ []) $
+        move ! (1 ∷ []) $ peeks ! T.the-row (Is T.the-row) (shows 𝓤 H A T.the-row) h (vals h) (λ g.
+        move ! (1 ∷ 0 ∷ []) $
         -- [a share of the struct's cell; what a Calling owns; what shuts it; the fractured borrow; true; res; true; _1;
         -- …; room for _0; …]
         assigns ! (of-opd ! (load ! (from ! (hop ! (look ! 7 refl) (fld ! refl (stop !))))
         (look-in ! 0 (sub ! 3 refl (whole !))))) (from ! (stop !))
         (init ! 9 refl (tt, record { fits = g .1 .1 .1 .1 .1 .0 .1 })) $
         shuts ! tt T.the-row q′ h (vals h) b o $
-        returns ! (look ! 7 refl) $
-        frees-at ! 7 refl refl $ frees-at ! 5 refl refl $ free0 ! $
+        returns ! (look ! 7 refl) $ frees-at ! 7 refl refl $ frees-at ! 5 refl refl $ free0 ! $
         keep ! (0 ∷ 3 ∷ 1 ∷ []) $ by ! (exits (g .1 .1 .1 .1 .1 .0 .1))))))
 
 module _ {M : Type 1} (𝓤 : URA M) (H : Heap 𝓤) (A : Atoms 𝓤) (W : Given 𝓤 H A) (at-mem : Memory → SProp 𝓤)
