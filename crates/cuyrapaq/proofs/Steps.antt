@@ -36,12 +36,12 @@ module _ {M : Type 1} {𝓤 : URA M} {H : Heap 𝓤} {A : Atoms 𝓤} {X : Type 
       → nth 𝓤 H A n Γ ≡ cell 𝓤 H E q i v → Opd X W Γ E (copy (place i [])) v
   local-at t n e = load t (from t (stop t)) (look t n e)
 
-  -- field k of the local i, whose cell is entry n
-  pub field-at : X → (n k : ℕ) {i : ℕ} {q : Share} {ν : Sym} {τs : Tys} {vs : Vals} {τ : Ty} {d : ℕ}
-      → fieldOf (spotOf 𝓤 H E i .0) k ≡ some (τ, d)
+  -- field k of the local i, whose cell is entry n; that the code's field l is that one is a fact to be shown
+  pub field-at : X → (n k : ℕ) {i l : ℕ} {q : Share} {ν : Sym} {τs : Tys} {vs : Vals} {τ : Ty} {d : ℕ}
+      → fieldOf (spotOf 𝓤 H E i .0) l ≡ some (τ, d)
       → nth 𝓤 H A n Γ ≡ ‵ (fat q (tyStruct ν τs) (spotOf 𝓤 H E i .1) zero (vstruct vs))
-      → fieldAt zero τs k ≡ some (τ, d) → Opd X W Γ E (copy (place i (field k ∷ []))) (getV vs k)
-  field-at t n k {i} {q} {ν} {τs} {vs} {τ} {d} e at e′ =
+      → fieldAt zero τs k ≡ some (τ, d) → Opd X W Γ E (copy (place i (field l ∷ []))) (getV vs k)
+  field-at t n k {i} {l} {q} {ν} {τs} {vs} {τ} {d} e at e′ =
       load t (from t (fld t {τ = τ} {d = d} e (stop t)))
       (look-in t n (subst (λ (j : Item 𝓤). Part X W j q τ (spotOf 𝓤 H E i .1) (zero + d) (getV vs k) back) (sym at)
       (sub t k e′ (whole t))))
