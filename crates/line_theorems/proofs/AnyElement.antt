@@ -33,7 +33,9 @@ sixfold e = omega arith
 
 -- five digits that came in at the top are the code
 abbrev cameIn : ℕ → ℕ
-cameIn k = ((((0 / 2 + 16 * (k % 2)) / 2 + 16 * (k / 2 % 2)) / 2 + 16 * (k / 2 / 2 % 2)) / 2 + 16 * (k / 2 / 2 / 2 % 2)) / 2 + 16 * (k / 2 / 2 / 2 / 2 % 2)
+cameIn k =
+    ((((0 / 2 + 16 * (k % 2)) / 2 + 16 * (k / 2 % 2)) / 2 + 16 * (k / 2 / 2 % 2)) / 2 + 16 * (k / 2 / 2 / 2 % 2)) / 2
+    + 16 * (k / 2 / 2 / 2 / 2 % 2)
 
 digits-test : T (passes (λ (k : ℕ). eqb (cameIn k) k) 32 0)
 unfolding passes
@@ -52,7 +54,10 @@ module _ (e : ℕ) (big : 2 ≤ e) where
   unfolding sampled
   off j i d x h n p =
       let q : (k : ℕ) → e * j + i ≡ baudotPlace e k → ⊥ =
-      λ k r. (let a = sym (mul-add-div {m = e} (omega arith) j i ∙ ap (λ (z : ℕ). j + z) (div-eq-of-lt h) ∙ add-zero j) ∙ ap (λ (z : ℕ). z / e) r ∙ place-element e (omega arith) k in
+      λ k r. (let a =
+      sym (mul-add-div {m = e} (omega arith) j i ∙ ap (λ (z : ℕ). j + z) (div-eq-of-lt h) ∙ add-zero j)
+      ∙ ap (λ (z : ℕ). z / e) r
+      ∙ place-element e (omega arith) k in
       n (let s : e * j + i ≡ e * j + e / 2 = r ∙ ap (λ (z : ℕ). e * z + e / 2) (sym a) in omega arith)) in
       no-sample samples (e * j + i) d p x (baudot-off e (omega arith) (e * j + i) q)
 
@@ -71,13 +76,13 @@ module _ (e : ℕ) (big : 2 ≤ e) where
       let s : e * j + i + 1 ≡ e * j + suc i = omega arith in
       let t : i + suc n ≡ suc i + n = omega arith in
       let u = skip n (suc i) j d x (omega arith) (omega arith) (λ p a b. ok p (omega arith) (omega arith)) in
-      rw t
-      (next samples
-      (off j i d x (omega arith) (ok i (omega arith) (omega arith)) z ∙ ap (λ (m : ℕ). gives (inFrame m d) Nothing) s) u)
+      let o = off j i d x (omega arith) (ok i (omega arith) (omega arith)) z in
+      rw t (next samples (o ∙ ap (λ (m : ℕ). gives (inFrame m d) Nothing) s) u)
 
   -- the ms of element j behind its sample
   rest : (j d x : ℕ)
-      → Hears samples (inFrame (baudotPlace e j + 1) d) (replicate (e - e / 2 - 1) x) (silent (e - e / 2 - 1)) (inFrame (e * suc j + 0) d)
+      → Hears samples (inFrame (baudotPlace e j + 1) d) (replicate (e - e / 2 - 1) x) (silent (e - e / 2 - 1))
+      (inFrame (e * suc j + 0) d)
   rest j d x =
       let w : e * j + (suc (e / 2) + (e - e / 2 - 1)) ≡ e * suc j + 0 = omega arith in
       let v : e * j + suc (e / 2) ≡ baudotPlace e j + 1 = omega arith in
@@ -101,7 +106,8 @@ module _ (e : ℕ) (big : 2 ≤ e) where
 
   -- the element of a digit b
   digit : (j d b : ℕ) → b < 2 → getD baudotKinds (suc j) None ≡ Digit 16
-      → Hears samples (inFrame (e * suc j + 0) d) (replicate e (levelOf b)) (silent e) (inFrame (e * suc (suc j) + 0) (d / 2 + 16 * b))
+      → Hears samples (inFrame (e * suc j + 0) d) (replicate e (levelOf b)) (silent e)
+      (inFrame (e * suc (suc j) + 0) (d / 2 + 16 * b))
   digit j d b h k =
       element j d (levelOf b) (d / 2 + 16 * b)
       (ap (λ (s : Sample). sampled s (baudotPlace e (suc j)) d (levelOf b)) k ∙ leads (baudotPlace e (suc j)) d b h)
@@ -132,7 +138,8 @@ module _ (e : ℕ) (big : 2 ≤ e) where
 
   -- the stop: the code at its sample, and then hunting
   stop : (d : ℕ)
-      → Hears samples (inFrame (e * 6 + 0) d) (replicate (3 * e / 2) 1) (silent (e / 2) ++ (Code (record { 0 = d }) ∷ silent (3 * e / 2 - e / 2 - 1))) hunting
+      → Hears samples (inFrame (e * 6 + 0) d) (replicate (3 * e / 2) 1)
+      (silent (e / 2) ++ (Code (record { 0 = d }) ∷ silent (3 * e / 2 - e / 2 - 1))) hunting
   unfolding sampled baudotKinds
   stop d =
       rw (split {A = ℕ} (3 * e / 2) (e / 2) (3 * e / 2 - e / 2 - 1) 1 (omega arith))
@@ -141,7 +148,8 @@ module _ (e : ℕ) (big : 2 ≤ e) where
 
   -- six elements that end in nothing, and what is ahead of the stop's sample
   quiet-ahead : (os : List Found)
-      → (silent e ++ (silent e ++ (silent e ++ (silent e ++ (silent e ++ (silent e ++ [])))))) ++ (silent (e / 2) ++ os) ≡ silent (baudotPlace e 6) ++ os
+      → (silent e ++ (silent e ++ (silent e ++ (silent e ++ (silent e ++ (silent e ++ [])))))) ++ (silent (e / 2) ++ os)
+      ≡ silent (baudotPlace e 6) ++ os
   quiet-ahead os =
       let six : silent e ++ (silent e ++ (silent e ++ (silent e ++ (silent e ++ (silent e ++ []))))) ≡ silent (e * 6) =
       rw (
@@ -157,7 +165,8 @@ module _ (e : ℕ) (big : 2 ≤ e) where
       ∙ ap (λ (l : List Found). l ++ os) (replicate-append-replicate (e * 6) (e / 2) Nothing)
 
   pub reads-code : (k : ℕ) → k < 32
-      → Hears samples hunting (baudotSignal e k) (silent (baudotPlace e 6) ++ (Code (record { 0 = k }) ∷ silent (3 * e / 2 - e / 2 - 1))) hunting
+      → Hears samples hunting (baudotSignal e k)
+      (silent (baudotPlace e 6) ++ (Code (record { 0 = k }) ∷ silent (3 * e / 2 - e / 2 - 1))) hunting
   unfolding baudotSignal held digits baudotKinds
   reads-code k h =
       let w = digits-back k h in

@@ -72,7 +72,9 @@ five-bits s (c ∷ cs) t =
 
 -- a mode of Baudot, with what its codes are read as
 module _ (mode : Mode)
-    (code : (k : Keys) (s p c : ℕ) → c < 32 → Gives mode (reader hunting k s p) (signal mode c) (wordOf (eventOf (reads Baudot s c))) (reader hunting k (shiftBy s (reads Baudot s c)) p)) where
+    (code : (k : Keys) (s p c : ℕ) → c < 32
+    → Gives mode (reader hunting k s p) (signal mode c) (wordOf (eventOf (reads Baudot s c)))
+    (reader hunting k (shiftBy s (reads Baudot s c)) p)) where
   pub codes-read : (k : Keys) (s p : ℕ) (ks : List ℕ) → allAtMost 31 ks ≡ true
       → Gives mode (reader hunting k s p) (signals mode ks) (textOf s ks) (reader hunting k (shiftAfter s ks) p)
   unfolding signals textOf shiftAfter reads
@@ -81,16 +83,20 @@ module _ (mode : Mode)
       let l = at-most-head 31 c ks h in
       let w = baudot-word s c in
       let g = code k s p c (omega arith) in
-      let first : Gives mode (reader hunting k s p) (signal mode c) (charsOf (readBaudot s c)) (reader hunting k (shiftBy s (readBaudot s c)) p) = record { after = g .after; heard = g .heard ∙ w } in
+      let next = reader hunting k (shiftBy s (readBaudot s c)) p in
+      let first : Gives mode (reader hunting k s p) (signal mode c) (charsOf (readBaudot s c)) next =
+      record { after = g .after; heard = g .heard ∙ w } in
       chain mode first (codes-read k (shiftBy s (readBaudot s c)) p ks (at-most-tail 31 c ks h))
 
 pub code-45 : (k : Keys) (s p c : ℕ) → c < 32
-    → Gives Baudot45 (reader hunting k s p) (signal Baudot45 c) (wordOf (eventOf (reads Baudot s c))) (reader hunting k (shiftBy s (reads Baudot s c)) p)
+    → Gives Baudot45 (reader hunting k s p) (signal Baudot45 c) (wordOf (eventOf (reads Baudot s c)))
+    (reader hunting k (shiftBy s (reads Baudot s c)) p)
 unfolding hear signal samplesOf
 code-45 k s p c h = code-read Baudot45 tt k s p _ 143 21 c (reads-code 22 (omega arith) c h)
 
 pub code-50 : (k : Keys) (s p c : ℕ) → c < 32
-    → Gives Baudot50 (reader hunting k s p) (signal Baudot50 c) (wordOf (eventOf (reads Baudot s c))) (reader hunting k (shiftBy s (reads Baudot s c)) p)
+    → Gives Baudot50 (reader hunting k s p) (signal Baudot50 c) (wordOf (eventOf (reads Baudot s c)))
+    (reader hunting k (shiftBy s (reads Baudot s c)) p)
 unfolding hear signal samplesOf
 code-50 k s p c h = code-read Baudot50 tt k s p _ 130 19 c (reads-code 20 (omega arith) c h)
 

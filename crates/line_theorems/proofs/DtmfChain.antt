@@ -149,7 +149,9 @@ module _ (f : Frame) (s : ℕ) where
       let w : wordOf (keyEvent p k) ≡ [] = ap wordOf (mark-event p k t) in
       let q : reader f ready s (prefixAfter p k) ≡ reader f ready s (withMark p k) = ap (reader f ready s)
       (mark-prefix p k t) in
-      let first : Gives Dtmf (reader f ready s p) (replicate 70 k ++ replicate 50 0) [] (reader f ready s (withMark p k)) = record { after = g .after ∙ q; heard = g .heard ∙ w } in
+      let next = reader f ready s (withMark p k) in
+      let first : Gives Dtmf (reader f ready s p) (replicate 70 k ++ replicate 50 0) [] next =
+      record { after = g .after ∙ q; heard = g .heard ∙ w } in
       rw t
       (subst
       (λ (l : List ℕ).
@@ -222,7 +224,8 @@ row-code n (r ∷ rs) earlier t =
   where
     go : (b : Bool) → (isCode (keys (r .from)) && not (among (r .from) earlier)) ≡ b → (a : Bool)
         → eqb (codeOfKeys (keys (r .from))) n ≡ a
-        → isCharacter (readIn n (cond b (r ∷ notStruck (r .from ∷ earlier) rs) (notStruck (r .from ∷ earlier) rs))) ≡ true
+        → isCharacter (readIn n (cond b (r ∷ notStruck (r .from ∷ earlier) rs) (notStruck (r .from ∷ earlier) rs)))
+        ≡ true
         → (isCharacter (readIn n (notStruck (r .from ∷ earlier) rs)) ≡ true → RowCode n) → RowCode n
     go true e true f u i = record {
       row = keys (r .from);
@@ -284,8 +287,8 @@ shape-from (suc n) p (k ∷ (j ∷ js)) l h m t =
     go true u i = absurd (no-true u)
     go false u i =
         let e = and-left (isMark k) (marksThenDigit (j ∷ js)) u in
-        rw e
-        (i (with-mark-most n p k (omega arith) h (mark-bounds k e .1)) (and-right (isMark k) (marksThenDigit (j ∷ js)) u))
+        let d = and-right (isMark k) (marksThenDigit (j ∷ js)) u in
+        rw e (i (with-mark-most n p k (omega arith) h (mark-bounds k e .1)) d)
 
 row-shaped : (n : ℕ) → isCharacter (readDtmf n) ≡ true → Shape n
 unfolding readDtmf remaining most

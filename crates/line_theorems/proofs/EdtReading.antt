@@ -46,8 +46,8 @@ same-founds [] [] t = refl
 same-founds [] (g ∷ gs) t = absurd t
 same-founds (f ∷ fs) [] t = absurd t
 same-founds (f ∷ fs) (g ∷ gs) t =
-    let p : f ≡ g = sym (back f)
-    ∙ ap numbered (eqb→eq (number f) (number g) (both-left (eqb (number f) (number g)) (sameFounds fs gs) t)) ∙ back g in
+    let e = eqb→eq (number f) (number g) (both-left (eqb (number f) (number g)) (sameFounds fs gs) t) in
+    let p : f ≡ g = sym (back f) ∙ ap numbered e ∙ back g in
     let q = same-founds fs gs (both-right (eqb (number f) (number g)) (sameFounds fs gs) t) in
     λ i. p i ∷ q i
 

@@ -11,7 +11,8 @@ use Rattle.signal.specs.Signal.{edtElements, digits, sum}
 use Rattle.line_theorems.specs.Examples.{chars, examples, Hold}
 
 pub worked-examples : Hold examples
-unfolding chars examples wanted codesFor senderFor codesOf textOf sends sendBaudot readBaudot printedAt leftRows rightRows rows bits bitsFrom a1 a2 edtElements digits sum
+unfolding chars examples wanted codesFor senderFor codesOf textOf sends sendBaudot readBaudot
+    printedAt leftRows rightRows rows bits bitsFrom a1 a2 edtElements digits sum
 worked-examples = (
   (refl, refl),
   (

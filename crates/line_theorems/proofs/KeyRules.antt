@@ -94,7 +94,8 @@ stays-ready (suc n) = next (quiet-ends 0 0) (stays-ready n)
 
 -- a key of at least 40 ms with at least 40 quiet behind it counts once, at its 40th ms
 pub key-counts : (k on off : ℕ) → (k ≡ 0 → ⊥)
-    → KeysTake ready (replicate (40 + on) k ++ replicate (40 + off) 0) (replicate 39 0 ++ (k ∷ replicate (on + (40 + off)) 0)) ready
+    → KeysTake ready (replicate (40 + on) k ++ replicate (40 + off) 0)
+    (replicate 39 0 ++ (k ∷ replicate (on + (40 + off)) 0)) ready
 key-counts k on off z =
     let a = chain (too-short 38 k z (omega arith)) (next (fortieth k z) (still-held on k z)) in
     let b = chain (quiet-row 40 0) (stays-ready off) in
@@ -102,9 +103,10 @@ key-counts k on off z =
     let xs : replicate 39 k ++ (k ∷ replicate on k) ≡ replicate (40 + on) k = replicate-append-replicate 39 (suc on) k
     ∙ ap (λ (n : ℕ). replicate n k) one in
     let ys : replicate {A = ℕ} 40 0 ++ replicate off 0 ≡ replicate (40 + off) 0 = replicate-append-replicate 40 off 0 in
-    let zs : replicate {A = ℕ} on 0 ++ replicate (40 + off) 0 ≡ replicate (on + (40 + off)) 0 = replicate-append-replicate on
-    (40 + off) 0 in
-    let os : (replicate 39 0 ++ (k ∷ replicate on 0)) ++ (replicate 40 0 ++ replicate off 0) ≡ replicate 39 0 ++ (k ∷ replicate (on + (40 + off)) 0) =
+    let zs : replicate {A = ℕ} on 0 ++ replicate (40 + off) 0 ≡ replicate (on + (40 + off)) 0 =
+    replicate-append-replicate on (40 + off) 0 in
+    let os : (replicate 39 0 ++ (k ∷ replicate on 0)) ++ (replicate 40 0 ++ replicate off 0)
+    ≡ replicate 39 0 ++ (k ∷ replicate (on + (40 + off)) 0) =
     append-assoc (replicate 39 0) (k ∷ replicate on 0) (replicate 40 0 ++ replicate off 0)
     ∙ ap (λ (l : List ℕ). replicate 39 0 ++ (k ∷ l)) (ap (λ (l : List ℕ). replicate on 0 ++ l) ys ∙ zs) in
     subst (λ (l : List ℕ). KeysTake ready l (replicate 39 0 ++ (k ∷ replicate (on + (40 + off)) 0)) ready)

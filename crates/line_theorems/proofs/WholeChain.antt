@@ -1,5 +1,5 @@
--- The whole chain: preamble and codes of a text, heard by a reader that is between codes and in the sender's shift, give the
--- words of the text's normal form, in order.
+-- The whole chain: preamble and codes of a text, heard by a reader that is between codes and in the sender's shift,
+-- give the words of the text's normal form, in order.
 use mathlib.Core.Path.{_≡_, _∙_, refl, sym, ap, subst}
 use mathlib.Core.Bool.{true}
 use mathlib.Core.Logic.{_⊎_, inl, inr, ⊎-elim}
@@ -56,7 +56,8 @@ signals-append mode (k ∷ ks) js =
 
 -- own codes, one after the other, each read in its own shift
 module _ (mode : Mode) (a : Alphabet) (r : Reader)
-    (law : (w : ℕ) (k : LineCode) → ReadBack a w k → Gives mode r (signal mode (k .0)) (charsOf (reads a w (k .0))) r) where
+    (law : (w : ℕ) (k : LineCode) → ReadBack a w k
+    → Gives mode r (signal mode (k .0)) (charsOf (reads a w (k .0))) r) where
   own-code : (c : ℕ) → c < 128 → (x : Sends) → sends a c ≡ x
       → Gives mode r (signals mode (ownCode x)) (charsOf (readBack a x)) r
   unfolding signals
@@ -77,7 +78,8 @@ unfolding reads
 edt-code s w k b = code-edt ready s 0 (k .0) (b .code-in)
 
 dtmf-code : (s w : ℕ) (k : LineCode) → ReadBack dtmf w k
-    → Gives Dtmf (reader hunting ready s 0) (signal Dtmf (k .0)) (charsOf (reads dtmf w (k .0))) (reader hunting ready s 0)
+    → Gives Dtmf (reader hunting ready s 0) (signal Dtmf (k .0)) (charsOf (reads dtmf w (k .0)))
+    (reader hunting ready s 0)
 unfolding reads
 dtmf-code s w k b =
     let e = own-shift dtmf w k b in
@@ -95,11 +97,15 @@ stated : (mode : Mode) (s : Sender) (r : Reader) (cs ws : List ℕ) (t : ℕ) �
     → Chain mode s r cs
 stated mode s r cs ws t b e g =
     let p = between r b in
-    let q : readerAfter mode r (textSignal mode s cs) ≡ reader hunting ready t 0 = ap (λ (x : Reader). readerAfter mode x (textSignal mode s cs)) p
-    ∙ g .after in
+    let q : readerAfter mode r (textSignal mode s cs) ≡ reader hunting ready t 0 =
+    ap (λ (x : Reader). readerAfter mode x (textSignal mode s cs)) p ∙ g .after in
     record {
       words-are = ap (λ (x : Reader). words mode x (textSignal mode s cs)) p ∙ g .heard ∙ e;
-      between-after = record { frame-is = ap (λ (x : Reader). x .frame) q; keys-are = ap (λ (x : Reader). x .keys) q; prefix-is = ap (λ (x : Reader). x .prefix) q };
+      between-after = record {
+        frame-is = ap (λ (x : Reader). x .frame) q;
+        keys-are = ap (λ (x : Reader). x .keys) q;
+        prefix-is = ap (λ (x : Reader). x .prefix) q;
+      };
     }
 
 pub whole-chain : (mode : Mode) (s : Sender) (r : Reader) (cs : List ℕ) → allChars cs ≡ true → Between r

@@ -10,10 +10,24 @@ use Rattle.station_calls.proofs.fresh.Reads as fresh-reads
 use Rattle.station_calls.proofs.read_byte.Reads as read-byte-reads
 
 abbrev Inv-loop : tie.InvT-loop
-Inv-loop input chars₀ heard₀ text₀ x₀ i₀ chars heard text x i = (i ≤ length input) × (length heard ≡ length heard₀) × (length text ≡ length text₀)
+Inv-loop input chars₀ heard₀ text₀ x₀ i₀ chars heard text x i =
+    (i ≤ length input) × (length heard ≡ length heard₀) × (length text ≡ length text₀)
 
 abbrev μ-loop : tie.MeasureT-loop
 μ-loop input chars₀ heard₀ text₀ x₀ i₀ chars heard text x i = length input - i
+
+-- ---- the moments of the walk
+
+abbrev start-of : tie.At-loop Inv-loop μ-loop → tie.Start Inv-loop μ-loop
+start-of c = c .before .before .before .before .before .before
+
+abbrev turn-of : tie.After-read-byte Inv-loop μ-loop → tie.In-loop Inv-loop μ-loop
+turn-of c = c .before .before .before .before .before
+
+abbrev byte-of : tie.After-slice-known4 Inv-loop μ-loop → tie.After-read-byte Inv-loop μ-loop
+byte-of c = c .before .before .before .before
+
+-- ---- what each moment needs
 
 fresh-requires : tie.Need-fresh-requires Inv-loop μ-loop
 fresh-requires c κs = search needs
@@ -28,7 +42,7 @@ read-byte-requires : tie.Need-read-byte-requires Inv-loop μ-loop
 read-byte-requires c κs = search needs
 
 add-i : tie.Need-add-i Inv-loop μ-loop
-add-i c = omega (arith, c .before .before .before .before .before .before .before .before .before .loop-test .taken, c .before .before .before .before .before .before .before .before .before .before .before .before .before .before .before .before .good .0)
+add-i c = let t = turn-of (byte-of c) in omega (arith, t .loop-test .taken, start-of (t .before) .good .0)
 
 loop-less : tie.Need-loop-less Inv-loop μ-loop
 loop-less c = search needs
