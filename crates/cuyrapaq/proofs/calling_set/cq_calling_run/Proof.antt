@@ -177,7 +177,8 @@ module _ {M : Type 1} (𝓤 : URA M) (H : Heap 𝓤) (A : Atoms 𝓤) (W : Given
         (init ! 9 refl (LL.lawful T.the-type T′.the-laws 𝓤 H A W .typed h _ was .0)) $
         assigns ! (addr ! (from ! (fld ! refl (hop ! (look-in ! 13 (sub ! 0 refl (whole !))) (stop !)))))
         (from ! (stop !)) (init ! 7 refl (tt, tt)) $
-        assigns ! (agg ! (and-then ! (local-at ! 7 refl) (and-then ! (field-at ! 13 1 refl refl refl) (no-more !))))
+        assigns ! (agg ! (and-then ! (local-at ! 7 refl)
+        (and-then ! (field-at ! 13 1 refl (stop !) refl refl) (no-more !))))
         (from ! (stop !)) (init ! 5 refl (tt, (tt, (record { fits = gs .0 .1 .0 }, tt)))) $
         -- what the callee asks
         nothing ! $ move ! (22 ∷ 0 ∷ []) $ fjoin ! $ move ! (23 ∷ 0 ∷ []) $ fjoin ! $ move ! (2 ∷ 0 ∷ []) $ fjoin ! $
@@ -201,9 +202,9 @@ module _ {M : Type 1} (𝓤 : URA M) (H : Heap 𝓤) (A : Atoms 𝓤) (W : Given
         let parts = LL.owed R.the-type R′.the-laws r (v ∷ []) is in
         lands-struct ! 14 R.the-type R′.the-laws r is refl refl $
         -- the state is stored, the answer is the result, and the state is shut
-        assigns ! (of-opd ! (field-at ! 14 0 refl refl refl)) (from ! (hop ! (look ! 20 refl) (stop !)))
+        assigns ! (of-opd ! (field-at ! 14 0 refl (stop !) refl refl)) (from ! (hop ! (look ! 20 refl) (stop !)))
         (store-raw ! 4 refl (LL.lawful T.the-type T′.the-laws 𝓤 H A W .typed (r .state) _ (parts .0) .0)) $
-        assigns ! (of-opd ! (field-at ! 14 1 refl refl refl)) (from ! (stop !))
+        assigns ! (of-opd ! (field-at ! 14 1 refl (stop !) refl refl)) (from ! (stop !))
         (init ! 22 refl (tt, record { fits = parts .1 .0 .1 })) $
         drop ! $ owned ! T.the-row (Is T.the-row) ((LL.makes T.the-type T′.the-plain) 𝓤 H A) (r .state) _ (parts .0) $
         move ! (4 ∷ 0 ∷ 5 ∷ 6 ∷ 7 ∷ []) $ closes ! tt T.the-row (r .state) (vals (r .state)) b o $

@@ -168,9 +168,9 @@ module _ {M : Type 1} (𝓤 : URA M) (H : Heap 𝓤) (A : Atoms 𝓤) (W : Given
         lands-struct ! 9 R.the-type R′.the-laws r is refl refl $
         -- the core is stored, the answer is the result, and the station is shut
         stores-core ! 13 5 (r .core) (parts .0)
-        (field-at ! 9 0 {τs = tys} {τ = K′.mir} {d = 0} refl refl refl) refl refl refl $
-        assigns ! (of-opd ! (field-at ! 9 1 {τs = tys} {τ = tyInt w8} {d = 20} refl refl refl)) (from ! (stop !))
-        (init ! 15 refl (tt, record { fits = parts .1 .0 .1 })) $
+        (field-at ! 9 0 {τs = tys} {τ = K′.mir} {d = 0} refl (stop !) refl refl) refl refl refl $
+        assigns ! (of-opd ! (field-at ! 9 1 {τs = tys} {τ = tyInt w8} {d = 20} refl (stop !) refl refl))
+        (from ! (stop !)) (init ! 15 refl (tt, record { fits = parts .1 .0 .1 })) $
         move ! (1 ∷ 3 ∷ 5 ∷ 6 ∷ []) $ takes-back ! tt b o h (r .core) (zs .0) (parts .0) $
         -- [obs; the borrow; the token; the result; true; …; _4; …]
         returns ! (look ! 14 refl) $

@@ -221,11 +221,13 @@ module _ {M : Type 1} (𝓤 : URA M) (H : Heap 𝓤) (A : Atoms 𝓤) (W : Given
         -- the slices to be written are lent on
         assigns ! (addr ! (from ! (fld ! refl (hop ! (look-in ! 21 (sub ! 0 refl (whole !))) (stop !)))))
         (from ! (stop !)) (init ! 11 refl (tt, tt)) $
-        assigns ! (agg ! (and-then ! (local-at ! 11 refl) (and-then ! (field-at ! 21 1 refl refl refl) (no-more !))))
+        assigns ! (agg ! (and-then ! (local-at ! 11 refl)
+        (and-then ! (field-at ! 21 1 refl (stop !) refl refl) (no-more !))))
         (from ! (stop !)) (init ! 9 refl (tt, (tt, (record { fits = gs .0 .1 .0 }, tt)))) $
         assigns ! (addr ! (from ! (fld ! refl (hop ! (look-in ! 19 (sub ! 0 refl (whole !))) (stop !)))))
         (from ! (stop !)) (init ! 7 refl (tt, tt)) $
-        assigns ! (agg ! (and-then ! (local-at ! 7 refl) (and-then ! (field-at ! 19 1 refl refl refl) (no-more !))))
+        assigns ! (agg ! (and-then ! (local-at ! 7 refl)
+        (and-then ! (field-at ! 19 1 refl (stop !) refl refl) (no-more !))))
         (from ! (stop !)) (init ! 5 refl (tt, (tt, (record { fits = gw .0 .1 .0 }, tt)))) $
         -- what the callee asks
         nothing ! $ move ! (30 ∷ 0 ∷ []) $ fjoin ! $ move ! (31 ∷ 0 ∷ []) $ fjoin ! $ move ! (31 ∷ 0 ∷ []) $ fjoin ! $
@@ -259,9 +261,9 @@ module _ {M : Type 1} (𝓤 : URA M) (H : Heap 𝓤) (A : Atoms 𝓤) (W : Given
         lands-struct ! 19 R.the-type R′.the-laws r is refl refl $
         -- the core is stored, the answer and the count are the result, and the station is shut
         stores-core ! 29 7 (r .core) (parts .0)
-        (field-at ! 19 0 {τs = tys} {τ = K′.mir} {d = 0} refl refl refl) refl refl refl $
-        assigns ! (agg ! (and-then ! (field-at ! 19 1 {τs = tys} {τ = tyInt w8} {d = 20} refl refl refl)
-        (and-then ! (field-at ! 19 2 {τs = tys} {τ = tyInt w64} {d = 24} refl refl refl) (no-more !))))
+        (field-at ! 19 0 {τs = tys} {τ = K′.mir} {d = 0} refl (stop !) refl refl) refl refl refl $
+        assigns ! (agg ! (and-then ! (field-at ! 19 1 {τs = tys} {τ = tyInt w8} {d = 20} refl (stop !) refl refl)
+        (and-then ! (field-at ! 19 2 {τs = tys} {τ = tyInt w64} {d = 24} refl (stop !) refl refl) (no-more !))))
         (from ! (stop !))
         (init ! 31 refl (tt, (record { fits = parts .1 .0 .1 }, (record { fits = parts .1 .1 .0 .1 }, tt)))) $
         move ! (1 ∷ 6 ∷ 7 ∷ 8 ∷ []) $ takes-back ! tt b o h (r .core) (zs .1 .0) (parts .0) $
