@@ -1,5 +1,5 @@
--- Document 01, question 1, as far as it asks about what is on the line: a part; a code of the alphabet; a place in the part or
--- behind its last ms.
+-- Document 01, question 1, as far as it asks about what is on the line: a part; a code of the alphabet; a place in the
+-- part or behind its last ms.
 use mathlib.Core.Bool.{Bool, _&&_}
 use lib.Dec.{leb, ltb}
 use lib.ListN.{length}

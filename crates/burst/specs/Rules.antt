@@ -1,5 +1,5 @@
--- Document 01, "The station's turn" (here: half-duplex access): when a burst begins and ends, which code comes next, and when
--- the receiver is inhibited. The send model and the station both go by these.
+-- Document 01, "The station's turn" (here: half-duplex access): when a burst begins and ends, which code comes next,
+-- and when the receiver is inhibited. The send model and the station both go by these.
 use Prim.Native.Nat.{ℕ, _-_}
 use mathlib.Core.Bool.{Bool, cond, _&&_, _||_}
 use lib.Dec.{eqb, leb, ltb}
@@ -21,8 +21,8 @@ mayBegin waiting silence = ltb 0 waiting && leb freeMs silence
 unfoldable pub mayEnd : ℕ → Bool
 mayEnd waiting = eqb waiting 0
 
--- The shift code (document 01: case code) that the sending rule wants ahead of an own code, 0 for none, and the sender after an
--- own code. DTMF and EDT have no shifts.
+-- The shift code (document 01: case code) that the sending rule wants ahead of an own code, 0 for none, and the sender
+-- after an own code. DTMF and EDT have no shifts.
 abbrev pub shiftWanted : Alphabet → Sender → ℕ → ℕ
 shiftWanted Baudot s own = wanted s own
 shiftWanted Dtmf s own = 0

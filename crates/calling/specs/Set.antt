@@ -22,8 +22,8 @@ pause = 400
 unfoldable pub fresh : Calling
 fresh = calling none pause 0 0
 
--- Question 12, state in range: the choice and the tone are 0 to 11, the ms in a row 1 to 1,700 (the longest that a tone must
--- last), the place one of the timetable's.
+-- Question 12, state in range: the choice and the tone are 0 to 11, the ms in a row 1 to 1,700 (the longest that a tone
+-- must last), the place one of the timetable's.
 unfoldable pub inRange : Calling → Bool
 inRange s =
     leb (s .choice) lastTone && leb (s .tone) lastTone && leb 1 (s .ms) && leb (s .ms) longest && ltb (s .place) period
@@ -50,7 +50,8 @@ reached tone ms length = cond (ltb ms length) 0 tone
 abbrev pub chosen : ℕ → ℕ → ℕ
 chosen heard ms = cond (eqb heard none) 0 (reached heard ms (lengthOf heard))
 
--- One ms, by what is heard in it: what is sent, and the state after it. The choice is for good, and nothing is sent any more.
+-- One ms, by what is heard in it: what is sent, and the state after it. The choice is for good, and nothing is sent any
+-- more.
 unfoldable pub sentMs : Calling → ℕ → ℕ
 sentMs s heard = cond (eqb (s .choice) 0 && sends s heard) (valueAt (s .place)) nothing
 

@@ -28,7 +28,8 @@ hears s c = cond (eqb (answered s c) 0) (c .tones) []
 abbrev pub says : Calling → Call → List ℕ
 says s c = take (length (hears s c)) (sentAfter s (c .tones) (c .slice))
 
--- The state after a list of calls, each on the state that the last one left; what they hear and what they send, end to end.
+-- The state after a list of calls, each on the state that the last one left; what they hear and what they send, end to
+-- end.
 abbrev pub leftBy : Calling → List Call → Calling
 leftBy s cs = stateAfter left s cs
 

@@ -1,5 +1,6 @@
--- DEMAND 3, over whole lists of calls. Each line names the words of the demand (D3) or of document 01 (01) that it is. A rest is
--- called idle period here, the settling code synchronizing code, a station's book send model, a lead preamble, a case shift.
+-- DEMAND 3, over whole lists of calls. Each line names the words of the demand (D3) or of document 01 (01) that it is.
+-- A rest is called idle period here, the settling code synchronizing code, a station's book send model, a lead
+-- preamble, a case shift.
 use Prim.Native.Nat.{ℕ, _+_, _-_, _≤_, _<_}
 use mathlib.Core.Path.{_≡_}
 use mathlib.Core.Bool.{true}
@@ -14,10 +15,11 @@ use Rattle.demand3.specs.Model.{Step, Did, freshModel, modelAfter, does,
 use Rattle.demand3.specs.Reading.{synchronizedAfter, mostBefore, NoBurst, EndsIdle}
 use Rattle.demand3.specs.Calls.{Call, RunCall, opened, succeeds, leftBy, sentBy, wordsBy, stepsBy, upTo}
 
--- D3: "every list of offers and runs on station A and every such list on station B, refused calls among them", "whatever A
--- hears": any calls. 01: "One clock numbers the ms of both."
+-- D3: "every list of offers and runs on station A and every such list on station B, refused calls among them",
+-- "whatever A hears": any calls. 01: "One clock numbers the ms of both."
 pub record Lists : Type 0 where
-  -- D3: "both stations fresh and of one mode". The number that both openings are given; one that is no mode's opens mode 1.
+  -- D3: "both stations fresh and of one mode". The number that both openings are given; one that is no mode's opens
+  -- mode 1.
   pub mode : ℕ
   pub callsA : List Call
   pub callsB : List Call
@@ -61,8 +63,8 @@ wordsBefore d t = wordsBy (opened (d .mode)) (upTo (opened (d .mode)) (d .callsB
 abbrev pub between : {X : Type 0} → ℕ → ℕ → ℕ → List X → List X
 between first from to xs = take (to - from) (drop (from - first) xs)
 
--- D3: "The premises". 01: "Waiting, bursts and codes in demand 3 are the book's". No line says what B heard before the 40 ms, D3:
--- "however the line spoiled all that B heard".
+-- D3: "The premises". 01: "Waiting, bursts and codes in demand 3 are the book's". No line says what B heard before the
+-- 40 ms, D3: "however the line spoiled all that B heard".
 pub record Premises (d : Lists) : Type 0 where
   -- D3: "a rest of 300 ms on A's sending". 01: "300 ms in a row in which a station is in no burst".
   pub opened-A : d .openA ≤ d .start
@@ -96,13 +98,13 @@ pub record Premises (d : Lists) : Type 0 where
 abbrev pub followsA : Lists → List Did
 followsA d = between (d .openA) (d .start + 300) (d .asked + 1) (didsA d)
 
--- 01: "What comes after it comes after its last ms." How many of these ms there are up to the synchronizing code's last, "or so
--- far while no settling code has ended".
+-- 01: "What comes after it comes after its last ms." How many of these ms there are up to the synchronizing code's
+-- last, "or so far while no settling code has ended".
 abbrev pub synchronized : Lists → ℕ
 synchronized d = synchronizedAfter (theMode d) (followsA d)
 
--- D3: "the words of kind 0 for the normal form of the characters" that A's model has "by then taken after it, in the order
--- taken".
+-- D3: "the words of kind 0 for the normal form of the characters" that A's model has "by then taken after it, in the
+-- order taken".
 abbrev pub wordsDue : Lists → List ℕ
 wordsDue d = map characterWord (normalForm (theAlphabet d) (takenIn (drop (synchronized d) (followsA d))))
 
@@ -115,13 +117,15 @@ pub record Conclusion (d : Lists) : Type 0 where
   -- D3: "with no fault". Each of them is a character.
   pub no-fault : EndsIdle (followsA d) → allChars (wordsDue d) ≡ true
 
--- 01: "each sent ms is the line signal of the book's lead or code, and quiet outside a burst". For each station by itself.
+-- 01: "each sent ms is the line signal of the book's lead or code, and quiet outside a burst". For each station by
+-- itself.
 abbrev pub SendsAsModel : Type 0
 SendsAsModel = (mode : ℕ) (calls : List Call)
     → sentBy (opened mode) calls ≡ sentIn (does (modeOf mode) freshModel (stepsBy (opened mode) calls))
 
--- 01: a list's words are "the same if such a run is cut in two"; and so are its sent ms and the steps of its model. In place of a
--- run that succeeds after some calls: the run on its first ms, and the run on the others, with slices that are long enough.
+-- 01: a list's words are "the same if such a run is cut in two"; and so are its sent ms and the steps of its model. In
+-- place of a run that succeeds after some calls: the run on its first ms, and the run on the others, with slices that
+-- are long enough.
 pub record Same (cs ds : List Call) (mode : ℕ) : Type 0 where
   pub same-words : wordsBy (opened mode) cs ≡ wordsBy (opened mode) ds
   pub same-sent : sentBy (opened mode) cs ≡ sentBy (opened mode) ds

@@ -1,5 +1,5 @@
--- Document 01, "Demand 3 is a single claim": the send model (there: a station's book), ms by ms. It is kept from offers that
--- succeed and heard ms alone, and never looks at a station.
+-- Document 01, "Demand 3 is a single claim": the send model (there: a station's book), ms by ms. It is kept from offers
+-- that succeed and heard ms alone, and never looks at a station.
 use Prim.Native.Nat.{ℕ, suc}
 use mathlib.Core.Path.{_≡_}
 use mathlib.Core.Bool.{Bool, true, false, cond, _&&_}
@@ -27,8 +27,8 @@ pub data OnLine : Type 0 where
   Idle : OnLine
   Sending : Part → List ℕ → OnLine
 
--- The characters that wait, front first; what is on the line; the sender; the ms of silence in a row; the inhibited ms that
--- are still to come after a burst.
+-- The characters that wait, front first; what is on the line; the sender; the ms of silence in a row; the inhibited ms
+-- that are still to come after a burst.
 pub record Model : Type 0 where
   pub waiting : List ℕ
   pub onLine : OnLine
@@ -78,8 +78,8 @@ shiftBegins mode c cs s w = loaded (c ∷ cs) (Sending ShiftCode (signal mode (s
 abbrev pub ownBegins : Mode → ℕ → List ℕ → Sender → LineCode → Loaded
 ownBegins mode c cs s k = loaded cs (Sending OwnCode (signal mode (k .0))) (senderAfterOwn (alphabetOf mode) s) (c ∷ [])
 
--- The next code: a shift code where one is wanted ahead of the front character, else its own code. (A character that sends
--- nothing never waits.)
+-- The next code: a shift code where one is wanted ahead of the front character, else its own code. (A character that
+-- sends nothing never waits.)
 unfoldable pub codeBegins : Mode → ℕ → List ℕ → Sender → Sends → Loaded
 codeBegins mode c cs s Nothing = loaded cs (Sending OwnCode []) s (c ∷ [])
 codeBegins mode c cs s (Code own k) =
@@ -93,8 +93,8 @@ nextCode mode waiting (Sending part (x ∷ left)) s = loaded waiting (Sending pa
 nextCode mode [] (Sending part []) s = loaded [] (Sending part []) s []
 nextCode mode (c ∷ cs) (Sending part []) s = codeBegins mode c cs s (sends (alphabetOf mode) c)
 
--- A ms is told when a burst begins and ends: `begins`, one is to begin now if there is none; `ends`, this one is to end with
--- this code. Within each ms, sending is settled first.
+-- A ms is told when a burst begins and ends: `begins`, one is to begin now if there is none; `ends`, this one is to end
+-- with this code. Within each ms, sending is settled first.
 abbrev pub loadBy : Bool → Mode → Model → Loaded
 loadBy begins mode m = nextCode mode (m .waiting) (begun mode begins (m .onLine)) (m .sender)
 

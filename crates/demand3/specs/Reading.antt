@@ -1,5 +1,5 @@
--- Document 01, demand 3: the synchronizing code (there: the settling code) after an idle period (there: a rest), by what the send
--- model does.
+-- Document 01, demand 3: the synchronizing code (there: the settling code) after an idle period (there: a rest), by
+-- what the send model does.
 use Prim.Native.Nat.{ℕ, suc}
 use mathlib.Core.Path.{_≡_}
 use mathlib.Core.Bool.{Bool, true, false, cond}
@@ -10,7 +10,8 @@ use Rattle.alphabet.specs.declared.Mode.{Mode}
 use Rattle.alphabet.specs.Modes.{alphabetOf}
 use Rattle.demand3.specs.Model.{Part, Preamble, ShiftCode, OwnCode, Did}
 
--- It is the first shift code (Baudot); the first own code, which is the first digit with the quiet after its key (DTMF).
+-- It is the first shift code (Baudot); the first own code, which is the first digit with the quiet after its key
+-- (DTMF).
 unfoldable pub synchronizes : Alphabet → Part → Bool
 synchronizes Baudot Preamble = false
 synchronizes Baudot ShiftCode = true

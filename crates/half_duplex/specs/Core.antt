@@ -17,8 +17,8 @@ use Rattle.burst.specs.Line.{idle, inBurst, begun, nextCode, levelOn, oneGone, 
 use Rattle.half_duplex.specs.declared.Core.{Core}
 use Rattle.half_duplex.specs.declared.Stepped.{Stepped}
 
--- How many wait, the silence (in ms, up to 300), the inhibited ms to come, what is on the line, the sender, the reader, the
--- mode's number.
+-- How many wait, the silence (in ms, up to 300), the inhibited ms to come, what is on the line, the sender, the reader,
+-- the mode's number.
 abbrev pub core : ℕ → ℕ → ℕ → OnLine → Sender → Reader → ℕ → Core
 core waiting silence inhibitedMs line sender reader mode = record {
   waiting = waiting;
@@ -67,8 +67,8 @@ eventMs mode isInhibited r heard = cond isInhibited Nothing (hear mode r heard .
 abbrev pub modeIn : Core → Mode
 modeIn c = modeOf (c .mode)
 
--- A ms is told when a burst begins and ends: `begins`, one is to begin now if there is none; `ends`, this one is to end with
--- this code. Within each ms, sending is settled first.
+-- A ms is told when a burst begins and ends: `begins`, one is to begin now if there is none; `ends`, this one is to end
+-- with this code. Within each ms, sending is settled first.
 abbrev pub settledBy : Bool → Core → ℕ → Loaded
 settledBy begins c front = nextCode (modeIn c) (c .waiting) front (begun begins (c .line)) (c .sender)
 

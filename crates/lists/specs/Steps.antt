@@ -1,4 +1,5 @@
--- A machine that takes one input at a time, a ms or a call: its state after a list of them, and what each of them gives.
+-- A machine that takes one input at a time, a ms or a call: its state after a list of them, and what each of them
+-- gives.
 use mathlib.Core.List.{List, [], _∷_, _++_}
 
 unfoldable pub stateAfter : {S : Type 0} {I : Type 0} → (S → I → S) → S → List I → S

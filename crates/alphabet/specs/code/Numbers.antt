@@ -1,4 +1,5 @@
--- Numbers of a mode that the code holds as constants. Laws of `signal` and `frames` say that they are what the definitions give.
+-- Numbers of a mode that the code holds as constants. Laws of `signal` and `frames` say that they are what the
+-- definitions give.
 use Prim.Native.Nat.{ℕ}
 use Rattle.alphabet.specs.declared.Mode.{Mode}
 use Rattle.alphabet.specs.declared.Mode.the-variants.{Baudot45, Baudot50, Dtmf, Edt}

@@ -49,7 +49,8 @@ loadedCore c l = withSender (withLine (withWaiting c (waitingAfter (l .takes) (c
 
 -- After n inhibited ms, of which so many are still to come.
 abbrev pub deafCore : Core → ℕ → ℕ → Core
-deafCore c n left = withReader (withInhibited (withSilence c (silenceFor (c .silence) n)) left) (deafReader (c .reader) n)
+deafCore c n left =
+    withReader (withInhibited (withSilence c (silenceFor (c .silence) n)) left) (deafReader (c .reader) n)
 
 -- After n ms of a part; after n inhibited ms in no burst; after ms that the receiver hears.
 unfoldable pub sentFor : Core → ℕ → Core

@@ -27,7 +27,8 @@ KeyPasses heard k q = KeysPass heard (keysOf k) (k .to) (keysOf q) (q .to)
 -- The same in any list in which a level stands up to the end.
 abbrev pub HeldPasses : Keyed → ℕ → ℕ → Keyed → Type 0
 HeldPasses k level end q =
-    (heard : List ℕ) → allAtMost 16 heard ≡ true → end ≤ length heard → Through heard (k .to) end level end → KeyPasses heard k q
+    (heard : List ℕ) → allAtMost 16 heard ≡ true → end ≤ length heard → Through heard (k .to) end level end
+    → KeyPasses heard k q
 
 -- The ms in a row of a level, so far.
 abbrev pub rowOf : Keys → ℕ → ℕ
