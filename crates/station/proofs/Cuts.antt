@@ -7,7 +7,7 @@ use native.Mathlib.Omega.{arith}
 use lib.ListN.{length, length-append}
 use borrow.Author.Tests.{leb-true}
 use Rattle.lists.specs.Lists.{allAtMost}
-use Rattle.lists.specs.Steps.{stateAfter}
+use Rattle.lists.specs.Steps.{stateAfter, outputs}
 use Rattle.lists.proofs.Lists.{at-most-front, at-most-behind}
 use Rattle.lists.proofs.Steps.{after-append, outputs-append}
 use Rattle.alphabet.specs.declared.Mode.{Mode}
@@ -20,6 +20,20 @@ use Rattle.alphabet.specs.Modes.{highestLevel}
 use Rattle.station.specs.Entries.{runAnswer}
 use Rattle.station.proofs.Range.{after-in, runs}
 use Rattle.station.proofs.Answers.{run-0}
+
+-- no ms
+module _ (s : Station) where
+  pub after-none : stationAfter s [] ≡ s
+  unfolding stateAfter
+  after-none = refl
+
+  pub sent-none : sentBy s [] ≡ []
+  unfolding outputs
+  sent-none = refl
+
+  pub words-none : wordsBy s [] ≡ []
+  unfolding outputs wordsOf
+  words-none = refl
 
 pub record Cut (s : Station) (xs ys : List ℕ) : Type 0 where
   pub station : stationAfter s (xs ++ ys) ≡ stationAfter (stationAfter s xs) ys

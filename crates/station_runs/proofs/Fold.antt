@@ -20,26 +20,13 @@ use Rattle.station.specs.Station.{station, modeOfStation, stationAfter, sentBy,
 use Rattle.station.specs.Range.{inRange}
 use Rattle.alphabet.specs.Modes.{highestLevel}
 use Rattle.station.proofs.Range.{after-full, after-in}
-use Rattle.station.proofs.Cuts.{cut, mode-after}
+use Rattle.station.proofs.Cuts.{after-none, sent-none, words-none, cut, mode-after}
 use Rattle.station.proofs.Lengths.{sent-length, few-words}
 use Rattle.station.proofs.Takings.{taken-after}
-use Rattle.station_runs.specs.declared.Stretched.{Stretched}
-use Rattle.station_runs.specs.code.Stretches.{between, Stretches}
-use Rattle.station_runs.proofs.Laws.{at-most-take}
-use Rattle.station_runs.proofs.Joining.{between-length}
-
-module _ (s : Station) where
-  pub after-none : stationAfter s [] ≡ s
-  unfolding stateAfter
-  after-none = refl
-
-  pub sent-none : sentBy s [] ≡ []
-  unfolding outputs
-  sent-none = refl
-
-  pub words-none : wordsBy s [] ≡ []
-  unfolding outputs wordsOf
-  words-none = refl
+use Rattle.station_stretches.specs.declared.Stretched.{Stretched}
+use Rattle.station_stretches.specs.code.Stretches.{between, Stretches}
+use Rattle.station_stretches.proofs.Laws.{at-most-take}
+use Rattle.station_stretches.proofs.Joining.{between-length}
 
 -- the ms of a stretch, and then the others
 left-of : (heard : List ℕ) (i to : ℕ) → i ≤ to → drop i heard ≡ between i to heard ++ drop to heard

@@ -1,5 +1,1 @@
-pub mod Laws
-pub mod Joining
 pub mod Fold
-pub mod Coding
-pub mod Idle

@@ -1,5 +1,6 @@
 // The ms of a run, in stretches.
 use half_duplex::Core;
+use station_stretches::Stretched;
 ghost use mathlib.Core.Path.{_≡_};
 ghost use mathlib.Core.Bool.{true, _||_};
 ghost use Prim.Native.Nat.{_+_, _-_, _≤_, _<_};
@@ -13,21 +14,11 @@ ghost use Rattle.queue.specs.Queue.{movedBy};
 ghost use Rattle.station.specs.Station.{station, stationAfter, sentBy, wordsBy};
 ghost use Rattle.station.specs.Range.{inRange};
 ghost use Rattle.alphabet.specs.Modes.{highestLevel};
-ghost use Rattle.station_runs.specs.code.Stretches.{Stretches};
-
-pub mod bursts;
-pub mod stretches;
+ghost use Rattle.station_stretches.specs.code.Stretches.{Stretches};
 
 // A core after the ms of a run, and how many words were written.
 pub struct Ended {
     pub core: Core,
-    pub words: usize,
-}
-
-// A core after a stretch of a run, the place behind it, and the place behind its words.
-pub struct Stretched {
-    pub core: Core,
-    pub at: usize,
     pub words: usize,
 }
 
@@ -64,17 +55,17 @@ fn stretch(
     requires { ⌜ n + length (now heard) ≤ length (now words) + i ⌝ }
     ensures { λ x. ⌜ Stretches (now (heard .entry)) c (movedBy taken (now (chars .entry))) (now (sent .entry)) (now (words .entry)) i n x (now (sent .exit)) (now (words .exit)) ⌝ }
 {
-    if bursts::follows(c, heard.len() - i) {
-        return bursts::codes(c, chars, taken, heard, i, sent, n);
+    if burst_runs::follows(c, heard.len() - i) {
+        return burst_runs::codes(c, chars, taken, heard, i, sent, n);
     }
     if may_send(c) {
         let front = queue::front_after(chars, taken);
-        return stretches::begin(c, front, heard, i, sent, words, n);
+        return station_stretches::begin(c, front, heard, i, sent, words, n);
     }
     if c.inhibited != 0 {
-        return stretches::wait(c, heard, i, sent, n);
+        return station_stretches::wait(c, heard, i, sent, n);
     }
-    stretches::listen(c, heard, bound, i, sent, words, n)
+    station_stretches::listen(c, heard, bound, i, sent, words, n)
 }
 
 // How many characters are taken between two cores of a run: as many as fewer wait.
