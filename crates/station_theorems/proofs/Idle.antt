@@ -1,20 +1,17 @@
--- On a quiet line every station in range becomes idle: a number of ms that each ms lowers.
-use mathlib.Core.Path.{_≡_, _∙_, refl, sym, ap, subst}
-use mathlib.Core.Bool.{Bool, true, false, cond, not, _&&_, _||_, false≢true, or-true, and-false}
+-- On a quiet line every station in range becomes idle: each ms lowers a number of ms, until it is 0.
+use mathlib.Core.Path.{_≡_, refl, sym, subst}
+use mathlib.Core.Bool.{Bool, true, false, cond, not, _&&_, false≢true, or-true, and-false}
 use mathlib.Core.List.{List}
-use mathlib.Core.Logic.{⊎-elim}
 use Prim.Native.Nat.{ℕ, zero, suc, _+_, _-_, _*_, _<_, _≤_}
 use native.Mathlib.Nat.{suc-mul, mul-le-mul-right}
 use native.Mathlib.Numerals.{add-one}
 use native.Mathlib.Omega.{arith}
 use lib.Dec.{eqb, leb, ltb}
-use lib.ListN.{length, getD, replicate, length-replicate}
-use borrow.Author.Tests.{not-false, eqb-true, eqb-false, ne-eqb, eq-eqb, leb-true, leb-false, ltb-true, ltb-false, le-ltb, lt-ltb}
+use lib.ListN.{length, getD, length-replicate}
+use borrow.Author.Tests.{not-false, eqb-true, eqb-false, ne-eqb, leb-true, leb-false, ltb-true, ltb-false, lt-ltb}
 use Rattle.lists.specs.Steps.{stateAfter}
 use Rattle.lists.proofs.Lists.{either, either-by, by-test, and-left, and-right}
 use Rattle.alphabet.specs.declared.Alphabet.{Alphabet}
-use Rattle.alphabet.specs.declared.Alphabet.the-variants.{Baudot, Dtmf as dtmf, Edt as edt}
-use Rattle.alphabet.specs.declared.LineCode.{LineCode}
 use Rattle.alphabet.specs.declared.Mode.{Mode}
 use Rattle.alphabet.specs.declared.Mode.the-variants.{Baudot45, Baudot50, Dtmf, Edt}
 use Rattle.alphabet.specs.declared.Sends.{Sends}
@@ -24,141 +21,44 @@ use Rattle.alphabet.specs.Normal.{sends, isCode}
 use Rattle.alphabet.specs.code.Numbers.{longest}
 use Rattle.alphabet.proofs.Ranges.{few-codes}
 use Rattle.baudot.specs.declared.Sender.{Sender}
-use Rattle.baudot.specs.Sending.{Running, sender, wanted, counted, shiftCode, shifted}
+use Rattle.baudot.specs.Sending.{sender, shiftCode, shifted}
 use Rattle.baudot.specs.code.Bounds.{SenderIn}
-use Rattle.baudot.proofs.SendingRule.{NoneAhead, Ahead, ahead}
 use Rattle.signal.specs.Signal.{quiet, mark, signal}
 use Rattle.signal.proofs.Lengths.{within-longest}
 use Rattle.burst.specs.declared.OnLine.{OnLine}
 use Rattle.burst.specs.declared.Loaded.{Loaded}
 use Rattle.burst.specs.Rules.{freeMs, shiftWanted, senderAfterOwn, mayBegin, mayEnd, isInhibited, isSilent}
-use Rattle.burst.specs.Line.{onLine, further, idle, inBurst, partMs, isOver, begun, loaded, codeBegins, nextCode, oneGone, closed}
-use Rattle.burst.specs.code.Bounds.{LineIn, CodeIn, SendsIn}
+use Rattle.burst.specs.Line.{onLine, further, inBurst, partMs, isOver, begun, loaded, codeBegins, nextCode, oneGone, closed}
+use Rattle.burst.specs.code.Bounds.{LineIn, SendsIn}
 use Rattle.burst.proofs.Laws as line
 use Rattle.burst.proofs.Range.{LoadedIn, sends-in, begins-in, blank-in}
-use Rattle.half_duplex.specs.Core.{modeIn, settled, coreFrom, waitingAfter, silenceAfter}
+use Rattle.half_duplex.specs.Core.{settled, coreFrom, waitingAfter, silenceAfter}
 use Rattle.queue.specs.Queue.{waits}
 use Rattle.station.specs.declared.Station.{Station}
 use Rattle.station.specs.Station.{modeOfStation, alphabetOfStation, front, charsAfter, stationMs, stationAfter}
 use Rattle.station.specs.Range.{inRange}
 use Rattle.station.proofs.Range.{core-in, front-waits, char-in, ms-in, ms-full}
 use Rattle.station_theorems.specs.Idle.{isIdle, quietFor, idleWithin, BecomesIdle}
-
--- ---- the shift codes ahead of an own code
-
--- none if none is wanted; two from a fresh sender at most, else one
-abbrev shiftsLeft : Alphabet → Sender → ℕ → ℕ
-shiftsLeft a s own = cond (eqb (shiftWanted a s own) 0) 0 (cond (eqb (s .shift) 0) 2 1)
-
-module _ (a : Alphabet) (s : Sender) (own : ℕ) where
-  shifts-2 : shiftsLeft a s own ≤ 2
-  shifts-2 =
-      let P : ℕ → Type 0 = λ n. n ≤ 2 in
-      either P (eqb (shiftWanted a s own) 0) 0 _ (omega arith)
-      (either P (eqb (s .shift) 0) 2 1 (omega arith) (omega arith))
-
-  -- a sender that is not fresh needs one at most
-  shifts-1 : (s .shift ≡ 0 → ⊥) → shiftsLeft a s own ≤ 1
-  shifts-1 n =
-      let P : ℕ → Type 0 = λ k. k ≤ 1 in
-      rw (ne-eqb (s .shift) 0 n) (either P (eqb (shiftWanted a s own) 0) 0 1 (omega arith) (omega arith))
-
-fresh-wants : (s : Sender) (own : ℕ) → wanted s own ≡ 0 → s .shift ≡ 0 → ⊥
-unfolding wanted
-fresh-wants s own w z =
-    let e : _≡_ {A = ℕ} 1 0 = simp z at w in
-    omega arith
-
--- behind an own code one at most
-shifts-own : (a : Alphabet) (s : Sender) (own next : ℕ) → shiftWanted a s own ≡ 0
-    → shiftsLeft a (senderAfterOwn a s) next ≤ 1
-shifts-own Baudot s own next w = shifts-1 Baudot (counted s) next (fresh-wants s own w)
-shifts-own dtmf s own next w = omega arith
-shifts-own edt s own next w = omega arith
-
--- behind a shift code one fewer
-module _ (s : Sender) (own : ℕ) (lo : 1 ≤ own) (hi : own ≤ 3) (i : SenderIn s) where
-  abbrev w : ℕ
-  w = wanted s own
-
-  abbrev Fewer : ℕ → Type 0
-  Fewer n = shiftsLeft Baudot (sender w 0) own + 1 ≤ n
-
-  from-fresh : s .shift ≡ 0 → (w ≡ 0 → ⊥) → Fewer 2
-  from-fresh z n = let l = shifts-1 Baudot (sender w 0) own n in omega arith
-
-  from-running : (s .shift ≡ 0 → ⊥) → (w ≡ 0 → ⊥) → Fewer 1
-  from-running f n =
-      let sh = i .shift-in in
-      let low : 1 ≤ s .shift = omega (arith, f) in
-      let r : Running s = record { shift-low = low; shift-in = sh; count-in = i .count-in } in
-      ⊎-elim (λ (none : NoneAhead s own r lo hi). absurd (n (none .none)))
-      (λ (some : Ahead s own r lo hi w). rw (some .then-none) (omega arith))
-      (ahead s own r lo hi)
-
-  baudot-less : (w ≡ 0 → ⊥) → shiftsLeft Baudot (shifted s w) own + 1 ≤ shiftsLeft Baudot s own
-  baudot-less n =
-      rw (ne-eqb w 0 n)
-      (either-by Fewer (eqb (s .shift) 0)
-      (λ e. from-fresh (eqb-true (s .shift) 0 e) n)
-      (λ e. from-running (eqb-false (s .shift) 0 e) n))
-
-  shifts-less : (a : Alphabet) → (shiftWanted a s own ≡ 0 → ⊥)
-      → shiftsLeft a (shifted s (shiftWanted a s own)) own + 1 ≤ shiftsLeft a s own
-  shifts-less Baudot n = baudot-less n
-  shifts-less dtmf n = absurd (n refl)
-  shifts-less edt n = absurd (n refl)
-
--- ---- the codes that are left to send
-
-abbrev aheadOf : Alphabet → Sender → Sends → ℕ
-aheadOf a s Nothing = 0
-aheadOf a s (Code own k) = shiftsLeft a s own
-
--- at most so many, with the front character's: two for each, and one more from a fresh sender
-codesLeft : Alphabet → Sender → ℕ → Sends → ℕ
-codesLeft a s zero x = 0
-codesLeft a s (suc n) x = 2 * n + 1 + aheadOf a s x
-
-module _ (a : Alphabet) (s : Sender) where
-  codes-most : (n : ℕ) (x : Sends) → codesLeft a s n x ≤ 2 * n + 1
-  unfolding codesLeft
-  codes-most zero x = omega arith
-  codes-most (suc n) Nothing = omega arith
-  codes-most (suc n) (Code own k) = let h = shifts-2 a s own in omega arith
-
-  -- an own code is one of them, and so is a shift code
-  codes-own : (own n : ℕ) → shiftWanted a s own ≡ 0 → (x : Sends) → codesLeft a (senderAfterOwn a s) n x ≤ 2 * n
-  unfolding codesLeft
-  codes-own own zero w x = omega arith
-  codes-own own (suc n) w Nothing = omega arith
-  codes-own own (suc n) w (Code next k) = let h = shifts-own a s own next w in omega arith
-
-  codes-least : (n : ℕ) (x : Sends) → 1 ≤ n → 2 * (n - 1) + 1 ≤ codesLeft a s n x
-  unfolding codesLeft
-  codes-least zero x o = absurd (omega arith)
-  codes-least (suc n) x o = omega arith
-
-  codes-shift : (n : ℕ) (x : Sends) (t : Sender) → 1 ≤ n → aheadOf a t x + 1 ≤ aheadOf a s x
-      → codesLeft a t n x + 1 ≤ codesLeft a s n x
-  unfolding codesLeft
-  codes-shift zero x t o h = absurd (omega arith)
-  codes-shift (suc n) x t o h = omega arith
+use Rattle.station_theorems.proofs.CodesLeft.{codesLeft, aheadOf, shifts-less, codes-most, codes-own, codes-least, codes-shift}
 
 -- ---- the ms until a station is idle, at most
 
+-- the ms of the part that are left
 abbrev msLeft : Mode → OnLine → ℕ
 msLeft mode l = length (partMs mode l) - l .at
 
+-- in a burst: those, and the longest code for each that is left; one more, for a part that is over
 abbrev burstMs : Mode → OnLine → Sender → ℕ → Sends → ℕ
 burstMs mode l s n x = 1 + msLeft mode l + codesLeft (alphabetOf mode) s n x * longest mode
 
+-- in no burst: until the line is free, and then a whole burst; none if none waits
 abbrev idleMs : Mode → ℕ → ℕ → ℕ
 idleMs mode n silence = cond (eqb n 0) 0 (1 + (freeMs - silence) + preambleOf mode + (2 * n + 1) * longest mode)
 
 abbrev busyMs : Mode → OnLine → Sender → ℕ → ℕ → Sends → ℕ
 busyMs mode l s n silence x = cond (inBurst l) (burstMs mode l s n x) (idleMs mode n silence)
 
+-- one code fewer
 one-more : (m n k : ℕ) → m + 1 ≤ n → m * k + k ≤ n * k
 one-more m n k h =
     let e : (m + 1) * k ≡ m * k + k = rw (add-one m) (suc-mul m k) in
@@ -340,7 +240,8 @@ module _ (s : Station) (full : length (s .chars) ≡ 256) (i : inRange s ≡ tru
   abbrev From : OnLine → Type 0
   From k = Lower (nextCode mode n (front s) k (s .core .sender))
 
-  in-burst : (k : OnLine) → inBurst k ≡ true → LineIn mode k → burstMs mode k (s .core .sender) n fronts ≤ busyOf s → From k
+  in-burst : (k : OnLine) → inBurst k ≡ true → LineIn mode k
+      → burstMs mode k (s .core .sender) n fronts ≤ busyOf s → From k
   in-burst k b h most =
       let q = nextCode mode n (front s) k (s .core .sender) in
       let g = burst-lowers mode k (s .core .sender) n (front s) b h (core-in s i .sender-in) (front-waits s full i) in

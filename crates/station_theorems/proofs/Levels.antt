@@ -1,12 +1,12 @@
 -- Every sent ms is a value of the mode.
 use mathlib.Core.Path.{_≡_, refl}
 use mathlib.Core.Bool.{Bool, true, _&&_}
-use mathlib.Core.List.{List, [], _∷_, _++_}
-use Prim.Native.Nat.{ℕ, zero, suc, _+_, _*_, _/_, _%_, _≤_}
+use mathlib.Core.List.{List, [], _∷_}
+use Prim.Native.Nat.{ℕ, zero, suc, _*_, _/_, _%_, _≤_}
 use Prim.Native.String.{String}
 use native.Mathlib.Omega.{arith}
 use lib.Dec.{eqb}
-use lib.ListN.{length, getD, take, drop, replicate}
+use lib.ListN.{length, getD, drop, replicate}
 use lib.Seq.{take-at}
 use borrow.Author.Tests.{le-leb}
 use Rattle.lists.specs.Lists.{allAtMost}
@@ -17,16 +17,15 @@ use Rattle.lists.proofs.Steps.{outputs-length}
 use Rattle.alphabet.specs.declared.Mode.{Mode}
 use Rattle.alphabet.specs.declared.Mode.the-variants.{Baudot45, Baudot50, Dtmf, Edt}
 use Rattle.alphabet.specs.Modes.{highestLevel, preambleOf, elementOf}
-use Rattle.alphabet.specs.Print.{keyOf, keys}
+use Rattle.alphabet.specs.Print.{keys}
 use Rattle.alphabet.specs.Dtmf.{prefixes, keysOf}
 use Rattle.signal.specs.Signal.{quiet, mark, levelOf, digits, held, baudotSignal, edtElements, edtSignal, heldKeys, signal}
 use Rattle.burst.specs.declared.OnLine.{OnLine}
 use Rattle.burst.specs.Line.{inBurst, isCode, partMs, levelOn}
 use Rattle.half_duplex.specs.Core.{settled, coreFrom}
-use Rattle.station.specs.declared.Station.{Station}
 use Rattle.station.specs.Station.{modeOfStation, front, stationMs, sentMs, sentBy}
-use Rattle.station.specs.Entries.{runAnswer, sentAfter}
-use Rattle.station_theorems.specs.Output.{SentAreLevels, RunSentAreLevels}
+use Rattle.station.specs.Entries.{sentAfter}
+use Rattle.station_theorems.specs.Output.{highestSent, SentInMode, RunSentInMode}
 
 -- ---- what a code sounds like
 
@@ -125,17 +124,18 @@ unfolding levelOn
 level-in mode l = at-place (highestLevel mode) (partMs mode l) (l .at) (part-levels mode l)
 
 -- every sent ms is a value of the mode
-pub sent-are-levels : SentAreLevels
+pub sent-in-mode : SentInMode
 unfolding allAtMost outputs stationMs coreFrom sentMs
-sent-are-levels s [] = refl
-sent-are-levels s (x ∷ xs) =
-    let l = level-in (modeOfStation s) (settled (s .core) (front s) .line) in
-    both (le-leb _ (highestLevel (modeOfStation s)) l) (sent-are-levels (stationMs s x) xs)
+sent-in-mode s [] = refl
+sent-in-mode s (x ∷ xs) =
+    let l = settled (s .core) (front s) .line in
+    let h = level-in (modeOfStation s) l in
+    both (le-leb (levelOn (modeOfStation s) l) (highestSent s) (omega arith)) (sent-in-mode (stationMs s x) xs)
 
 -- and so is each that a run writes
-pub run-sent-are-levels : RunSentAreLevels
+pub run-sent-in-mode : RunSentInMode
 unfolding sentAfter
-run-sent-are-levels s heard wordRoom slice z =
+run-sent-in-mode s heard wordRoom slice z =
     let sent = sentBy s heard in
     let n = outputs-length stationMs sentMs s heard in
-    rw (z, take-at sent (drop (length sent) slice) (length heard) n) (sent-are-levels s heard)
+    rw (z, take-at sent (drop (length sent) slice) (length heard) n) (sent-in-mode s heard)

@@ -1,11 +1,11 @@
 -- Every output word is well formed, whatever is heard.
 use mathlib.Core.Path.{_≡_, refl}
-use mathlib.Core.Bool.{Bool, true, false, cond, _||_, _&&_}
+use mathlib.Core.Bool.{Bool, true, cond, _||_}
 use mathlib.Core.List.{List, [], _∷_, _++_}
 use Prim.Native.Nat.{ℕ, _<_, _≤_}
 use native.Mathlib.Omega.{arith}
 use lib.Dec.{T, eqb, ltb}
-use lib.ListN.{length, take, drop}
+use lib.ListN.{length, drop}
 use lib.Seq.{take-append-seam}
 use borrow.Author.Tests.{eqb-true, ltb-true, le-leb, lt-ltb}
 use Rattle.lists.specs.Steps.{outputs}
@@ -18,7 +18,7 @@ use Rattle.alphabet.specs.declared.Mode.{Mode}
 use Rattle.alphabet.specs.declared.Mode.the-variants.{Baudot45, Baudot50, Dtmf, Edt}
 use Rattle.alphabet.specs.declared.Reads.{Reads}
 use Rattle.alphabet.specs.declared.Reads.the-variants.{Character, Shift, NoRow}
-use Rattle.alphabet.specs.Modes.{alphabetOf, codes, frameCodes}
+use Rattle.alphabet.specs.Modes.{codes}
 use Rattle.alphabet.specs.Print.{leftRows, rightRows, bits, bitsFrom}
 use Rattle.alphabet.specs.TableA1.{a1}
 use Rattle.alphabet.specs.Baudot.{letters, figures, printedAt, readBaudot}
@@ -28,8 +28,8 @@ use Rattle.alphabet.proofs.Ranges.{charOrNone, dtmf-read}
 use Rattle.frames.specs.declared.Found.{Found}
 use Rattle.frames.specs.declared.Found.the-variants.{Nothing as nothing, Fault as fault, Code}
 use Rattle.frames.specs.Samples.{samplesOf}
-use Rattle.frames.specs.Frames.{hunting, frameStep}
-use Rattle.frames.specs.code.Bounds.{FrameOf, Framed, FoundIn}
+use Rattle.frames.specs.Frames.{frameStep}
+use Rattle.frames.specs.code.Bounds.{FrameOf, FoundIn}
 use Rattle.frames.proofs.Range.{found-in, next-in}
 use Rattle.reader.specs.declared.Event.{Event}
 use Rattle.reader.specs.declared.Event.the-variants.{Nothing, Fault}
@@ -37,14 +37,13 @@ use Rattle.reader.specs.declared.Reader.{Reader}
 use Rattle.reader.specs.Reader.{eventOf, foundEvent, keyEvent, hear, inhibited}
 use Rattle.reader.specs.Words.{wordOf, wordsOf}
 use Rattle.reader.proofs.Range.{fresh-in}
-use Rattle.half_duplex.specs.Core.{modeIn, settled, inhibitedIn, coreFrom}
+use Rattle.half_duplex.specs.Core.{inhibitedIn, coreFrom}
 use Rattle.station.specs.declared.Station.{Station}
 use Rattle.station.specs.Station as station
-use Rattle.station.specs.Station.{modeOfStation, front, stationMs, wordsBy, eventsBy}
-use Rattle.station.specs.Range.{inRange}
-use Rattle.station.specs.Entries.{StationRan, runAnswer, ranOf, wordsAfter, ran}
+use Rattle.station.specs.Station.{modeOfStation, front, stationMs, wordsBy}
+use Rattle.station.specs.Entries.{runAnswer, ranOf, wordsAfter}
 use Rattle.station.proofs.Range.{core-in, runs}
-use Rattle.station_theorems.specs.Output.{isWord, allWords, WordsAreWords, RunWordsAreWords}
+use Rattle.station_theorems.specs.Output.{highestChar, isWord, allWords, WordsWellFormed, RunWordsWellFormed}
 
 -- ---- what is read
 
@@ -62,8 +61,7 @@ event-good : (x : Reads) → fits x ≡ true → Good (eventOf x)
 unfolding allWords
 event-good (Character c) e =
     let h = ltb-true (c .0) 128 e in
-    let l : c .0 ≤ 127 = omega arith in
-    rw (le-leb (c .0) 0x7f l) refl
+    rw (le-leb (c .0) highestChar (omega arith)) refl
 event-good (Shift s) e = refl
 event-good NoRow e = refl
 
@@ -173,17 +171,17 @@ all-good (x ∷ xs) s h =
     words-append (wordOf (station.eventOf s x)) (wordsBy next xs) (ms-good s x h) (all-good xs next (ms-frame s x h))
 
 -- every output word of a station in range is well formed, whatever is heard
-pub words-are-words : WordsAreWords
-words-are-words s heard i = all-good heard s (core-in s i .reader-in .frame-in)
+pub words-well-formed : WordsWellFormed
+words-well-formed s heard i = all-good heard s (core-in s i .reader-in .frame-in)
 
 -- and so is every word that a run counts, of any station
-pub run-words-are-words : RunWordsAreWords
+pub run-words-well-formed : RunWordsWellFormed
 unfolding ranOf wordsAfter allWords
-run-words-are-words s heard sentRoom slice =
+run-words-well-formed s heard sentRoom slice =
     let answer = runAnswer s heard sentRoom (length slice) in
     let ws = wordsBy s heard in
     by-test (eqb answer 0)
     (λ e.
     let i = runs s heard sentRoom (length slice) (eqb-true answer 0 e) .in-range in
-    rw (e, take-append-seam ws (drop (length ws) slice)) (words-are-words s heard i))
+    rw (e, take-append-seam ws (drop (length ws) slice)) (words-well-formed s heard i))
     (λ e. rw e refl)

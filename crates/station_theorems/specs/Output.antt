@@ -14,33 +14,39 @@ use Rattle.station.specs.Station.{modeOfStation, sentBy, wordsBy}
 use Rattle.station.specs.Range.{inRange}
 use Rattle.station.specs.Entries.{runAnswer, ranOf, sentAfter, wordsAfter}
 
--- Kind 0 with a character in bits 6 to 0 and its other bits zero, or the fault's word.
+-- A character has bits 6 to 0.
+abbrev pub highestChar : ℕ
+highestChar = 0x7f
+
+-- A well-formed word is of kind 0, a character and its other bits zero, or it is the fault's word.
 abbrev pub isWord : ℕ → Bool
-isWord w = leb w 0x7f || eqb w faultWord
+isWord w = leb w highestChar || eqb w faultWord
 
 unfoldable pub allWords : List ℕ → Bool
 allWords [] = true
 allWords (w ∷ ws) = isWord w && allWords ws
 
--- For every station in range and every list of heard ms, each output word is one.
-abbrev pub WordsAreWords : Type 0
-WordsAreWords = (s : Station) (heard : List ℕ) → inRange s ≡ true → allWords (wordsBy s heard) ≡ true
+-- The values of the station's mode go up to this: 0 quiet, 1 mark, 2 space; in DTMF 0 quiet or a key, 1 to 16.
+abbrev pub highestSent : Station → ℕ
+highestSent s = highestLevel (modeOfStation s)
 
--- For every station and every list of heard ms, each sent ms is 0 quiet, 1 mark or 2 space; in DTMF 0 quiet or a key, 1
--- to 16.
-abbrev pub SentAreLevels : Type 0
-SentAreLevels =
-    (s : Station) (heard : List ℕ) → allAtMost (highestLevel (modeOfStation s)) (sentBy s heard) ≡ true
+-- For every station in range and every list of heard ms, each output word is well formed.
+abbrev pub WordsWellFormed : Type 0
+WordsWellFormed = (s : Station) (heard : List ℕ) → inRange s ≡ true → allWords (wordsBy s heard) ≡ true
 
--- A run of any station on any slices: the words that it counts stand in front in the word slice, each a word.
-abbrev pub RunWordsAreWords : Type 0
-RunWordsAreWords =
+-- For every station and every list of heard ms, each sent ms is a value of the mode.
+abbrev pub SentInMode : Type 0
+SentInMode = (s : Station) (heard : List ℕ) → allAtMost (highestSent s) (sentBy s heard) ≡ true
+
+-- A run of any station on any slices: the words that it counts, in front in the word slice, are well formed.
+abbrev pub RunWordsWellFormed : Type 0
+RunWordsWellFormed =
     (s : Station) (heard : List ℕ) (sentRoom : ℕ) (slice : List ℕ)
     → allWords (take (ranOf s heard sentRoom (length slice) .words) (wordsAfter s heard sentRoom slice)) ≡ true
 
--- A run that succeeds: as many ms as were heard stand in front in the sent slice, each a value of the mode.
-abbrev pub RunSentAreLevels : Type 0
-RunSentAreLevels =
+-- A run that succeeds: as many ms as were heard, in front in the sent slice, are values of the mode.
+abbrev pub RunSentInMode : Type 0
+RunSentInMode =
     (s : Station) (heard : List ℕ) (wordRoom : ℕ) (slice : List ℕ)
     → runAnswer s heard (length slice) wordRoom ≡ 0
-    → allAtMost (highestLevel (modeOfStation s)) (take (length heard) (sentAfter s heard wordRoom slice)) ≡ true
+    → allAtMost (highestSent s) (take (length heard) (sentAfter s heard wordRoom slice)) ≡ true
