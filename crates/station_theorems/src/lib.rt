@@ -1,1 +1,1 @@
-// What every station in range sends, reads and comes to, whatever it hears: theorems. No function.
+// Theorems on every station in range: its output words, what it sends, and that it becomes idle. No function.
