@@ -89,7 +89,7 @@ dtmf-fits n = go (readDtmf n) (dtmf-read n)
     go (Shift s) t = refl
     go NoRow t = refl
 
--- of a code with so many digits
+-- what a code of the alphabet reads as
 reads-fits : (a : Alphabet) (shift n : ℕ) → n < codes a → fits (reads a shift n) ≡ true
 unfolding reads
 reads-fits Baudot shift n h = baudot-fits shift n h
@@ -136,21 +136,22 @@ module _ (r : Reader) (x : ℕ) where
 
 -- ---- the ms of a station
 
+-- the frame of its reader is in range
 abbrev Framing : Station → Type 0
 Framing s = FrameOf (modeOfStation s) (s .core .reader .frame)
 
 module _ (s : Station) (x : ℕ) (h : Framing s) where
-  mode : Mode
+  abbrev mode : Mode
   mode = modeOfStation s
 
   ms-good : Good (station.eventOf s x)
-  unfolding allWords station.eventOf mode
+  unfolding allWords station.eventOf
   ms-good =
       let r = s .core .reader in
       either Good (inhibitedIn (s .core) (front s)) Nothing (hear mode r x .event) refl (hear-good r x mode h)
 
   ms-frame : Framing (stationMs s x)
-  unfolding stationMs coreFrom inhibited mode
+  unfolding stationMs coreFrom inhibited
   ms-frame =
       let r = s .core .reader in
       either (λ (q : Reader). FrameOf mode (q .frame)) (inhibitedIn (s .core) (front s))
