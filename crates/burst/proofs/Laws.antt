@@ -20,7 +20,7 @@ use Rattle.baudot.specs.declared.Sender.{Sender}
 use Rattle.baudot.specs.Sending.{sender, shiftCode}
 use Rattle.burst.specs.declared.OnLine.{OnLine}
 use Rattle.burst.specs.Rules.{shiftWanted, senderAfterOwn}
-use Rattle.burst.specs.Line.{onLine, further, idle, isCode, partMs, isOver, loaded, codeBegins, nextCode, levelOn, oneGone, closed}
+use Rattle.burst.specs.Line.{onLine, further, idle, partMs, isOver, loaded, codeBegins, nextCode, levelOn, oneGone, closed}
 
 -- behind the end of a list
 getD-over : (l : List ℕ) (n : ℕ) → length l ≤ n → getD l n 0 ≡ 0
@@ -115,6 +115,6 @@ module _ (mode : Mode) (l : OnLine) where
   unfolding closed
   stays-left ends e = rw e refl
 
-  pub ends-over : isOver mode l ≡ true → isCode l ≡ true → closed mode true l ≡ idle
+  pub ends-over : isOver mode l ≡ true → closed mode true l ≡ idle
   unfolding closed
-  ends-over e f = rw (e, f) refl
+  ends-over e = rw e refl

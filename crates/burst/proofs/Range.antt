@@ -20,7 +20,7 @@ use Rattle.baudot.specs.Sending.{sender, differs, wanted, shiftCode, shifted}
 use Rattle.burst.specs.declared.OnLine.{OnLine}
 use Rattle.burst.specs.declared.Loaded.{Loaded}
 use Rattle.burst.specs.Rules.{shiftWanted, senderAfterOwn}
-use Rattle.burst.specs.Line.{onLine, further, idle, inBurst, isCode, partMs, isOver, begun, loaded, codeBegins, nextCode, oneGone, closed}
+use Rattle.burst.specs.Line.{onLine, further, idle, inBurst, partMs, isOver, begun, loaded, codeBegins, nextCode, oneGone, closed}
 use Rattle.burst.specs.Range.{lineIn}
 use Rattle.baudot.specs.code.Bounds.{SenderIn}
 use Rattle.burst.specs.code.Bounds.{LineIn, SendsIn}
@@ -181,7 +181,7 @@ gone-in mode l i = go (ltb (l .at) (length (partMs mode l))) refl
 pub closed-in : (mode : Mode) (ends : Bool) (l : OnLine) → LineIn mode l → LineIn mode (closed mode ends l)
 unfolding closed
 closed-in mode ends l i =
-    either (LineIn mode) (isOver mode l && (isCode l && ends)) idle l (blank-in mode 0 (omega arith)) i
+    either (LineIn mode) (isOver mode l && ends) idle l (blank-in mode 0 (omega arith)) i
 
 -- one that is taken waits
 pub next-takes : (mode : Mode) (waiting front : ℕ) (l : OnLine) (s : Sender)

@@ -73,9 +73,11 @@ levelOn mode l = getD (partMs mode l) (l .at) quiet
 unfoldable pub oneGone : Mode → OnLine → OnLine
 oneGone mode l = cond (ltb (l .at) (length (partMs mode l))) (further l 1) l
 
--- If the last ms of a code has come (the preamble is none), the burst ends with that ms where it is to end.
+-- If the last ms of a part has come, the burst ends with that ms where it is to end. The part is a code: a burst begins
+-- only with characters waiting, and its preamble takes none. In numbers that no list of calls gives, a preamble with none
+-- waiting ends the burst too.
 abbrev pub ended : Bool → Bool → OnLine → OnLine
-ended over ends l = cond (over && (isCode l && ends)) idle l
+ended over ends l = cond (over && ends) idle l
 
 unfoldable pub closed : Mode → Bool → OnLine → OnLine
 closed mode ends l = ended (isOver mode l) ends l

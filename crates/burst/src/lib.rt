@@ -217,14 +217,11 @@ fn one_gone(mode: Mode, l: OnLine) -> OnLine
     OnLine { at: l.at + 1, ..l }
 }
 
-// With no ms of a code left, the burst ends where it is to end.
+// With no ms of a part left, the burst ends where it is to end.
 pub fn ended(over: bool, ends: bool, l: OnLine) -> OnLine
     ensures { λ r. ⌜ r ≡ ended over ends l ⌝ }
 {
     if !over {
-        return l;
-    }
-    if l.part != CODE {
         return l;
     }
     if !ends {
@@ -233,7 +230,7 @@ pub fn ended(over: bool, ends: bool, l: OnLine) -> OnLine
     idle()
 }
 
-// What is on the line after a ms: if the last ms of a code has come, the burst ends where it is to end.
+// What is on the line after a ms: if the last ms of a part has come, the burst ends where it is to end.
 pub fn line_after(mode: Mode, ends: bool, l: OnLine) -> OnLine
     requires { ⌜ LineIn mode l ⌝ }
     ensures { λ r. ⌜ r ≡ closed mode ends (oneGone mode l) ⌝ }

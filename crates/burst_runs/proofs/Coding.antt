@@ -401,7 +401,7 @@ module _ (heard chars sent₀ : List ℕ) (c : Core) (i : ℕ) (within : i ≤ l
         not-ended : (taken' : ℕ) → taken' < c .waiting → ended true (mayEnd (c .waiting - taken')) whole ≡ whole
         unfolding mayEnd
         not-ended taken' x =
-            rw (ne-eqb (c .waiting - taken') 0 (λ (z : c .waiting - taken' ≡ 0). omega arith), and-false) refl
+            rw (ne-eqb (c .waiting - taken') 0 (λ (z : c .waiting - taken' ≡ 0). omega arith)) refl
 
         pub coded-turn : (taken' : ℕ) → taken' ≡ cond (q .takes) (taken + 1) taken
             → (line' : OnLine)

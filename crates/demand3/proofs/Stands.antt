@@ -23,7 +23,7 @@ use Rattle.burst.specs.declared.Loaded.{Loaded as LoadedLine}
 use Rattle.burst.specs.Rules.{shiftWanted, senderAfterOwn}
 use Rattle.burst.specs.Line as line
 use Rattle.burst.specs.Line.{onLine, idle, partMs}
-use Rattle.demand3.specs.Model.{Part, Preamble, ShiftCode, OwnCode, OnLine, Idle, Sending, Loaded, isCodePart}
+use Rattle.demand3.specs.Model.{Part, Preamble, ShiftCode, OwnCode, OnLine, Idle, Sending, Loaded}
 use Rattle.demand3.specs.Model.{begun, loaded, ownBegins, shiftBegins, codeBegins, nextCode, levelOn, inBurst}
 use Rattle.demand3.specs.Model.{oneGone, closed}
 
@@ -37,11 +37,6 @@ no-burst : {part : Part} {n : ℕ} → PartNo part n → not (eqb n 0) ≡ true
 no-burst preamble-1 = refl
 no-burst shift-2 = refl
 no-burst own-2 = refl
-
-no-code : {part : Part} {n : ℕ} → PartNo part n → eqb n 2 ≡ isCodePart part
-no-code preamble-1 = refl
-no-code shift-2 = refl
-no-code own-2 = refl
 
 -- the numbers stand for what the model has on the line
 pub data Stands (mode : Mode) : Line → OnLine → Type 0 where
@@ -98,7 +93,7 @@ module _ (mode : Mode) where
   stays-closed ends part ms at h = rw (drop-cons ms at 0 h) refl
 
   over-closed : (ends : Bool) (part : Part) (ms : List ℕ) (at : ℕ) → length ms ≤ at
-      → closed ends (Sending part (drop at ms)) ≡ cond (isCodePart part && ends) Idle (Sending part (drop at ms))
+      → closed ends (Sending part (drop at ms)) ≡ cond ends Idle (Sending part (drop at ms))
   unfolding closed
   over-closed ends part ms at h = rw (drop-of-length-le ms h) refl
 
@@ -107,12 +102,12 @@ module _ (mode : Mode) where
   unfolding line.closed line.isOver closed
   closed-stands ends rests = rests
   closed-stands ends (sending {part} {n} p code at) =
-      rw (no-burst p, no-code p) (go (leb (length ms) at) refl (isCodePart part && ends) refl)
+      rw (no-burst p) (go (leb (length ms) at) refl ends refl)
     where
       ms : List ℕ
       ms = partMs mode (onLine n code at)
 
-      go : (b : Bool) → leb (length ms) at ≡ b → (c : Bool) → isCodePart part && ends ≡ c
+      go : (b : Bool) → leb (length ms) at ≡ b → (c : Bool) → ends ≡ c
           → Stands mode (cond (b && c) idle (onLine n code at)) (closed ends (Sending part (drop at ms)))
       go true e true f = rw (over-closed ends part ms at (leb-true (length ms) at e), f) rests
       go true e false f = rw (over-closed ends part ms at (leb-true (length ms) at e), f) (sending p code at)

@@ -1,7 +1,7 @@
 -- What a ms of a model that is told can begin with and end in: views that every proof over it goes by. In them it is
 -- left open when a burst begins and ends.
 use mathlib.Core.Path.{_≡_, refl, sym, subst}
-use mathlib.Core.Bool.{Bool, true, false, cond, _&&_, true≢false}
+use mathlib.Core.Bool.{Bool, true, false, cond, true≢false}
 use mathlib.Core.List.{List, [], _∷_, _++_}
 use Prim.Native.Nat.{ℕ}
 use native.Mathlib.Omega.{arith}
@@ -20,7 +20,7 @@ use Rattle.burst.specs.Rules.{shiftWanted}
 use Rattle.queue.specs.Queue.{waits, waiters, allWait}
 use Rattle.queue.proofs.Laws.{waiters-wait}
 use Rattle.demand3.specs.Model.{Part, Preamble, OnLine, Idle, Sending, Model, Loaded}
-use Rattle.demand3.specs.Model.{isCodePart, begun, loaded, shiftBegins, ownBegins, codeBegins, nextCode, closed}
+use Rattle.demand3.specs.Model.{begun, loaded, shiftBegins, ownBegins, codeBegins, nextCode, closed}
 use Rattle.demand3.specs.Model.{offered, loadBy}
 use Rattle.demand3.proofs.Told.{Told, offer, ms, msBy, toldAfter}
 use Rattle.demand3.proofs.Laws.{Waits, SenderIn, LawsOf}
@@ -88,7 +88,7 @@ pub closed-view : (ends : Bool) (on : OnLine) → Closes on (closed ends on)
 unfolding closed
 closed-view ends Idle = keeps
 closed-view ends (Sending part (x ∷ xs)) = keeps
-closed-view ends (Sending part []) = go (isCodePart part && ends)
+closed-view ends (Sending part []) = go ends
   where
     go : (b : Bool) → Closes (Sending part []) (cond b Idle (Sending part []))
     go true = closes

@@ -2,7 +2,7 @@
 -- that succeed and heard ms alone, and never looks at a station.
 use Prim.Native.Nat.{ℕ, suc}
 use mathlib.Core.Path.{_≡_}
-use mathlib.Core.Bool.{Bool, true, false, cond, _&&_}
+use mathlib.Core.Bool.{Bool, true, false, cond}
 use mathlib.Core.List.{List, [], _∷_, _++_, map}
 use lib.Dec.{eqb}
 use lib.ListN.{length}
@@ -49,12 +49,6 @@ offered mode cs m = record {
   silence = m .silence;
   inhibitedMs = m .inhibitedMs;
 }
-
--- The preamble is no code.
-abbrev pub isCodePart : Part → Bool
-isCodePart Preamble = false
-isCodePart ShiftCode = true
-isCodePart OwnCode = true
 
 -- In no burst, one begins with its preamble where it is to begin.
 unfoldable pub begun : Mode → Bool → OnLine → OnLine
@@ -120,10 +114,11 @@ ended Idle = []
 ended (Sending part []) = part ∷ []
 ended (Sending part (x ∷ left)) = []
 
--- If a code's last ms has come (the preamble is none), the burst ends with that ms where it is to end.
+-- If a code's last ms has come, the burst ends with that ms where it is to end. (After a preamble characters wait, so
+-- that it is not to end: `preamble-waits` in proofs/Opening.antt.)
 unfoldable pub closed : Bool → OnLine → OnLine
 closed ends Idle = Idle
-closed ends (Sending part []) = cond (isCodePart part && ends) Idle (Sending part [])
+closed ends (Sending part []) = cond ends Idle (Sending part [])
 closed ends (Sending part (x ∷ left)) = Sending part (x ∷ left)
 
 -- Then silence grows by that ms if it was heard as 0 or is inhibited; otherwise it is 0 again.
