@@ -522,11 +522,9 @@ mod tests {
 
     #[test]
     fn definitions_are_read() {
-        let source = "-- a comment\na2 =\n    line \"1\" \"\\\\ >> /\" \"2\" \"3\" \"\\\"\" \"4\" ∷\n    []\n";
-        assert_eq!(
-            definition(source).unwrap(),
-            [["1", "\\ >> /", "2", "3", "\"", "4"].map(str::to_string)]
-        );
+        let source = r#"    line "1" "\\ >> /" "2" "3" "\"" "4" ∷"#;
+        let line = ["1", "\\ >> /", "2", "3", "\"", "4"].map(str::to_string);
+        assert_eq!(definition(&format!("-- a comment\na2 =\n{source}\n    []\n")), Ok(vec![line]));
         assert!(definition("line \"1\" \"2\"").is_err());
     }
 }

@@ -175,8 +175,11 @@ impl Conversions for Engine {
         if runs == [(QUIET, MOST_MS)] {
             return NONE.to_string();
         }
-        let good = |pair: &[(u8, usize)]| matches!(*pair, [(1..=16, KEY_LENGTH), (QUIET, quiet)] if quiet >= KEY_GAP);
-        if !runs.chunks(2).all(good) {
+        let is_key = |pair: &[(u8, usize)]| match *pair {
+            [(level, KEY_LENGTH), (QUIET, quiet)] => level != QUIET && quiet >= KEY_GAP,
+            _ => false,
+        };
+        if !runs.chunks(2).all(is_key) {
             return odd(runs);
         }
         runs.chunks(2).map(|pair| char::from(KEYS.as_bytes()[usize::from(pair[0].0) - 1])).collect()
