@@ -125,8 +125,8 @@ fn holds(column: Column, last: bool, cell: &str) -> bool {
             parts.iter().map(|part| part.len()).eq([3, 4]) && parts.into_iter().all(bits)
         }
         Column::Keys => {
-            let marks = cell.trim_start_matches(['*', '#']);
-            cell.len() <= 5 && marks.len() == 1 && marks.as_bytes()[0].is_ascii_digit()
+            let digit = cell.trim_start_matches(['*', '#']);
+            cell.len() <= 5 && digit.len() == 1 && digit.as_bytes()[0].is_ascii_digit()
         }
         Column::Sign => {
             let (first, second) = cell.split_once(" >> ").unwrap_or((cell, cell));
