@@ -1,4 +1,4 @@
-//! Tells the linker where the engine's static library is. Only `differential` and `bench` link it.
+//! Tells the linker where the engine's static library is. `differential`, `bench` and `print` link it.
 
 fn main() {
     println!("cargo:rerun-if-changed=build.rs");

@@ -122,11 +122,19 @@ pub struct State {
     pub choice: u8,
 }
 
+/// The most ms in a row that a rule of document 01 asks for: of a tone, or of none.
+pub fn most_in_a_row() -> u64 {
+    (1..=LAST_TONE).map(length).fold(SILENCE, u64::max)
+}
+
 impl State {
-    /// The published ranges.
+    /// Question 12. What each number stands for is the header's; how far it goes follows from document
+    /// 01, "The calling set (5.1)": what is heard, and the choice among it, is 0 to 11; the place is
+    /// one of the period's ms; ms in a row are at least the one heard last, and are counted no further
+    /// than a rule asks for.
     pub fn in_range(self) -> bool {
         self.tone <= LAST_TONE
-            && (1..=1700).contains(&self.ms)
+            && (1..=most_in_a_row()).contains(&u64::from(self.ms))
             && usize::from(self.place) < PERIOD
             && self.choice <= LAST_TONE
     }

@@ -3,12 +3,15 @@
 
 use crate::engine;
 use reference::answer::{CALLING_STATE, DURATION, SENT_SLICE, SUCCESS, TONE};
-use reference::calling::{length, Set, State, LAST_TONE, MOST, NONE};
+use reference::calling::{length, most_in_a_row, Set, State, LAST_TONE, MOST, NONE, PERIOD};
 use reference::random::Random;
 use std::process::exit;
 
 /// Bytes kept around the sent slice, to see writes outside it; no sent ms has such a value.
 const MARGIN: usize = 16;
+
+/// Numbers of no tone.
+const NO_TONES: [u8; 3] = [LAST_TONE + 1, LAST_TONE + 2, u8::MAX];
 
 /// What the sessions have met.
 #[derive(Default)]
@@ -119,10 +122,10 @@ impl Session {
         let state = self.engine;
         if reasons & 1 != 0 {
             match random.below(5) {
-                0 => self.engine.tone = random.pick(&[12, 13, 255]),
-                1 => self.engine.ms = random.pick(&[0, 1701, 65_535]),
-                2 => self.engine.place = random.pick(&[11_200, 11_201, 65_535]),
-                3 => self.engine.choice = random.pick(&[12, 13, 255]),
+                0 => self.engine.tone = random.pick(&NO_TONES),
+                1 => self.engine.ms = random.pick(&[0, most_in_a_row() as u16 + 1, u16::MAX]),
+                2 => self.engine.place = random.pick(&[PERIOD as u16, PERIOD as u16 + 1, u16::MAX]),
+                3 => self.engine.choice = random.pick(&NO_TONES),
                 _ => self.engine = State { tone: 0, ms: 0, place: 0, choice: 0 },
             }
         }
@@ -131,7 +134,7 @@ impl Session {
         }
         if reasons & 4 != 0 {
             let place = random.below(tones.len() + 1);
-            tones.insert(place, random.pick(&[12, 13, 255]));
+            tones.insert(place, random.pick(&NO_TONES));
         }
         let space = match tones.len() {
             0 => 0,

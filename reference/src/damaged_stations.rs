@@ -1,16 +1,35 @@
 //! Question 1 asked of the engine: stations whose numbers are at the ends of their ranges and just
-//! beyond, and random ones that no list of calls leads to. Part of `differential`.
+//! beyond, and random ones that no list of calls leads to. What a number of the struct stands for is
+//! the header's; how far it goes is derived here from document 01. Part of `differential`.
 
 use crate::engine::Station;
+use reference::annex::{FIGURES, LETTERS};
 use reference::answer::{STATE, SUCCESS};
+use reference::baudot::REPEAT;
 use reference::demand3::Entries;
+use reference::line::{KEYS, PREFIXES};
 use reference::mode::Mode;
 use reference::normal::Alphabet;
 use reference::random::Random;
-use reference::reader::FAULT;
-use reference::station::{Ran, MOST_MS, MOST_WAITING};
+use reference::reader::{FAULT, IN_A_ROW};
+use reference::station::{Ran, FREE, INHIBITED, MOST_MS, MOST_WAITING};
 use std::process::exit;
 use std::sync::LazyLock;
+
+/// Nothing (0), the preamble (1) or a code is on the line: document 01, "The station's turn", second
+/// point (there: lead).
+const CODE_PART: u8 = 2;
+
+/// Codes have five bits, characters seven: document 01, second paragraph.
+const FIVE_BITS: usize = 1 << 5;
+const SEVEN_BITS: usize = 1 << 7;
+
+/// Behind the prefixes of up to three marks one value stands for those of more: document 01, "DTMF
+/// alphabet (Annex B)", sentences 2 and 9.
+const PREFIX_TOO_LONG: usize = PREFIXES.len();
+
+/// The most ms of a key that has not counted yet: document 01, "Line signal", reading DTMF.
+const KEY_NOT_COUNTED: u8 = IN_A_ROW - 1;
 
 /// The ms of a part on the line; the code of a DTMF station is 16 times the prefix, plus a key, and
 /// prefix 15 stands for no keys.
@@ -29,13 +48,14 @@ fn part_length(mode: Mode, part: u8, code: u8) -> usize {
 /// How many codes the line has, and how many values the digits of a frame.
 fn codes(mode: Mode) -> (usize, usize) {
     match mode {
-        Mode::Baudot45 | Mode::Baudot50 => (32, 32),
+        Mode::Baudot45 | Mode::Baudot50 => (FIVE_BITS, FIVE_BITS),
         Mode::Dtmf => (256, 1),
-        Mode::Edt => (128, 128),
+        Mode::Edt => (SEVEN_BITS, SEVEN_BITS),
     }
 }
 
-/// The highest place of a frame: before its last sample.
+/// The highest place of a frame: before its last sample (document 01, "Line signal", reading Baudot or
+/// EDT: looks). Place 0 hunts and 1 waits; DTMF has no frames, and no place besides these.
 fn last_place(mode: Mode) -> usize {
     match mode {
         Mode::Dtmf => 1,
@@ -54,7 +74,8 @@ fn sends(mode: Mode) -> &'static [bool; 256] {
     &SENDS[usize::from(mode.number()) - 1]
 }
 
-/// Question 1, as `cuyrapaq.h` says it.
+/// Question 1 of document 01, "Questions in order": each number within the values given there. Ms are
+/// counted as far as a rule asks for: 300 without signal, 300 inhibited, 40 of a key or of quiet.
 pub fn in_range(station: &Station) -> bool {
     let Some(mode) = Mode::from_number(station.core.mode) else {
         return false;
@@ -64,20 +85,20 @@ pub fn in_range(station: &Station) -> bool {
     let sends = sends(mode);
     usize::from(core.waiting) <= MOST_WAITING
         && station.chars[..usize::from(core.waiting)].iter().all(|&c| sends[usize::from(c)])
-        && core.silence <= 300
-        && core.inhibited <= 300
-        && core.line.part <= 2
+        && core.silence <= FREE
+        && core.inhibited <= INHIBITED
+        && core.line.part <= CODE_PART
         && usize::from(core.line.code) < line_codes
         && usize::from(core.line.at) <= part_length(mode, core.line.part, core.line.code)
-        && core.sender.shift <= 2
-        && core.sender.count <= 72
+        && core.sender.shift <= FIGURES
+        && core.sender.count <= REPEAT
         && usize::from(reader.frame.place) <= last_place(mode)
         && usize::from(reader.frame.digits) < frame_codes
-        && reader.keys.key <= 16
-        && reader.keys.ms < 40
-        && reader.keys.needed <= 40
-        && (1..=2).contains(&reader.shift)
-        && reader.prefix <= 15
+        && usize::from(reader.keys.key) <= KEYS.len()
+        && reader.keys.ms <= KEY_NOT_COUNTED
+        && reader.keys.needed <= IN_A_ROW
+        && (LETTERS..=FIGURES).contains(&reader.shift)
+        && usize::from(reader.prefix) <= PREFIX_TOO_LONG
 }
 
 /// The numbers of a station.
@@ -113,22 +134,24 @@ fn range(station: &Station, mode: Mode, field: usize) -> (u16, u16) {
     let (line_codes, frame_codes) = codes(mode);
     let most = match field {
         0 => MOST_WAITING,
-        1 | 2 => 300,
+        1 => usize::from(FREE),
+        2 => usize::from(INHIBITED),
         3 => part_length(mode, line.part, line.code),
-        4 | 6 | 13 => 2,
+        4 => usize::from(CODE_PART),
         5 => line_codes - 1,
-        7 => 72,
+        6 | 13 => usize::from(FIGURES),
+        7 => usize::from(REPEAT),
         8 => last_place(mode),
         9 => frame_codes - 1,
-        10 => 16,
-        11 => 39,
-        12 => 40,
-        14 => 15,
+        10 => KEYS.len(),
+        11 => usize::from(KEY_NOT_COUNTED),
+        12 => usize::from(IN_A_ROW),
+        14 => PREFIX_TOO_LONG,
         15 => usize::from(mode.number()),
-        _ => 127,
+        _ => SEVEN_BITS - 1,
     };
     let least = match field {
-        13 => 1,
+        13 => usize::from(LETTERS),
         15 => most,
         _ => 0,
     };

@@ -1,6 +1,6 @@
 //! Reference for the textphone alphabets, the Baudot conversions, the line signal with its readers,
-//! the station and the calling set, written from V.18 and the rulings of document 01 alone; and a
-//! check of demand 3 on random lists of calls.
+//! the station and the calling set, written from V.18 and the rulings of document 01 alone; a check
+//! of demand 3 on random lists of calls; and the printed tables, taken from a text of V.18.
 
 pub mod annex;
 pub mod answer;
@@ -8,9 +8,11 @@ pub mod baudot;
 pub mod calling;
 pub mod demand3;
 pub mod demand3_lists;
+pub mod departures;
 pub mod line;
 pub mod mode;
 pub mod normal;
+pub mod print;
 pub mod random;
 pub mod reader;
 pub mod send_model;

@@ -1,5 +1,6 @@
 //! The four modes, and what each brings with it.
 
+use crate::line::{KEY_GAP, KEY_LENGTH};
 use crate::normal::Alphabet;
 
 #[derive(Clone, Copy, Debug, PartialEq, Eq)]
@@ -48,12 +49,20 @@ impl Mode {
         }
     }
 
-    /// The ms of a code; in DTMF of a key with the quiet after it.
+    /// The ms of an element of Baudot.
+    const fn element(self) -> usize {
+        match self {
+            Mode::Baudot45 => 22,
+            _ => 20,
+        }
+    }
+
+    /// The ms of a code; in DTMF of a key with the quiet after it. In Baudot a start and five digits
+    /// of one element each, and a stop of one and a half.
     pub const fn code_length(self) -> usize {
         match self {
-            Mode::Baudot45 => 165,
-            Mode::Baudot50 => 150,
-            Mode::Dtmf => 120,
+            Mode::Baudot45 | Mode::Baudot50 => 6 * self.element() + 3 * self.element() / 2,
+            Mode::Dtmf => KEY_LENGTH + KEY_GAP,
             Mode::Edt => 100,
         }
     }
@@ -70,8 +79,7 @@ impl Mode {
     /// The element that a ms of a code belongs to. The last one of Baudot is half as long again.
     pub const fn element_at(self, ms: usize) -> usize {
         let element = match self {
-            Mode::Baudot45 => ms / 22,
-            Mode::Baudot50 => ms / 20,
+            Mode::Baudot45 | Mode::Baudot50 => ms / self.element(),
             Mode::Dtmf => 0,
             Mode::Edt => 11 * ms / 100,
         };
@@ -85,8 +93,7 @@ impl Mode {
     /// The ms of a frame at which an element is sampled (document 01: its look).
     pub const fn sample_at(self, element: usize) -> usize {
         match self {
-            Mode::Baudot45 => 22 * element + 11,
-            Mode::Baudot50 => 20 * element + 10,
+            Mode::Baudot45 | Mode::Baudot50 => self.element() * element + self.element() / 2,
             Mode::Dtmf => 0,
             Mode::Edt => (100 * element + 50) / 11,
         }

@@ -241,7 +241,7 @@ impl Hear for FrameReader {
 }
 
 /// The ms in a row that make a key count, and the quiet ms in a row needed after it.
-const IN_A_ROW: u8 = 40;
+pub const IN_A_ROW: u8 = 40;
 
 /// No prefix in hand. A * doubles the number, a # doubles it and adds one.
 const NO_PREFIX: u8 = 1;
