@@ -4,7 +4,7 @@ use mathlib.Core.List.{List, [], _∷_, _++_}
 use Prim.Native.Nat.{ℕ, zero, suc, _+_, _-_, _≤_}
 use native.Mathlib.Omega.{arith}
 use lib.ListN.{length, take, drop, length-append, length-drop}
-use lib.Seq.{take-at, drop-append-add, drop-append-le}
+use lib.Seq.{length-take-le, take-append-seam, take-append-add, drop-append-add}
 use Rattle.alphabet.specs.declared.Mode.{Mode}
 use Rattle.reader.specs.declared.Reader.{Reader}
 use Rattle.demand3.specs.Model.{Model, Did, offered, sentIn}
@@ -25,14 +25,20 @@ take-append (suc n) (x ∷ xs) ys =
     let e : suc n - suc (length xs) ≡ n - length xs = omega arith in
     rw e (behind (take-append n xs ys))
 
--- of a list in which ps stand before vs, the entries from the k-th of vs on
+-- of a list in which ps stand before vs, and vs up to `to`: the entries from the k-th of vs on
 pub between-is : {A : Type 0} (first from to k : ℕ) (ps vs us : List A) → length ps + k ≡ from - first
-    → length vs ≡ k + (to - from) → between first from to (ps ++ (vs ++ us)) ≡ drop k vs
-between-is first from to k ps vs us p v =
-    let n = length-drop k vs in
-    ap (λ (i : ℕ). take (to - from) (drop i (ps ++ (vs ++ us)))) (sym p)
-    ∙ ap (take (to - from)) (drop-append-add ps (vs ++ us) k ∙ drop-append-le k vs us (omega arith))
-    ∙ take-at (drop k vs) us (to - from) (omega arith)
+    → length ps + length vs ≡ to - first → between first from to (ps ++ (vs ++ us)) ≡ drop k vs
+between-is {A = A} first from to k ps vs us p v =
+    let front = ap (λ (i : ℕ). take i (ps ++ (vs ++ us))) (sym v) ∙ take-append-add ps (vs ++ us) (length vs)
+    ∙ ap (λ (l : List A). ps ++ l) (take-append-seam vs us) in
+    ap (drop (from - first)) front ∙ ap (λ (i : ℕ). drop i (ps ++ vs)) (sym p) ∙ drop-append-add ps vs k
+
+-- how many they are, if the list has all that come before `to`
+pub between-length : {A : Type 0} (first from to : ℕ) (xs : List A) → to - first ≤ length xs
+    → length (between first from to xs) ≡ to - first - (from - first)
+between-length first from to xs h =
+    length-drop (from - first) (take (to - first) xs)
+    ∙ ap (λ (n : ℕ). n - (from - first)) (length-take-le (to - first) xs h)
 
 pub idle-left : (xs ys : List Did) → NoBurst (xs ++ ys) → NoBurst xs
 unfolding NoBurst

@@ -104,7 +104,6 @@ module _ (d : Lists) where
         let heardB = own-heard mode (stepsB d) freshModel in
         let sent = sends-as-model (d .mode) (d .callsA) ∙ ap sentIn (sym dids-are) in
         record {
-          opened-A = p .opened-A;
           idle-A = subst (λ (ds : List Did). NoBurst (idle ds)) (sym dids-are) (p .idle-A);
           later = p .later;
           run-A = subst (λ (l : List ℕ). d .asked < d .openA + length l) (sym heardA) (p .run-A);

@@ -215,7 +215,6 @@ module _ (e : Example) (c : Passes e) where
       let steps = stepsB d in
       let since = front-back (sinceMs d) (backMs (pastMs d) steps) in
       record {
-        opened-A = leb-true _ _ (fact 0);
         idle-A = no-burst-by _ (fact 1);
         later = leb-true _ _ (fact 2);
         run-A = subst (λ (n : ℕ). d .asked < d .openA + n) dids-length (ltb-true _ _ (fact 3));

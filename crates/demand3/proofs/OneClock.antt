@@ -7,8 +7,8 @@ use mathlib.Core.List.{List, [], _∷_, _++_, append-assoc}
 use Prim.Native.Nat.{ℕ, suc, _+_, _-_, _≤_, _<_}
 use native.Mathlib.Omega.{arith}
 use lib.Dec.{ltb}
-use lib.ListN.{length, take, drop, length-drop, length-map}
-use lib.Seq.{take-add, drop-at, drop-drop, take-append-le}
+use lib.ListN.{length, take, drop, take-append-drop, length-drop, length-map}
+use lib.Seq.{take-take, drop-drop, take-append-le, take-append-add, drop-append-le}
 use borrow.Author.Tests.{ltb-true, ltb-false}
 use Rattle.lists.specs.Lists.{allAtMost}
 use Rattle.lists.proofs.Lists.{either, at-most-front}
@@ -26,7 +26,7 @@ use Rattle.demand3.specs.Reading.{endsSynchronizing, untilSynchronized, 
 use Rattle.demand3.specs.Reading.{NoBurst, EndsIdle}
 use Rattle.demand3.specs.Demand3.{between}
 use Rattle.demand3.proofs.Told.{Told, toldAfter, toldDoes, toldHeard, toldMs, ToldNone, toldReader, toldEvents}
-use Rattle.demand3.proofs.Cuts.{between-is, idle-left, idle-right, sent-append, heard-append, ms-append}
+use Rattle.demand3.proofs.Cuts.{between-is, between-length, idle-left, idle-right, sent-append, heard-append, ms-append}
 use Rattle.demand3.proofs.Cuts.{none-right, after-append, events-append, does-length, events-length}
 use Rattle.demand3.proofs.Cuts.{Cut, cut-after, does-cut}
 use Rattle.demand3.proofs.Core.{Reads, reads-after-idle}
@@ -42,7 +42,6 @@ pub record Clock : Type 0 where
 -- The premises, on the steps of A and of B from fresh models on. (`Premises` in specs/Demand3.antt says them of two
 -- lists of calls.)
 pub record OneClock (mode : Mode) (t : Clock) (stepsA stepsB : List Told) : Type 0 where
-  pub opened-A : t .openA ≤ t .start
   pub idle-A : NoBurst (between (t .openA) (t .start) (t .start + 300) (toldDoes mode freshModel stepsA))
   pub later : t .start + 300 ≤ t .asked
   pub run-A : t .asked < t .openA + toldMs stepsA
@@ -94,6 +93,25 @@ synchronized-most mode ds =
     either (λ (n : ℕ). n ≤ length ds) (atOnce (alphabetOf mode)) 0 (untilSynchronized mode ds) (omega arith)
     (until-most mode ds)
 
+-- B hears what A sends from the 40 ms on, so A has run each of them
+opened-then : (mode : Mode) (t : Clock) (stepsA stepsB : List Told) → OneClock mode t stepsA stepsB
+    → t .openA ≤ t .start + 260
+opened-then mode t stepsA stepsB p =
+    let from = t .start + 260 in
+    let to = t .asked + 1 in
+    let ds = toldDoes mode freshModel stepsA in
+    let later = p .later in
+    let run = p .run-A in
+    let opened = p .opened-B in
+    let all = p .since-ms in
+    let n = ap toldMs (p .cut ∙ sym (append-assoc (p .past) (p .since) (p .beyond)))
+    ∙ ms-append (p .past ++ p .since) (p .beyond) in
+    let m = length-map ds (λ (d : Did). d .sent) ∙ does-length mode stepsA freshModel in
+    let heard = between-length (t .openB) from to (toldHeard stepsB) (omega arith) in
+    let sent = between-length (t .openA) from to (sentIn ds) (omega arith) in
+    let same = ap length (p .hears) in
+    omega arith
+
 -- the ms of B from the start of the idle period, or from its opening, up to the 40
 abbrev earlyMs : Clock → ℕ
 earlyMs t = t .start + 260 - t .openB - (t .start - t .openB)
@@ -105,6 +123,7 @@ onMs t = t .asked + 1 - (t .start + 260)
 -- the cuts: of A's steps ahead of the 40 ms, and behind the ms asked about; of B's since the start of the idle period,
 -- ahead of the 40 ms
 module _ (mode : Mode) (t : Clock) (stepsA stepsB : List Told) (p : OneClock mode t stepsA stepsB)
+    (opened : t .openA ≤ t .start + 260)
     (a : Cut (t .start + 260 - t .openA) stepsA) (on : Cut (onMs t) (a .back)) (b : Cut (earlyMs t) (p .since)) where
   -- ---- A: what it does in each part
   abbrev modelA : Model
@@ -132,23 +151,20 @@ module _ (mode : Mode) (t : Clock) (stepsA stepsB : List Told) (p : OneClock mod
   idle-forty : NoBurst (take 40 onDids)
   idle-forty =
       let later = p .later in
-      let opened = p .opened-A in
       let n = past-length in
       let m = on-length in
-      let ds = toldDoes mode freshModel stepsA in
-      let rest = drop (t .start - t .openA) ds in
-      let all : t .start + 300 - t .start ≡ 260 + 40 = omega arith in
-      let on-is : drop 260 rest ≡ onDids ++ beyondDids =
-      drop-drop 260 (t .start - t .openA) ds ∙ ap (drop (t .start - t .openA + 260)) dids-are
-      ∙ drop-at pastDids (onDids ++ beyondDids) (t .start - t .openA + 260) (omega arith) in
-      let parts = ap (λ (k : ℕ). take k rest) all ∙ take-add 260 40 rest in
-      let forty = ap (take 40) on-is ∙ take-append-le 40 onDids beyondDids (omega arith) in
-      subst NoBurst forty (idle-right (take 260 rest) (take 40 (drop 260 rest)) (subst NoBurst parts (p .idle-A)))
+      let before = t .start - t .openA in
+      let forty = take 40 onDids in
+      let all : t .start + 300 - t .openA ≡ length pastDids + 40 = omega arith in
+      let run : take (t .start + 300 - t .openA) (toldDoes mode freshModel stepsA) ≡ pastDids ++ forty =
+      (λ i. take (all i) (dids-are i)) ∙ take-append-add pastDids (onDids ++ beyondDids) 40
+      ∙ ap (λ (ds : List Did). pastDids ++ ds) (take-append-le 40 onDids beyondDids (omega arith)) in
+      let parts = ap (drop before) run ∙ drop-append-le before pastDids forty (omega arith) in
+      idle-right (drop before pastDids) forty (subst NoBurst parts (p .idle-A))
 
   follows-is : followsIn mode t stepsA ≡ drop 40 onDids
   follows-is =
       let later = p .later in
-      let opened = p .opened-A in
       let n = past-length in
       let m = on-length in
       ap (between (t .openA) (t .start + 300) (t .asked + 1)) dids-are
@@ -159,6 +175,7 @@ module _ (mode : Mode) (t : Clock) (stepsA stepsB : List Told) (p : OneClock mod
   sent-is =
       let parts = ap sentIn dids-are ∙ sent-append pastDids (onDids ++ beyondDids)
       ∙ ap (λ (l : List ℕ). sentIn pastDids ++ l) (sent-append onDids beyondDids) in
+      let later = p .later in
       let n = length-map pastDids (λ (d : Did). d .sent) ∙ past-length in
       let m = length-map onDids (λ (d : Did). d .sent) ∙ on-length in
       ap (between (t .openA) (t .start + 260) (t .asked + 1)) parts
@@ -268,9 +285,10 @@ module _ (mode : Mode) (t : Clock) (stepsA stepsB : List Told) (p : OneClock mod
       ap (between (t .openB) from (t .asked + 1)) parts
       ∙ between-is (t .openB) from (t .asked + 1) (40 + k) frontEvents onEvents beyond (omega arith) (omega arith)
       ∙ sym (drop-drop k 40 onEvents) in
-      let sum : t .asked + 1 - t .openB ≡ from - t .openB + (t .asked + 1 - from) = omega arith in
-      ap (λ (i : ℕ). wordsOf (take i es)) sum
-      ∙ ap wordsOf (take-add (from - t .openB) (t .asked + 1 - from) es)
+      let to = t .asked + 1 - t .openB in
+      let parted = ap (λ (l : List Event). l ++ between (t .openB) from (t .asked + 1) es)
+      (sym (take-take (from - t .openB) to es (omega arith))) ∙ take-append-drop (from - t .openB) (take to es) in
+      ap wordsOf (sym parted)
       ∙ words-append (take (from - t .openB) es) (between (t .openB) from (t .asked + 1) es)
       ∙ ap (λ (l : List Event). wordsOf (take (from - t .openB) es) ++ wordsOf l) rest
 
@@ -318,7 +336,7 @@ module _ (mode : Mode) (t : Clock) (stepsA stepsB : List Told) (p : OneClock mod
 pub reads-on : (mode : Mode) (t : Clock) (stepsA stepsB : List Told) → OneClock mode t stepsA stepsB
     → ReadsOn mode t stepsB (followsIn mode t stepsA)
 reads-on mode t stepsA stepsB p =
-    let opened = p .opened-A in
+    let opened = opened-then mode t stepsA stepsB p in
     let later = p .later in
     let run = p .run-A in
     let a = cut-after (t .start + 260 - t .openA) stepsA (omega arith) in
@@ -329,4 +347,4 @@ reads-on mode t stepsA stepsB p =
     let all = p .since-ms in
     let past = p .past-ms in
     let b = cut-after (earlyMs t) (p .since) (omega arith) in
-    reads-cut mode t stepsA stepsB p a on b
+    reads-cut mode t stepsA stepsB p opened a on b
