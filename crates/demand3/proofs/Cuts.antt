@@ -1,10 +1,10 @@
 -- Steps that are told, one behind the other: what they hear, do and end in; and a cut after any of their ms.
 use mathlib.Core.Path.{_≡_, _∙_, refl, sym, ap}
 use mathlib.Core.List.{List, [], _∷_, _++_}
-use Prim.Native.Nat.{ℕ, zero, suc, _+_, _-_, _≤_}
+use Prim.Native.Nat.{ℕ, zero, suc, _+_, _-_, _≤_, min}
 use native.Mathlib.Omega.{arith}
-use lib.ListN.{length, take, drop, length-append, length-drop}
-use lib.Seq.{length-take-le, take-append-seam, take-append-add, drop-append-add}
+use lib.ListN.{length, take, drop, length-append, length-take, length-drop}
+use lib.Seq.{take-append-seam, take-append-add, drop-append-add}
 use Rattle.alphabet.specs.declared.Mode.{Mode}
 use Rattle.reader.specs.declared.Reader.{Reader}
 use Rattle.demand3.specs.Model.{Model, Did, offered, sentIn}
@@ -33,12 +33,11 @@ between-is {A = A} first from to k ps vs us p v =
     ∙ ap (λ (l : List A). ps ++ l) (take-append-seam vs us) in
     ap (drop (from - first)) front ∙ ap (λ (i : ℕ). drop i (ps ++ vs)) (sym p) ∙ drop-append-add ps vs k
 
--- how many they are, if the list has all that come before `to`
-pub between-length : {A : Type 0} (first from to : ℕ) (xs : List A) → to - first ≤ length xs
-    → length (between first from to xs) ≡ to - first - (from - first)
-between-length first from to xs h =
-    length-drop (from - first) (take (to - first) xs)
-    ∙ ap (λ (n : ℕ). n - (from - first)) (length-take-le (to - first) xs h)
+-- how many they are
+pub between-length : {A : Type 0} (first from to : ℕ) (xs : List A)
+    → length (between first from to xs) ≡ min (to - first) (length xs) - (from - first)
+between-length first from to xs =
+    length-drop (from - first) (take (to - first) xs) ∙ ap (λ (n : ℕ). n - (from - first)) (length-take (to - first) xs)
 
 pub idle-left : (xs ys : List Did) → NoBurst (xs ++ ys) → NoBurst xs
 unfolding NoBurst

@@ -81,10 +81,6 @@ module _ (d : Lists) where
         ap toldHeard (sym (own-append mode (p .past) (p .since) freshModel))
         ∙ own-heard mode (p .past ++ p .since) freshModel
 
-    from-opening : d .start < d .openB → past ≡ []
-    unfolding toldOf
-    from-opening h = ap (toldOf mode freshModel) (p .from-opening h)
-
     -- at the start of the idle period B's model is the one that it is told
     model-past : toldAfter mode freshModel past ≡ modelAfter mode freshModel (p .past)
     model-past = own-after mode (p .past) freshModel
@@ -100,13 +96,11 @@ module _ (d : Lists) where
 
     one-clock : OneClock mode (clockOf d) toldA toldB
     one-clock =
-        let heardA = own-heard mode (stepsA d) freshModel in
         let heardB = own-heard mode (stepsB d) freshModel in
         let sent = sends-as-model (d .mode) (d .callsA) ∙ ap sentIn (sym dids-are) in
         record {
           idle-A = subst (λ (ds : List Did). NoBurst (idle ds)) (sym dids-are) (p .idle-A);
           later = p .later;
-          run-A = subst (λ (l : List ℕ). d .asked < d .openA + length l) (sym heardA) (p .run-A);
           opened-B = p .opened-B;
           past = past;
           since = since;
@@ -114,7 +108,6 @@ module _ (d : Lists) where
           cut = told-parts;
           past-ms = ap length (own-heard mode (p .past) freshModel) ∙ p .past-ms;
           since-ms = ap length since-told ∙ p .since-ms;
-          from-opening = from-opening;
           idle-B = idle-B;
           offers-none = own-none mode (p .since) (toldAfter mode freshModel past) (p .offers-none);
           levels = of-calls (d .mode) (d .callsB) .levels;

@@ -4,7 +4,8 @@
 use mathlib.Core.Path.{_≡_, _∙_, refl, sym, ap, subst}
 use mathlib.Core.Bool.{Bool, true, false, cond}
 use mathlib.Core.List.{List, [], _∷_, _++_, append-assoc}
-use Prim.Native.Nat.{ℕ, suc, _+_, _-_, _≤_, _<_}
+use Prim.Native.Nat.{ℕ, suc, _+_, _-_, _≤_, _<_, min}
+use native.Mathlib.Nat.{min-eq-left}
 use native.Mathlib.Omega.{arith}
 use lib.Dec.{ltb}
 use lib.ListN.{length, take, drop, take-append-drop, length-drop, length-map}
@@ -30,7 +31,7 @@ use Rattle.demand3.proofs.Cuts.{between-is, between-length, idle-left, 
 use Rattle.demand3.proofs.Cuts.{none-right, after-append, events-append, does-length, events-length}
 use Rattle.demand3.proofs.Cuts.{Cut, cut-after, does-cut}
 use Rattle.demand3.proofs.Core.{Reads, reads-after-idle}
-use Rattle.demand3.proofs.Inhibited.{inhibited-most, inhibited-less, told-in, events-are}
+use Rattle.demand3.proofs.Inhibited.{inhibited-most, inhibited-same, inhibited-less, told-in, events-are}
 
 -- The numbers of the first ms of A and of B, the first ms of the idle period, and the ms asked about.
 pub record Clock : Type 0 where
@@ -44,7 +45,6 @@ pub record Clock : Type 0 where
 pub record OneClock (mode : Mode) (t : Clock) (stepsA stepsB : List Told) : Type 0 where
   pub idle-A : NoBurst (between (t .openA) (t .start) (t .start + 300) (toldDoes mode freshModel stepsA))
   pub later : t .start + 300 ≤ t .asked
-  pub run-A : t .asked < t .openA + toldMs stepsA
   pub opened-B : t .openB ≤ t .start + 260
   pub past : List Told
   pub since : List Told
@@ -52,7 +52,6 @@ pub record OneClock (mode : Mode) (t : Clock) (stepsA stepsB : List Told) : Type
   pub cut : stepsB ≡ past ++ (since ++ beyond)
   pub past-ms : toldMs past ≡ t .start - t .openB
   pub since-ms : toldMs (past ++ since) ≡ t .asked + 1 - t .openB
-  pub from-opening : t .start < t .openB → past ≡ []
   pub idle-B : NoBurst (toldDoes mode (toldAfter mode freshModel past) since)
   pub offers-none : ToldNone since
   pub levels : allAtMost 16 (toldHeard stepsB) ≡ true
@@ -93,24 +92,30 @@ synchronized-most mode ds =
     either (λ (n : ℕ). n ≤ length ds) (atOnce (alphabetOf mode)) 0 (untilSynchronized mode ds) (omega arith)
     (until-most mode ds)
 
--- B hears what A sends from the 40 ms on, so A has run each of them
-opened-then : (mode : Mode) (t : Clock) (stepsA stepsB : List Told) → OneClock mode t stepsA stepsB
-    → t .openA ≤ t .start + 260
-opened-then mode t stepsA stepsB p =
+-- as many ms from `from` on as there are up to `to`: they begin there at the latest, and reach to there
+ran-all : (first from to n : ℕ) → from < to → to - from ≡ min (to - first) n - (from - first)
+    → (first ≤ from) × (to ≤ first + n)
+ran-all first from to n h e = (omega arith, omega arith)
+
+-- B hears what A sends from the 40 ms on, so A has run each of them and each up to the ms asked about
+ran : (mode : Mode) (t : Clock) (stepsA stepsB : List Told) → OneClock mode t stepsA stepsB
+    → (t .openA ≤ t .start + 260) × (t .asked + 1 ≤ t .openA + toldMs stepsA)
+ran mode t stepsA stepsB p =
     let from = t .start + 260 in
     let to = t .asked + 1 in
     let ds = toldDoes mode freshModel stepsA in
     let later = p .later in
-    let run = p .run-A in
     let opened = p .opened-B in
     let all = p .since-ms in
-    let n = ap toldMs (p .cut ∙ sym (append-assoc (p .past) (p .since) (p .beyond)))
+    let parts = ap toldMs (p .cut ∙ sym (append-assoc (p .past) (p .since) (p .beyond)))
     ∙ ms-append (p .past ++ p .since) (p .beyond) in
-    let m = length-map ds (λ (d : Did). d .sent) ∙ does-length mode stepsA freshModel in
-    let heard = between-length (t .openB) from to (toldHeard stepsB) (omega arith) in
-    let sent = between-length (t .openA) from to (sentIn ds) (omega arith) in
-    let same = ap length (p .hears) in
-    omega arith
+    let run : to - t .openB ≤ toldMs stepsB = omega arith in
+    let heard = between-length (t .openB) from to (toldHeard stepsB) ∙ ap (λ (n : ℕ). n - (from - t .openB)) (min-eq-left run) in
+    let heards : to - t .openB - (from - t .openB) ≡ to - from = omega arith in
+    let levels = length-map ds (λ (d : Did). d .sent) ∙ does-length mode stepsA freshModel in
+    let sent = between-length (t .openA) from to (sentIn ds)
+    ∙ ap (λ (n : ℕ). min (to - t .openA) n - (from - t .openA)) levels in
+    ran-all (t .openA) from to (toldMs stepsA) (omega arith) (sym heards ∙ sym heard ∙ ap length (p .hears) ∙ sent)
 
 -- the ms of B from the start of the idle period, or from its opening, up to the 40
 abbrev earlyMs : Clock → ℕ
@@ -255,8 +260,10 @@ module _ (mode : Mode) (t : Clock) (stepsA stepsB : List Told) (p : OneClock mod
     where
       by-opening : (c : Bool) → ltb (t .start) (t .openB) ≡ c → toldAfter mode pastB (b .front) .inhibitedMs ≤ 40
       by-opening true e =
-          let none = p .from-opening (ltb-true (t .start) (t .openB) e) in
-          inhibited-less mode (b .front) pastB 40 idle-early (rw none (omega arith))
+          let k = ltb-true (t .start) (t .openB) e in
+          let past = p .past-ms in
+          let none = inhibited-same mode (p .past) freshModel (omega arith) in
+          inhibited-less mode (b .front) pastB 40 idle-early (omega arith)
       by-opening false e =
           let k = ltb-false (t .start) (t .openB) e in
           let n = b .front-ms in
@@ -336,9 +343,10 @@ module _ (mode : Mode) (t : Clock) (stepsA stepsB : List Told) (p : OneClock mod
 pub reads-on : (mode : Mode) (t : Clock) (stepsA stepsB : List Told) → OneClock mode t stepsA stepsB
     → ReadsOn mode t stepsB (followsIn mode t stepsA)
 reads-on mode t stepsA stepsB p =
-    let opened = opened-then mode t stepsA stepsB p in
+    let r = ran mode t stepsA stepsB p in
+    let opened = r .0 in
     let later = p .later in
-    let run = p .run-A in
+    let run = r .1 in
     let a = cut-after (t .start + 260 - t .openA) stepsA (omega arith) in
     let rest = a .all-ms in
     let on = cut-after (onMs t) (a .back) (omega arith) in
