@@ -64,18 +64,22 @@ wordsBefore d t = wordsBy (opened (d .mode)) (upTo (opened (d .mode)) (d .callsB
 abbrev pub between : {X : Type 0} → ℕ → ℕ → ℕ → List X → List X
 between first from to xs = drop (from - first) (take (to - first) xs)
 
+-- D3: "the last 40 ms of a rest of 300 ms". The first of them.
+abbrev pub lastForty : Lists → ℕ
+lastForty d = d .start + 260
+
 -- D3: "The premises". 01: "Waiting, bursts and codes in demand 3 are the book's". No line says what B heard before the
 -- 40 ms, D3: "however the line spoiled all that B heard".
 pub record Premises (d : Lists) : Type 0 where
   -- D3: "a rest of 300 ms on A's sending". 01: "300 ms in a row in which a station is in no burst"; "Either may be
   -- opened at any ms": A is in none in those of them that it has run.
   pub idle-A : NoBurst (between (d .openA) (d .start) (d .start + 300) (didsA d))
-  -- D3: "every later millisecond that both have run"
+  -- D3: "every later millisecond that both have run". (That both have follows from `since-ms` and `hears`.)
   pub later : d .start + 300 ≤ d .asked
   pub run-A : d .asked < d .openA + msIn (stepsA d)
   pub run-B : d .asked < d .openB + msIn (stepsB d)
   -- 01: "B at the latest at the first of the 40"
-  pub opened-B : d .openB ≤ d .start + 260
+  pub opened-B : d .openB ≤ lastForty d
   -- D3: "from the start of the rest". B's steps before that, from there up to the ms asked about, and beyond it.
   pub past : List Step
   pub since : List Step
@@ -83,7 +87,7 @@ pub record Premises (d : Lists) : Type 0 where
   pub cut : stepsB d ≡ past ++ (since ++ beyond)
   pub past-ms : msIn past ≡ d .start - d .openB
   pub since-ms : msIn (past ++ since) ≡ d .asked + 1 - d .openB
-  -- 01: "if the rest began earlier, B's premises hold from its opening"
+  -- 01: "if the rest began earlier, B's premises hold from its opening". (The proof does not need it: `past` has no ms.)
   pub from-opening : d .start < d .openB → past ≡ []
   -- D3: "B has nothing waiting"; with no character offered, nothing waits later either. (The proof does not need it.)
   pub none-waits : modelAfter (theMode d) freshModel past .waiting ≡ []
@@ -93,8 +97,8 @@ pub record Premises (d : Lists) : Type 0 where
   pub offers-none : OffersNone since
   -- D3: "from those 40 ms on B hears exactly what A sends". 01: "up to the one asked about"; "where A has run no such
   -- ms, it does not": the lists are equally long, so A has run each of the 40.
-  pub hears : between (d .openB) (d .start + 260) (d .asked + 1) (heardB d)
-      ≡ between (d .openA) (d .start + 260) (d .asked + 1) (sentA d)
+  pub hears : between (d .openB) (lastForty d) (d .asked + 1) (heardB d)
+      ≡ between (d .openA) (lastForty d) (d .asked + 1) (sentA d)
 
 -- 01: "what A takes after the rest". What A's model does from there up to the ms asked about.
 abbrev pub followsA : Lists → List Did
