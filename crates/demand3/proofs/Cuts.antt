@@ -1,10 +1,10 @@
 -- Steps that are told, one behind the other: what they hear, do and end in; and a cut after any of their ms.
-use mathlib.Core.Path.{_≡_, _∙_, refl, sym, ap}
+use mathlib.Core.Path.{_≡_, _∙_, refl, sym, ap, subst}
 use mathlib.Core.List.{List, [], _∷_, _++_}
 use Prim.Native.Nat.{ℕ, zero, suc, _+_, _-_, _≤_, min}
 use native.Mathlib.Omega.{arith}
-use lib.ListN.{length, take, drop, length-append, length-take, length-drop}
-use lib.Seq.{take-append-seam, take-append-add, drop-append-add}
+use lib.ListN.{length, take, drop, take-append-drop, length-append, length-take, length-drop}
+use lib.Seq.{drop-drop, take-append-seam, take-append-add, drop-append-add}
 use Rattle.alphabet.specs.declared.Mode.{Mode}
 use Rattle.reader.specs.declared.Reader.{Reader}
 use Rattle.demand3.specs.Model.{Model, Did, offered, sentIn}
@@ -48,6 +48,14 @@ pub idle-right : (xs ys : List Did) → NoBurst (xs ++ ys) → NoBurst ys
 unfolding NoBurst
 idle-right [] ys h = h
 idle-right (x ∷ xs) ys h = idle-right xs ys (h .1)
+
+pub idle-later : (i j : ℕ) (ds : List Did) → i ≤ j → NoBurst (drop i ds) → NoBurst (drop j ds)
+idle-later i j ds p h =
+    let e : i + (j - i) ≡ j = omega arith in
+    subst (λ (n : ℕ). NoBurst (drop n ds)) e
+    (subst NoBurst (drop-drop (j - i) i ds)
+    (idle-right (take (j - i) (drop i ds)) (drop (j - i) (drop i ds))
+    (subst NoBurst (sym (take-append-drop (j - i) (drop i ds))) h)))
 
 pub sent-append : (ds es : List Did) → sentIn (ds ++ es) ≡ sentIn ds ++ sentIn es
 sent-append [] es = refl

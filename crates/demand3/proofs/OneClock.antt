@@ -9,7 +9,7 @@ use native.Mathlib.Nat.{min-eq-left}
 use native.Mathlib.Omega.{arith}
 use lib.Dec.{ltb}
 use lib.ListN.{length, take, drop, take-append-drop, length-drop, length-map}
-use lib.Seq.{take-take, drop-drop, take-append-le, take-append-add, drop-append-le}
+use lib.Seq.{length-take-le, take-take, drop-drop}
 use borrow.Author.Tests.{ltb-true, ltb-false}
 use Rattle.lists.specs.Lists.{allAtMost}
 use Rattle.lists.proofs.Lists.{either, at-most-front}
@@ -41,9 +41,9 @@ pub record Clock : Type 0 where
   pub asked : ℕ
 
 -- The premises, on the steps of A and of B from fresh models on. (`Premises` in specs/Demand3.antt says them of two
--- lists of calls.)
+-- lists of calls.) Of A's idle period only the last 40 ms are needed.
 pub record OneClock (mode : Mode) (t : Clock) (stepsA stepsB : List Told) : Type 0 where
-  pub idle-A : NoBurst (between (t .openA) (t .start) (t .start + 300) (toldDoes mode freshModel stepsA))
+  pub idle-A : NoBurst (between (t .openA) (t .start + 260) (t .start + 300) (toldDoes mode freshModel stepsA))
   pub later : t .start + 300 ≤ t .asked
   pub opened-B : t .openB ≤ t .start + 260
   pub past : List Told
@@ -158,14 +158,15 @@ module _ (mode : Mode) (t : Clock) (stepsA stepsB : List Told) (p : OneClock mod
       let later = p .later in
       let n = past-length in
       let m = on-length in
-      let before = t .start - t .openA in
-      let forty = take 40 onDids in
-      let all : t .start + 300 - t .openA ≡ length pastDids + 40 = omega arith in
-      let run : take (t .start + 300 - t .openA) (toldDoes mode freshModel stepsA) ≡ pastDids ++ forty =
-      (λ i. take (all i) (dids-are i)) ∙ take-append-add pastDids (onDids ++ beyondDids) 40
-      ∙ ap (λ (ds : List Did). pastDids ++ ds) (take-append-le 40 onDids beyondDids (omega arith)) in
-      let parts = ap (drop before) run ∙ drop-append-le before pastDids forty (omega arith) in
-      idle-right (drop before pastDids) forty (subst NoBurst parts (p .idle-A))
+      let forty = length-take-le 40 onDids (omega arith) in
+      let parted = sym (append-assoc (take 40 onDids) (drop 40 onDids) beyondDids)
+      ∙ ap (λ (ds : List Did). ds ++ beyondDids) (take-append-drop 40 onDids) in
+      let parts = dids-are ∙ ap (λ (ds : List Did). pastDids ++ ds) (sym parted) in
+      subst NoBurst
+      (ap (between (t .openA) (t .start + 260) (t .start + 300)) parts
+      ∙ between-is (t .openA) (t .start + 260) (t .start + 300) 0 pastDids (take 40 onDids)
+      (drop 40 onDids ++ beyondDids) (omega arith) (omega arith))
+      (p .idle-A)
 
   follows-is : followsIn mode t stepsA ≡ drop 40 onDids
   follows-is =
