@@ -1,12 +1,12 @@
 -- Premises that demand 3 needs: for each two lists of calls for which all others hold, and a weaker one in its place,
 -- and the conclusion does not.
 use mathlib.Core.Path.{_≡_, _∙_, refl, sym, ap}
-use mathlib.Core.Bool.{Bool, true, false, _&&_, false≢true}
+use mathlib.Core.Bool.{Bool, true, false, false≢true}
 use mathlib.Core.List.{List, [], _∷_, _++_}
 use Prim.Native.Nat.{ℕ, _+_, _-_}
 use lib.Dec.{leb}
-use borrow.Author.Tests.{eq-eqb}
 use lib.ListN.{getD, set, take, drop, replicate}
+use borrow.Author.Tests.{eq-eqb}
 use Rattle.lists.specs.Lists.{allAtMost}
 use Rattle.alphabet.specs.declared.Mode.the-variants.{Baudot50}
 use Rattle.alphabet.specs.Print.{leftRows, rightRows, rows, bitsFrom, bits, keys}
@@ -17,7 +17,6 @@ use Rattle.alphabet.specs.TableB2.{b2}
 use Rattle.alphabet.specs.Baudot.{printedAt, readBaudot, sendBaudot}
 use Rattle.alphabet.specs.Dtmf.{withMark, codeFrom, prefixes, keysOf, marksThenDigit, among, notStruck, remaining}
 use Rattle.alphabet.specs.Dtmf.{names, firstSign, named, readIn, readDtmf, sendIn, hasRow, sendFrom, sendDtmf}
-use Rattle.alphabet.specs.Modes.{alphabetOf}
 use Rattle.alphabet.specs.Normal.{sends, reads, normalForm}
 use Rattle.baudot.specs.Sending.{wanted}
 use Rattle.signal.specs.Signal.{preamble, digits, held, baudotSignal, heldKeys, signal, signals}
@@ -31,21 +30,21 @@ use Rattle.line_theorems.specs.Examples.{chars}
 use Rattle.queue.specs.Queue.{waiters}
 use Rattle.burst.specs.Rules.{mayBegin, mayEnd}
 use Rattle.station.specs.Station.{hasDel}
-use Rattle.demand3.specs.Model.{Step, Offer, Ms, Did, freshModel, offered, begun, codeBegins, nextCode, load}
+use Rattle.demand3.specs.Model.{Step, Did, freshModel, offered, begun, codeBegins, nextCode, load}
 use Rattle.demand3.specs.Model.{levelOn, oneGone, ended, closed, did, msAfter, modelAfter, does, sentIn, takenIn}
 use Rattle.demand3.specs.Model.{heardIn}
 use Rattle.demand3.specs.Reading.{synchronizes, untilSynchronized, synchronizedAfter}
-use Rattle.demand3.specs.Calls.{Call, OfferCall, RunCall}
+use Rattle.demand3.specs.Calls.{OfferCall}
 use Rattle.demand3.specs.Accepts.{accepts, modelSteps}
-use Rattle.demand3.specs.Demand3.{Lists, theMode, theAlphabet, stepsA, stepsB, didsA, between, followsA}
-use Rattle.demand3.specs.Demand3.{synchronized, wordsDue, wordsBefore, Conclusion}
+use Rattle.demand3.specs.Demand3.{Lists, theMode, theAlphabet, stepsB, didsA, between, followsA}
+use Rattle.demand3.specs.Demand3.{synchronized, Conclusion}
 use Rattle.demand3.specs.Examples.{ms, run, key}
 use Rattle.demand3.proofs.Told.{inhibitedBy, msBy, toldEvents}
 use Rattle.demand3.proofs.OwnRules.{toldOf}
 use Rattle.demand3.proofs.Accepts.{steps-are}
 use Rattle.demand3.proofs.Demand3.{same-words, words-are}
-use Rattle.demand3.proofs.Examples.{noBurst, endsIdle, ends-by, same, offersNone, frontMs, backMs, pastOf, sinceOf, follows}
-use Rattle.demand3.proofs.Examples.{premiseTests, modelA, modelB, didsOf}
+use Rattle.demand3.proofs.Examples.{noBurst, endsIdle, ends-by, same, offersNone, frontMs, backMs, pastOf}
+use Rattle.demand3.proofs.Examples.{sinceOf, follows, premiseTests, modelB, didsOf}
 
 -- ---- what is computed of two lists: A does ds, and B has these steps
 
@@ -88,8 +87,7 @@ unfolding same
 same-self [] = refl
 same-self (x ∷ xs) = rw (eq-eqb x x refl) (same-self xs)
 
-module _ (d : Lists) (n : ℕ) (weaker : Weaker)
-    (c : Computes d n weaker) where
+module _ (d : Lists) (n : ℕ) (weaker : Weaker) (c : Computes d n weaker) where
   are : outcome d weaker (didsA d) (stepsB d) ≡ expected n
   are =
       let a = steps-are (d .mode) (d .callsA) in
@@ -187,9 +185,9 @@ dtmf-computed = (refl, refl, refl, refl)
 
 -- ---- in Baudot
 
--- A sends 1. B is offered DEL ahead of its own code, and takes it for Q.
-pub letters : Lists
-letters = record {
+-- A sends 1. An offer of DEL puts B in letters ahead of its own code, and B takes it for Q.
+pub delOffered : Lists
+delOffered = record {
   mode = 2;
   callsA = run (ms 300 0) ∷ OfferCall (chars "1") ∷ run (ms 601 0) ∷ [];
   callsB =
@@ -223,8 +221,8 @@ inFrame = record {
 pub later40 : Weaker
 later40 d ds steps = leb (d .start + 260) (d .asked)
 
-baudot-computed : Computes letters 9 noneWaits × Computes inFrame 1 later40
-unfolding outcome asConcluded letters inFrame noneWaits later40
+baudot-computed : Computes delOffered 9 noneWaits × Computes inFrame 1 later40
+unfolding outcome asConcluded delOffered inFrame noneWaits later40
     premiseTests noBurst endsIdle same offersNone frontMs backMs accepts modelSteps
     chars waiters hasDel heardIn offered mayBegin mayEnd begun codeBegins nextCode load levelOn oneGone ended closed did
     msAfter modelAfter does takenIn allAtMost sends reads signal signals normalForm synchronizes untilSynchronized
@@ -240,7 +238,7 @@ pub record Needed : Type 0 where
   pub later : Fails inFrame 1 later40
   pub opened-B : Fails openedLate 4 opened
   pub idle-B : Fails ownBurst 8 idle40
-  pub offers-none : Fails letters 9 noneWaits
+  pub offers-none : Fails delOffered 9 noneWaits
   pub hears : Fails (missed 300) 10 hears39
 
 pub needed : Needed
@@ -249,6 +247,6 @@ needed = record {
   later = fails inFrame 1 later40 (baudot-computed .1);
   opened-B = fails openedLate 4 opened (dtmf-computed .3);
   idle-B = fails ownBurst 8 idle40 (dtmf-computed .2);
-  offers-none = fails letters 9 noneWaits (baudot-computed .0);
+  offers-none = fails delOffered 9 noneWaits (baudot-computed .0);
   hears = fails (missed 300) 10 hears39 (dtmf-computed .1);
 }

@@ -110,7 +110,8 @@ ran mode t stepsA stepsB p =
     let parts = ap toldMs (p .cut ∙ sym (append-assoc (p .past) (p .since) (p .beyond)))
     ∙ ms-append (p .past ++ p .since) (p .beyond) in
     let run : to - t .openB ≤ toldMs stepsB = omega arith in
-    let heard = between-length (t .openB) from to (toldHeard stepsB) ∙ ap (λ (n : ℕ). n - (from - t .openB)) (min-eq-left run) in
+    let heard = between-length (t .openB) from to (toldHeard stepsB)
+    ∙ ap (λ (n : ℕ). n - (from - t .openB)) (min-eq-left run) in
     let heards : to - t .openB - (from - t .openB) ≡ to - from = omega arith in
     let levels = length-map ds (λ (d : Did). d .sent) ∙ does-length mode stepsA freshModel in
     let sent = between-length (t .openA) from to (sentIn ds)

@@ -87,7 +87,7 @@ pub record Premises (d : Lists) : Type 0 where
   pub cut : stepsB d ≡ past ++ (since ++ beyond)
   pub past-ms : msIn past ≡ d .start - d .openB
   pub since-ms : msIn (past ++ since) ≡ d .asked + 1 - d .openB
-  -- 01: "if the rest began earlier, B's premises hold from its opening". (The proof does not need it: `past` has no ms.)
+  -- 01: "if the rest began earlier, B's premises hold from its opening". (The proof does not need it.)
   pub from-opening : d .start < d .openB → past ≡ []
   -- D3: "B has nothing waiting"; with no character offered, nothing waits later either. (The proof does not need it.)
   pub none-waits : modelAfter (theMode d) freshModel past .waiting ≡ []
