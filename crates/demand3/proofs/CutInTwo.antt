@@ -2,13 +2,11 @@
 use mathlib.Core.Path.{_≡_, _∙_, refl, sym, ap}
 use mathlib.Core.List.{List, [], _∷_, _++_, map, append-assoc}
 use Prim.Native.Nat.{ℕ, _≤_}
-use native.Mathlib.Omega.{arith}
-use lib.ListN.{length, length-append}
-use borrow.Author.Tests.{leb-true}
+use lib.ListN.{length}
 use Rattle.lists.specs.Steps.{joined, stateAfter}
 use Rattle.station.specs.declared.Station.{Station}
 use Rattle.station.specs.Station.{stationAfter}
-use Rattle.station.proofs.Range.{offer-full, runs, run-full}
+use Rattle.station.proofs.Range.{offer-full, run-full}
 use Rattle.station.proofs.Cuts.{cut, first-runs, second-runs}
 use Rattle.demand3.specs.Model.{Ms}
 use Rattle.demand3.specs.Calls.{Call, OfferCall, RunCall, opened, left, sentFor, wordsFor, stepsFor}
@@ -29,32 +27,28 @@ map-append : (xs ys : List ℕ) → map Ms (xs ++ ys) ≡ map Ms xs ++ map Ms ys
 map-append [] ys = refl
 map-append (x ∷ xs) ys = behind (map-append xs ys)
 
-module _ (xs ys sent words sent′ words′ : List ℕ) (s : Station) (full : length (s .chars) ≡ 256)
-    (z : answerTo s (xs ++ ys) sent words ≡ 0) (u : length ys ≤ length sent′) (v : length ys ≤ length words′) where
+module _ (xs ys sent words sent1 words1 sent2 words2 : List ℕ) (s : Station) (full : length (s .chars) ≡ 256)
+    (z : answerTo s (xs ++ ys) sent words ≡ 0) (p : length xs ≤ length sent1) (q : length xs ≤ length words1)
+    (u : length ys ≤ length sent2) (v : length ys ≤ length words2) where
   abbrev c : Call
   c = RunCall (xs ++ ys) sent words
 
   abbrev a : Call
-  a = RunCall xs sent words
+  a = RunCall xs sent1 words1
 
   abbrev b : Call
-  b = RunCall ys sent′ words′
+  b = RunCall ys sent2 words2
 
-  first : answerTo s xs sent words ≡ 0
-  first =
-      let r = runs s (xs ++ ys) (length sent) (length words) z in
-      let n = length-append xs ys in
-      let p = leb-true (length (xs ++ ys)) (length sent) (r .sent-fits) in
-      let q = leb-true (length (xs ++ ys)) (length words) (r .words-fit) in
-      first-runs s xs ys (length sent) (length words) z (length sent) (length words) (omega arith) (omega arith)
+  first : answerTo s xs sent1 words1 ≡ 0
+  first = first-runs s xs ys (length sent) (length words) z (length sent1) (length words1) p q
 
-  second : answerTo (stationAfter s xs) ys sent′ words′ ≡ 0
-  second = second-runs s xs ys (length sent) (length words) z full (length sent′) (length words′) u v
+  second : answerTo (stationAfter s xs) ys sent2 words2 ≡ 0
+  second = second-runs s xs ys (length sent) (length words) z full (length sent2) (length words2) u v
 
   -- what the two hand out, by what each of them does
   behind-first : {X : Type 0} (of : Station → Call → List X) {fs gs : List X} → of s a ≡ fs
       → of (stationAfter s xs) b ≡ gs → fs ++ gs ≡ of s a ++ of (left s a) b
-  behind-first of e g = sym (λ i. e i ++ (ap (λ (t : Station). of t b) (left-of xs sent words s first) ∙ g) i)
+  behind-first of e g = sym (λ i. e i ++ (ap (λ (t : Station). of t b) (left-of xs sent1 words1 s first) ∙ g) i)
 
   two : Two s c a b
   two =
@@ -62,17 +56,17 @@ module _ (xs ys sent words sent′ words′ : List ℕ) (s : Station) (full : le
       let k = cut s xs ys in
       record {
         left-is =
-            ap (λ (t : Station). left t b) (left-of xs sent words s first) ∙ left-of ys sent′ words′ t second
+            ap (λ (t : Station). left t b) (left-of xs sent1 words1 s first) ∙ left-of ys sent2 words2 t second
             ∙ sym (k .station) ∙ sym (left-of (xs ++ ys) sent words s z);
         words-are =
             words-of (xs ++ ys) sent words s z ∙ k .words
-            ∙ behind-first wordsFor (words-of xs sent words s first) (words-of ys sent′ words′ t second);
+            ∙ behind-first wordsFor (words-of xs sent1 words1 s first) (words-of ys sent2 words2 t second);
         sent-are =
             sent-of (xs ++ ys) sent words s z ∙ k .sent
-            ∙ behind-first sentFor (sent-of xs sent words s first) (sent-of ys sent′ words′ t second);
+            ∙ behind-first sentFor (sent-of xs sent1 words1 s first) (sent-of ys sent2 words2 t second);
         steps-are =
             steps-of (xs ++ ys) sent words s z ∙ map-append xs ys
-            ∙ behind-first stepsFor (steps-of xs sent words s first) (steps-of ys sent′ words′ t second);
+            ∙ behind-first stepsFor (steps-of xs sent1 words1 s first) (steps-of ys sent2 words2 t second);
       }
 
 -- the calls around them: `of` is what a call hands out, `by` what a list does
@@ -100,14 +94,15 @@ left-full (RunCall heard sent words ∷ cs) s f =
 
 pub cut-in-two : CutInTwo
 unfolding joined
-cut-in-two n past next xs ys sent words sent′ words′ e u v =
+cut-in-two n past next xs ys sent words sent1 words1 sent2 words2 e p q u v =
     let o = opened n in
     let s = leftBy o past in
     let c = RunCall (xs ++ ys) sent words in
-    let a = RunCall xs sent words in
-    let b = RunCall ys sent′ words′ in
+    let a = RunCall xs sent1 words1 in
+    let b = RunCall ys sent2 words2 in
     let full = left-full past o (opened-like n .full) in
-    let t = two xs ys sent words sent′ words′ s full (run-answer s (xs ++ ys) sent words e) u v in
+    let z = run-answer s (xs ++ ys) sent words e in
+    let t = two xs ys sent words sent1 words1 sent2 words2 s full z p q u v in
     record {
       same-words = around wordsFor wordsBy (λ s c cs. refl) past next c a b o (t .left-is) (t .words-are);
       same-sent = around sentFor sentBy (λ s c cs. refl) past next c a b o (t .left-is) (t .sent-are);

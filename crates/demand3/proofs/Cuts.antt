@@ -1,10 +1,10 @@
 -- Steps that are told, one behind the other: what they hear, do and end in; and a cut after any of their ms.
-use mathlib.Core.Path.{_≡_, _∙_, refl, sym, ap}
+use mathlib.Core.Path.{_≡_, _∙_, refl, sym, ap, subst}
 use mathlib.Core.List.{List, [], _∷_, _++_}
-use Prim.Native.Nat.{ℕ, zero, suc, _+_, _-_, _≤_}
+use Prim.Native.Nat.{ℕ, zero, suc, _+_, _-_, _≤_, min}
 use native.Mathlib.Omega.{arith}
-use lib.ListN.{length, take, drop, length-append, length-drop}
-use lib.Seq.{take-at, drop-append-add, drop-append-le}
+use lib.ListN.{length, take, drop, take-append-drop, length-append, length-take, length-drop}
+use lib.Seq.{drop-drop, take-append-seam, take-append-add, drop-append-add}
 use Rattle.alphabet.specs.declared.Mode.{Mode}
 use Rattle.reader.specs.declared.Reader.{Reader}
 use Rattle.demand3.specs.Model.{Model, Did, offered, sentIn}
@@ -25,14 +25,19 @@ take-append (suc n) (x ∷ xs) ys =
     let e : suc n - suc (length xs) ≡ n - length xs = omega arith in
     rw e (behind (take-append n xs ys))
 
--- of a list in which ps stand before vs, the entries from the k-th of vs on
+-- of a list in which ps stand before vs, and vs up to `to`: the entries from the k-th of vs on
 pub between-is : {A : Type 0} (first from to k : ℕ) (ps vs us : List A) → length ps + k ≡ from - first
-    → length vs ≡ k + (to - from) → between first from to (ps ++ (vs ++ us)) ≡ drop k vs
-between-is first from to k ps vs us p v =
-    let n = length-drop k vs in
-    ap (λ (i : ℕ). take (to - from) (drop i (ps ++ (vs ++ us)))) (sym p)
-    ∙ ap (take (to - from)) (drop-append-add ps (vs ++ us) k ∙ drop-append-le k vs us (omega arith))
-    ∙ take-at (drop k vs) us (to - from) (omega arith)
+    → length ps + length vs ≡ to - first → between first from to (ps ++ (vs ++ us)) ≡ drop k vs
+between-is {A = A} first from to k ps vs us p v =
+    let front = ap (λ (i : ℕ). take i (ps ++ (vs ++ us))) (sym v) ∙ take-append-add ps (vs ++ us) (length vs)
+    ∙ ap (λ (l : List A). ps ++ l) (take-append-seam vs us) in
+    ap (drop (from - first)) front ∙ ap (λ (i : ℕ). drop i (ps ++ vs)) (sym p) ∙ drop-append-add ps vs k
+
+-- how many they are
+pub between-length : {A : Type 0} (first from to : ℕ) (xs : List A)
+    → length (between first from to xs) ≡ min (to - first) (length xs) - (from - first)
+between-length first from to xs =
+    length-drop (from - first) (take (to - first) xs) ∙ ap (λ (n : ℕ). n - (from - first)) (length-take (to - first) xs)
 
 pub idle-left : (xs ys : List Did) → NoBurst (xs ++ ys) → NoBurst xs
 unfolding NoBurst
@@ -43,6 +48,14 @@ pub idle-right : (xs ys : List Did) → NoBurst (xs ++ ys) → NoBurst ys
 unfolding NoBurst
 idle-right [] ys h = h
 idle-right (x ∷ xs) ys h = idle-right xs ys (h .1)
+
+pub idle-later : (i j : ℕ) (ds : List Did) → i ≤ j → NoBurst (drop i ds) → NoBurst (drop j ds)
+idle-later i j ds p h =
+    let e : i + (j - i) ≡ j = omega arith in
+    subst (λ (n : ℕ). NoBurst (drop n ds)) e
+    (subst NoBurst (drop-drop (j - i) i ds)
+    (idle-right (take (j - i) (drop i ds)) (drop (j - i) (drop i ds))
+    (subst NoBurst (sym (take-append-drop (j - i) (drop i ds))) h)))
 
 pub sent-append : (ds es : List Did) → sentIn (ds ++ es) ≡ sentIn ds ++ sentIn es
 sent-append [] es = refl

@@ -2,7 +2,8 @@
 use mathlib.Core.Path.{_≡_, _∙_, refl, sym, ap, subst}
 use mathlib.Core.Bool.{true}
 use mathlib.Core.List.{List, [], _∷_, _++_, map}
-use Prim.Native.Nat.{ℕ, _+_, _-_, _<_}
+use Prim.Native.Nat.{ℕ, _+_, _-_, _≤_}
+use native.Mathlib.Omega.{arith}
 use lib.ListN.{length, drop}
 use Rattle.alphabet.specs.declared.Mode.{Mode}
 use Rattle.alphabet.specs.Modes.{modeOf, alphabetOf}
@@ -12,11 +13,11 @@ use Rattle.reader.specs.Reader.{fresh}
 use Rattle.reader.specs.Words.{characterWord}
 use Rattle.demand3.specs.Model.{Model, Did, freshModel, modelAfter, does, sentIn, takenIn, heardIn}
 use Rattle.demand3.specs.Reading.{NoBurst}
-use Rattle.demand3.specs.Calls.{Call, opened, stepsBy}
+use Rattle.demand3.specs.Calls.{Call, opened, sentBy, stepsBy}
 use Rattle.demand3.specs.Demand3.{Lists, theMode, theAlphabet, stepsA, stepsB, didsA, between, Premises, followsA}
-use Rattle.demand3.specs.Demand3.{synchronized, wordsBefore, Conclusion, SendsAsModel, Demand3}
+use Rattle.demand3.specs.Demand3.{lastForty, synchronized, wordsBefore, Conclusion, SendsAsModel, Demand3}
 use Rattle.demand3.proofs.Told.{Told, toldAfter, toldDoes, toldHeard}
-use Rattle.demand3.proofs.Cuts.{behind}
+use Rattle.demand3.proofs.Cuts.{behind, idle-later}
 use Rattle.demand3.proofs.OneClock.{Clock, OneClock, ReadsOn, followsIn, wordsIn, reads-on}
 use Rattle.demand3.proofs.OwnRules.{toldOf, own-after, own-does, own-heard, own-none, own-append}
 use Rattle.demand3.proofs.StationLike.{opened-like}
@@ -81,10 +82,6 @@ module _ (d : Lists) where
         ap toldHeard (sym (own-append mode (p .past) (p .since) freshModel))
         ∙ own-heard mode (p .past ++ p .since) freshModel
 
-    from-opening : d .start < d .openB → past ≡ []
-    unfolding toldOf
-    from-opening h = ap (toldOf mode freshModel) (p .from-opening h)
-
     -- at the start of the idle period B's model is the one that it is told
     model-past : toldAfter mode freshModel past ≡ modelAfter mode freshModel (p .past)
     model-past = own-after mode (p .past) freshModel
@@ -95,32 +92,36 @@ module _ (d : Lists) where
         subst NoBurst (ap (λ (k : Model). does mode k (p .since)) (sym model-past) ∙ sym (own-does mode (p .since) m))
         (p .idle-B)
 
-    abbrev idle : List Did → List Did
-    idle ds = between (d .openA) (d .start) (d .start + 300) ds
+    -- of A's idle period the last 40 ms
+    idle-A : NoBurst (between (d .openA) (d .start + 260) (d .start + 300) (toldDoes mode freshModel toldA))
+    idle-A =
+        subst (λ (l : List Did). NoBurst (between (d .openA) (d .start + 260) (d .start + 300) l)) (sym dids-are)
+        (idle-later (d .start - d .openA) (d .start + 260 - d .openA) _ (omega arith) (p .idle-A))
 
     one-clock : OneClock mode (clockOf d) toldA toldB
     one-clock =
-        let heardA = own-heard mode (stepsA d) freshModel in
+        let later : d .start + 300 ≤ d .asked = let h = p .later in omega arith in
+        let forty : lastForty d ≡ d .start + 260 = omega arith in
+        let in-time : d .openB ≤ d .start + 260 = let h = p .opened-B in omega arith in
         let heardB = own-heard mode (stepsB d) freshModel in
         let sent = sends-as-model (d .mode) (d .callsA) ∙ ap sentIn (sym dids-are) in
         record {
-          opened-A = p .opened-A;
-          idle-A = subst (λ (ds : List Did). NoBurst (idle ds)) (sym dids-are) (p .idle-A);
-          later = p .later;
-          run-A = subst (λ (l : List ℕ). d .asked < d .openA + length l) (sym heardA) (p .run-A);
-          opened-B = p .opened-B;
+          idle-A = idle-A;
+          later = later;
+          opened-B = in-time;
           past = past;
           since = since;
           beyond = beyond;
           cut = told-parts;
           past-ms = ap length (own-heard mode (p .past) freshModel) ∙ p .past-ms;
           since-ms = ap length since-told ∙ p .since-ms;
-          from-opening = from-opening;
           idle-B = idle-B;
           offers-none = own-none mode (p .since) (toldAfter mode freshModel past) (p .offers-none);
           levels = of-calls (d .mode) (d .callsB) .levels;
           hears =
-              ap (between (d .openB) (d .start + 260) (d .asked + 1)) heardB ∙ p .hears
+              ap (between (d .openB) (d .start + 260) (d .asked + 1)) heardB
+              ∙ subst (λ (t : ℕ). between (d .openB) t (d .asked + 1) (heardIn (stepsB d))
+              ≡ between (d .openA) t (d .asked + 1) (sentBy (opened (d .mode)) (d .callsA))) forty (p .hears)
               ∙ ap (between (d .openA) (d .start + 260) (d .asked + 1)) sent;
         }
 

@@ -49,7 +49,7 @@ use Rattle.demand3.proofs.Demand3.{same-words, sends-as-model, words-ar
 
 -- ---- tests
 
-noBurst : List Did → Bool
+unfoldable pub noBurst : List Did → Bool
 noBurst [] = true
 noBurst (d ∷ ds) = not (d .burst) && noBurst ds
 
@@ -60,18 +60,18 @@ no-burst-by (d ∷ ds) t =
     let b = not (d .burst) in
     (not-true (d .burst) (and-left b (noBurst ds) t), no-burst-by ds (and-right b (noBurst ds) t))
 
-endsIdle : List Did → Bool
+unfoldable pub endsIdle : List Did → Bool
 endsIdle [] = true
 endsIdle (d ∷ []) = not (d .burst)
 endsIdle (d ∷ (e ∷ ds)) = endsIdle (e ∷ ds)
 
-ends-by : (ds : List Did) → endsIdle ds ≡ true → EndsIdle ds
+pub ends-by : (ds : List Did) → endsIdle ds ≡ true → EndsIdle ds
 unfolding endsIdle EndsIdle
 ends-by [] t = tt
 ends-by (d ∷ []) t = not-true (d .burst) t
 ends-by (d ∷ (e ∷ ds)) t = ends-by (e ∷ ds) t
 
-same : List ℕ → List ℕ → Bool
+unfoldable pub same : List ℕ → List ℕ → Bool
 same [] [] = true
 same [] (y ∷ ys) = false
 same (x ∷ xs) [] = false
@@ -86,7 +86,7 @@ same-by (x ∷ xs) (y ∷ ys) t =
     let e = eqb-true x y (and-left (eqb x y) (same xs ys) t) in
     λ i. e i ∷ same-by xs ys (and-right (eqb x y) (same xs ys) t) i
 
-offersNone : List Step → Bool
+unfoldable pub offersNone : List Step → Bool
 offersNone [] = true
 offersNone (Offer cs ∷ steps) = same cs [] && offersNone steps
 offersNone (Ms x ∷ steps) = offersNone steps
@@ -110,13 +110,13 @@ nth zero (b ∷ bs) t = and-left b (allTrue bs) t
 nth (suc n) (b ∷ bs) t = nth n bs (and-right b (allTrue bs) t)
 
 -- some steps up to their n-th ms, and those after it
-frontMs : ℕ → List Step → List Step
+unfoldable pub frontMs : ℕ → List Step → List Step
 frontMs zero steps = []
 frontMs (suc n) [] = []
 frontMs (suc n) (Offer cs ∷ steps) = Offer cs ∷ frontMs (suc n) steps
 frontMs (suc n) (Ms x ∷ steps) = Ms x ∷ frontMs n steps
 
-backMs : ℕ → List Step → List Step
+unfoldable pub backMs : ℕ → List Step → List Step
 backMs zero steps = steps
 backMs (suc n) [] = []
 backMs (suc n) (Offer cs ∷ steps) = backMs (suc n) steps
@@ -131,37 +131,33 @@ front-back (suc n) (Ms x ∷ steps) = behind (front-back n steps)
 
 -- ---- what is computed of an example: A does ds, and B has these steps
 
-abbrev pastMs : Lists → ℕ
+abbrev pub pastMs : Lists → ℕ
 pastMs d = d .start - d .openB
 
-abbrev sinceMs : Lists → ℕ
+abbrev pub sinceMs : Lists → ℕ
 sinceMs d = d .asked + 1 - d .openB - pastMs d
 
 -- B's steps before the idle period, from its start to the ms asked about, and beyond
-abbrev pastOf : Lists → List Step → List Step
+abbrev pub pastOf : Lists → List Step → List Step
 pastOf d steps = frontMs (pastMs d) steps
 
-abbrev sinceOf : Lists → List Step → List Step
+abbrev pub sinceOf : Lists → List Step → List Step
 sinceOf d steps = frontMs (sinceMs d) (backMs (pastMs d) steps)
 
 abbrev beyondOf : Lists → List Step → List Step
 beyondOf d steps = backMs (sinceMs d) (backMs (pastMs d) steps)
 
-abbrev follows : Lists → List Did → List Did
+abbrev pub follows : Lists → List Did → List Did
 follows d ds = between (d .openA) (d .start + 300) (d .asked + 1) ds
 
-tests : Example → List Did → List Step → List Bool
-tests e ds steps =
-    let d = e .lists in
+-- the premises that are tested, in their order
+unfoldable pub premiseTests : Lists → List Did → List Step → List Bool
+premiseTests d ds steps =
     let mode = theMode d in
     let past = pastOf d steps in
     let since = sinceOf d steps in
     let m = modelAfter mode freshModel past in
-    let fs = follows d ds in
-    let k = synchronizedAfter mode fs in
-    -- 0: the premises
-    leb (d .openA) (d .start)
-    ∷ noBurst (between (d .openA) (d .start) (d .start + 300) ds)
+    noBurst (between (d .openA) (d .start) (d .start + 300) ds)
     ∷ leb (d .start + 300) (d .asked)
     ∷ ltb (d .asked) (d .openA + length ds)
     ∷ ltb (d .asked) (d .openB + msIn steps)
@@ -173,20 +169,28 @@ tests e ds steps =
     ∷ offersNone since
     ∷ same (between (d .openB) (d .start + 260) (d .asked + 1) (heardIn steps))
     (between (d .openA) (d .start + 260) (d .asked + 1) (sentIn ds))
-    -- 12: and what follows
-    ∷ endsIdle fs
-    ∷ same (takenIn (take k fs)) (e .before)
-    ∷ same (normalForm (theAlphabet d) (takenIn (drop k fs))) (e .words)
     ∷ []
 
+-- and behind them, from 11 on, what follows
+tests : Example → List Did → List Step → List Bool
+tests e ds steps =
+    let d = e .lists in
+    let fs = follows d ds in
+    let k = synchronizedAfter (theMode d) fs in
+    premiseTests d ds steps
+    ++ (endsIdle fs
+    ∷ same (takenIn (take k fs)) (e .before)
+    ∷ same (normalForm (theAlphabet d) (takenIn (drop k fs))) (e .words)
+    ∷ [])
+
 -- the steps of both, by their models
-abbrev modelA : Lists → List Step
+abbrev pub modelA : Lists → List Step
 modelA d = modelSteps (theMode d) freshModel (d .callsA)
 
-abbrev modelB : Lists → List Step
+abbrev pub modelB : Lists → List Step
 modelB d = modelSteps (theMode d) freshModel (d .callsB)
 
-abbrev didsOf : Lists → List Did
+abbrev pub didsOf : Lists → List Did
 didsOf d = does (theMode d) freshModel (modelA d)
 
 abbrev Passes : Example → Type 0
@@ -210,41 +214,40 @@ module _ (e : Example) (c : Passes e) where
       ∙ ap length (own-heard (theMode d) (stepsA d) freshModel)
 
   premises : Premises d
-  unfolding tests frontMs
+  unfolding tests premiseTests frontMs
   premises =
       let steps = stepsB d in
       let since = front-back (sinceMs d) (backMs (pastMs d) steps) in
       record {
-        opened-A = leb-true _ _ (fact 0);
-        idle-A = no-burst-by _ (fact 1);
-        later = leb-true _ _ (fact 2);
-        run-A = subst (λ (n : ℕ). d .asked < d .openA + n) dids-length (ltb-true _ _ (fact 3));
-        run-B = ltb-true _ _ (fact 4);
-        opened-B = leb-true _ _ (fact 5);
+        idle-A = no-burst-by _ (fact 0);
+        later = leb-true _ _ (fact 1);
+        run-A = subst (λ (n : ℕ). d .asked < d .openA + n) dids-length (ltb-true _ _ (fact 2));
+        run-B = ltb-true _ _ (fact 3);
+        opened-B = leb-true _ _ (fact 4);
         past = pastOf d steps;
         since = sinceOf d steps;
         beyond = beyondOf d steps;
         cut = front-back (pastMs d) steps ∙ ap (λ (l : List Step). pastOf d steps ++ l) since;
-        past-ms = eqb-true _ _ (fact 6);
-        since-ms = eqb-true _ _ (fact 7);
+        past-ms = eqb-true _ _ (fact 5);
+        since-ms = eqb-true _ _ (fact 6);
         from-opening = λ h. let none : pastMs d ≡ 0 = omega arith in ap (λ (n : ℕ). frontMs n steps) none;
-        none-waits = same-by _ [] (fact 8);
-        idle-B = no-burst-by _ (fact 9);
-        offers-none = none-by _ (fact 10);
+        none-waits = same-by _ [] (fact 7);
+        idle-B = no-burst-by _ (fact 8);
+        offers-none = none-by _ (fact 9);
         hears =
-            same-by _ _ (fact 11)
+            same-by _ _ (fact 10)
             ∙ ap (between (d .openA) (d .start + 260) (d .asked + 1)) (sym (sends-as-model (d .mode) (d .callsA)));
       }
 
   holds : Holds e
-  unfolding tests
+  unfolding tests premiseTests
   holds =
-      let z = ends-by (followsA d) (fact 12) in
-      let due : wordsDue d ≡ e .words = same-words _ ∙ same-by _ _ (fact 14) in
+      let z = ends-by (followsA d) (fact 11) in
+      let due : wordsDue d ≡ e .words = same-words _ ∙ same-by _ _ (fact 13) in
       record {
         premises = premises;
         ends-idle = z;
-        before-is = same-by _ _ (fact 13);
+        before-is = same-by _ _ (fact 12);
         words-are =
             demand-3 .reads d premises .text z
             ∙ ap (λ (l : List ℕ). wordsBefore d (d .start + 300 + synchronized d) ++ l) due;
@@ -253,7 +256,7 @@ module _ (e : Example) (c : Passes e) where
 -- ---- the instances
 
 passes-45 : Passes baudot45
-unfolding allTrue tests noBurst endsIdle same offersNone frontMs backMs accepts modelSteps
+unfolding allTrue tests premiseTests noBurst endsIdle same offersNone frontMs backMs accepts modelSteps
     baudot45 callsA45 line45 callsB45
     chars waiters heardIn offered mayBegin mayEnd begun codeBegins nextCode load levelOn oneGone ended closed did
     msAfter modelAfter does takenIn allAtMost sends reads signal signals normalForm synchronizes untilSynchronized
@@ -261,7 +264,7 @@ unfolding allTrue tests noBurst endsIdle same offersNone frontMs backMs accepts 
 passes-45 = refl
 
 passes-50 : Passes baudot50
-unfolding allTrue tests noBurst endsIdle same offersNone frontMs backMs accepts modelSteps
+unfolding allTrue tests premiseTests noBurst endsIdle same offersNone frontMs backMs accepts modelSteps
     baudot50 callsA50 line50 laterLine50 lastLine50 callsB50
     chars waiters heardIn offered mayBegin mayEnd begun codeBegins nextCode load levelOn oneGone ended closed did
     msAfter modelAfter does takenIn allAtMost sends reads signal signals normalForm synchronizes untilSynchronized
@@ -269,7 +272,7 @@ unfolding allTrue tests noBurst endsIdle same offersNone frontMs backMs accepts 
 passes-50 = refl
 
 passes-dtmf : Passes dtmf
-unfolding allTrue tests noBurst endsIdle same offersNone frontMs backMs accepts modelSteps
+unfolding allTrue tests premiseTests noBurst endsIdle same offersNone frontMs backMs accepts modelSteps
     dtmf callsAKeys callsBKeys
     chars waiters heardIn offered mayBegin mayEnd begun codeBegins nextCode load levelOn oneGone ended closed did
     msAfter modelAfter does takenIn allAtMost sends reads signal signals normalForm synchronizes untilSynchronized
@@ -278,7 +281,7 @@ unfolding allTrue tests noBurst endsIdle same offersNone frontMs backMs accepts 
 passes-dtmf = refl
 
 passes-edt : Passes edt
-unfolding allTrue tests noBurst endsIdle same offersNone frontMs backMs accepts modelSteps
+unfolding allTrue tests premiseTests noBurst endsIdle same offersNone frontMs backMs accepts modelSteps
     edt callsAEdt callsBEdt
     chars waiters heardIn offered mayBegin mayEnd begun codeBegins nextCode load levelOn oneGone ended closed did
     msAfter modelAfter does takenIn allAtMost sends reads signal signals normalForm synchronizes untilSynchronized

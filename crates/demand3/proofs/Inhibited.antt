@@ -48,6 +48,14 @@ module _ (mode : Mode) where
       inhibited-most steps (msBy mode begins ends m x)
       (after-most (inBurst (loadBy begins mode m .onLine)) (m .inhibitedMs) h)
 
+  -- offers change nothing about them
+  pub inhibited-same : (steps : List Told) (m : Model) → toldMs steps ≡ 0
+      → toldAfter mode m steps .inhibitedMs ≡ m .inhibitedMs
+  unfolding toldAfter toldHeard offered
+  inhibited-same [] m h = refl
+  inhibited-same (offer cs ∷ steps) m h = inhibited-same steps (offered mode cs m) h
+  inhibited-same (ms begins ends x ∷ steps) m h = absurd (omega arith)
+
   -- in no burst, the receiver is inhibited while such ms are to come, and each ms takes one of them away
   module _ (begins : Bool) (m : Model) (e : didBy mode begins m .burst ≡ false) where
     by-ms : inhibitedBy mode begins m ≡ ltb 0 (m .inhibitedMs)

@@ -4,11 +4,12 @@
 use mathlib.Core.Path.{_≡_, _∙_, refl, sym, ap, subst}
 use mathlib.Core.Bool.{Bool, true, false, cond}
 use mathlib.Core.List.{List, [], _∷_, _++_, append-assoc}
-use Prim.Native.Nat.{ℕ, suc, _+_, _-_, _≤_, _<_}
+use Prim.Native.Nat.{ℕ, suc, _+_, _-_, _≤_, _<_, min}
+use native.Mathlib.Nat.{min-eq-left}
 use native.Mathlib.Omega.{arith}
 use lib.Dec.{ltb}
-use lib.ListN.{length, take, drop, length-drop, length-map}
-use lib.Seq.{take-add, drop-at, drop-drop, take-append-le}
+use lib.ListN.{length, take, drop, take-append-drop, length-drop, length-map}
+use lib.Seq.{length-take-le, take-take, drop-drop}
 use borrow.Author.Tests.{ltb-true, ltb-false}
 use Rattle.lists.specs.Lists.{allAtMost}
 use Rattle.lists.proofs.Lists.{either, at-most-front}
@@ -26,11 +27,11 @@ use Rattle.demand3.specs.Reading.{endsSynchronizing, untilSynchronized, 
 use Rattle.demand3.specs.Reading.{NoBurst, EndsIdle}
 use Rattle.demand3.specs.Demand3.{between}
 use Rattle.demand3.proofs.Told.{Told, toldAfter, toldDoes, toldHeard, toldMs, ToldNone, toldReader, toldEvents}
-use Rattle.demand3.proofs.Cuts.{between-is, idle-left, idle-right, sent-append, heard-append, ms-append}
+use Rattle.demand3.proofs.Cuts.{between-is, between-length, idle-left, idle-right, sent-append, heard-append, ms-append}
 use Rattle.demand3.proofs.Cuts.{none-right, after-append, events-append, does-length, events-length}
 use Rattle.demand3.proofs.Cuts.{Cut, cut-after, does-cut}
 use Rattle.demand3.proofs.Core.{Reads, reads-after-idle}
-use Rattle.demand3.proofs.Inhibited.{inhibited-most, inhibited-less, told-in, events-are}
+use Rattle.demand3.proofs.Inhibited.{inhibited-most, inhibited-same, inhibited-less, told-in, events-are}
 
 -- The numbers of the first ms of A and of B, the first ms of the idle period, and the ms asked about.
 pub record Clock : Type 0 where
@@ -40,12 +41,10 @@ pub record Clock : Type 0 where
   pub asked : ℕ
 
 -- The premises, on the steps of A and of B from fresh models on. (`Premises` in specs/Demand3.antt says them of two
--- lists of calls.)
+-- lists of calls.) Of A's idle period only the last 40 ms are needed.
 pub record OneClock (mode : Mode) (t : Clock) (stepsA stepsB : List Told) : Type 0 where
-  pub opened-A : t .openA ≤ t .start
-  pub idle-A : NoBurst (between (t .openA) (t .start) (t .start + 300) (toldDoes mode freshModel stepsA))
+  pub idle-A : NoBurst (between (t .openA) (t .start + 260) (t .start + 300) (toldDoes mode freshModel stepsA))
   pub later : t .start + 300 ≤ t .asked
-  pub run-A : t .asked < t .openA + toldMs stepsA
   pub opened-B : t .openB ≤ t .start + 260
   pub past : List Told
   pub since : List Told
@@ -53,7 +52,6 @@ pub record OneClock (mode : Mode) (t : Clock) (stepsA stepsB : List Told) : Type
   pub cut : stepsB ≡ past ++ (since ++ beyond)
   pub past-ms : toldMs past ≡ t .start - t .openB
   pub since-ms : toldMs (past ++ since) ≡ t .asked + 1 - t .openB
-  pub from-opening : t .start < t .openB → past ≡ []
   pub idle-B : NoBurst (toldDoes mode (toldAfter mode freshModel past) since)
   pub offers-none : ToldNone since
   pub levels : allAtMost 16 (toldHeard stepsB) ≡ true
@@ -94,6 +92,32 @@ synchronized-most mode ds =
     either (λ (n : ℕ). n ≤ length ds) (atOnce (alphabetOf mode)) 0 (untilSynchronized mode ds) (omega arith)
     (until-most mode ds)
 
+-- as many ms from `from` on as there are up to `to`: they begin there at the latest, and reach to there
+ran-all : (first from to n : ℕ) → from < to → to - from ≡ min (to - first) n - (from - first)
+    → (first ≤ from) × (to ≤ first + n)
+ran-all first from to n h e = (omega arith, omega arith)
+
+-- B hears what A sends from the 40 ms on, so A has run each of them and each up to the ms asked about
+ran : (mode : Mode) (t : Clock) (stepsA stepsB : List Told) → OneClock mode t stepsA stepsB
+    → (t .openA ≤ t .start + 260) × (t .asked + 1 ≤ t .openA + toldMs stepsA)
+ran mode t stepsA stepsB p =
+    let from = t .start + 260 in
+    let to = t .asked + 1 in
+    let ds = toldDoes mode freshModel stepsA in
+    let later = p .later in
+    let opened = p .opened-B in
+    let all = p .since-ms in
+    let parts = ap toldMs (p .cut ∙ sym (append-assoc (p .past) (p .since) (p .beyond)))
+    ∙ ms-append (p .past ++ p .since) (p .beyond) in
+    let run : to - t .openB ≤ toldMs stepsB = omega arith in
+    let heard = between-length (t .openB) from to (toldHeard stepsB)
+    ∙ ap (λ (n : ℕ). n - (from - t .openB)) (min-eq-left run) in
+    let heards : to - t .openB - (from - t .openB) ≡ to - from = omega arith in
+    let levels = length-map ds (λ (d : Did). d .sent) ∙ does-length mode stepsA freshModel in
+    let sent = between-length (t .openA) from to (sentIn ds)
+    ∙ ap (λ (n : ℕ). min (to - t .openA) n - (from - t .openA)) levels in
+    ran-all (t .openA) from to (toldMs stepsA) (omega arith) (sym heards ∙ sym heard ∙ ap length (p .hears) ∙ sent)
+
 -- the ms of B from the start of the idle period, or from its opening, up to the 40
 abbrev earlyMs : Clock → ℕ
 earlyMs t = t .start + 260 - t .openB - (t .start - t .openB)
@@ -105,6 +129,7 @@ onMs t = t .asked + 1 - (t .start + 260)
 -- the cuts: of A's steps ahead of the 40 ms, and behind the ms asked about; of B's since the start of the idle period,
 -- ahead of the 40 ms
 module _ (mode : Mode) (t : Clock) (stepsA stepsB : List Told) (p : OneClock mode t stepsA stepsB)
+    (opened : t .openA ≤ t .start + 260)
     (a : Cut (t .start + 260 - t .openA) stepsA) (on : Cut (onMs t) (a .back)) (b : Cut (earlyMs t) (p .since)) where
   -- ---- A: what it does in each part
   abbrev modelA : Model
@@ -132,23 +157,21 @@ module _ (mode : Mode) (t : Clock) (stepsA stepsB : List Told) (p : OneClock mod
   idle-forty : NoBurst (take 40 onDids)
   idle-forty =
       let later = p .later in
-      let opened = p .opened-A in
       let n = past-length in
       let m = on-length in
-      let ds = toldDoes mode freshModel stepsA in
-      let rest = drop (t .start - t .openA) ds in
-      let all : t .start + 300 - t .start ≡ 260 + 40 = omega arith in
-      let on-is : drop 260 rest ≡ onDids ++ beyondDids =
-      drop-drop 260 (t .start - t .openA) ds ∙ ap (drop (t .start - t .openA + 260)) dids-are
-      ∙ drop-at pastDids (onDids ++ beyondDids) (t .start - t .openA + 260) (omega arith) in
-      let parts = ap (λ (k : ℕ). take k rest) all ∙ take-add 260 40 rest in
-      let forty = ap (take 40) on-is ∙ take-append-le 40 onDids beyondDids (omega arith) in
-      subst NoBurst forty (idle-right (take 260 rest) (take 40 (drop 260 rest)) (subst NoBurst parts (p .idle-A)))
+      let forty = length-take-le 40 onDids (omega arith) in
+      let parted = sym (append-assoc (take 40 onDids) (drop 40 onDids) beyondDids)
+      ∙ ap (λ (ds : List Did). ds ++ beyondDids) (take-append-drop 40 onDids) in
+      let parts = dids-are ∙ ap (λ (ds : List Did). pastDids ++ ds) (sym parted) in
+      subst NoBurst
+      (ap (between (t .openA) (t .start + 260) (t .start + 300)) parts
+      ∙ between-is (t .openA) (t .start + 260) (t .start + 300) 0 pastDids (take 40 onDids)
+      (drop 40 onDids ++ beyondDids) (omega arith) (omega arith))
+      (p .idle-A)
 
   follows-is : followsIn mode t stepsA ≡ drop 40 onDids
   follows-is =
       let later = p .later in
-      let opened = p .opened-A in
       let n = past-length in
       let m = on-length in
       ap (between (t .openA) (t .start + 300) (t .asked + 1)) dids-are
@@ -159,6 +182,7 @@ module _ (mode : Mode) (t : Clock) (stepsA stepsB : List Told) (p : OneClock mod
   sent-is =
       let parts = ap sentIn dids-are ∙ sent-append pastDids (onDids ++ beyondDids)
       ∙ ap (λ (l : List ℕ). sentIn pastDids ++ l) (sent-append onDids beyondDids) in
+      let later = p .later in
       let n = length-map pastDids (λ (d : Did). d .sent) ∙ past-length in
       let m = length-map onDids (λ (d : Did). d .sent) ∙ on-length in
       ap (between (t .openA) (t .start + 260) (t .asked + 1)) parts
@@ -238,8 +262,10 @@ module _ (mode : Mode) (t : Clock) (stepsA stepsB : List Told) (p : OneClock mod
     where
       by-opening : (c : Bool) → ltb (t .start) (t .openB) ≡ c → toldAfter mode pastB (b .front) .inhibitedMs ≤ 40
       by-opening true e =
-          let none = p .from-opening (ltb-true (t .start) (t .openB) e) in
-          inhibited-less mode (b .front) pastB 40 idle-early (rw none (omega arith))
+          let k = ltb-true (t .start) (t .openB) e in
+          let past = p .past-ms in
+          let none = inhibited-same mode (p .past) freshModel (omega arith) in
+          inhibited-less mode (b .front) pastB 40 idle-early (omega arith)
       by-opening false e =
           let k = ltb-false (t .start) (t .openB) e in
           let n = b .front-ms in
@@ -268,9 +294,10 @@ module _ (mode : Mode) (t : Clock) (stepsA stepsB : List Told) (p : OneClock mod
       ap (between (t .openB) from (t .asked + 1)) parts
       ∙ between-is (t .openB) from (t .asked + 1) (40 + k) frontEvents onEvents beyond (omega arith) (omega arith)
       ∙ sym (drop-drop k 40 onEvents) in
-      let sum : t .asked + 1 - t .openB ≡ from - t .openB + (t .asked + 1 - from) = omega arith in
-      ap (λ (i : ℕ). wordsOf (take i es)) sum
-      ∙ ap wordsOf (take-add (from - t .openB) (t .asked + 1 - from) es)
+      let to = t .asked + 1 - t .openB in
+      let parted = ap (λ (l : List Event). l ++ between (t .openB) from (t .asked + 1) es)
+      (sym (take-take (from - t .openB) to es (omega arith))) ∙ take-append-drop (from - t .openB) (take to es) in
+      ap wordsOf (sym parted)
       ∙ words-append (take (from - t .openB) es) (between (t .openB) from (t .asked + 1) es)
       ∙ ap (λ (l : List Event). wordsOf (take (from - t .openB) es) ++ wordsOf l) rest
 
@@ -318,9 +345,10 @@ module _ (mode : Mode) (t : Clock) (stepsA stepsB : List Told) (p : OneClock mod
 pub reads-on : (mode : Mode) (t : Clock) (stepsA stepsB : List Told) → OneClock mode t stepsA stepsB
     → ReadsOn mode t stepsB (followsIn mode t stepsA)
 reads-on mode t stepsA stepsB p =
-    let opened = p .opened-A in
+    let r = ran mode t stepsA stepsB p in
+    let opened = r .0 in
     let later = p .later in
-    let run = p .run-A in
+    let run = r .1 in
     let a = cut-after (t .start + 260 - t .openA) stepsA (omega arith) in
     let rest = a .all-ms in
     let on = cut-after (onMs t) (a .back) (omega arith) in
@@ -329,4 +357,4 @@ reads-on mode t stepsA stepsB p =
     let all = p .since-ms in
     let past = p .past-ms in
     let b = cut-after (earlyMs t) (p .since) (omega arith) in
-    reads-cut mode t stepsA stepsB p a on b
+    reads-cut mode t stepsA stepsB p opened a on b

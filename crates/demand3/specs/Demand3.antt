@@ -59,22 +59,27 @@ heardB d = heardIn (stepsB d)
 abbrev pub wordsBefore : Lists → ℕ → List ℕ
 wordsBefore d t = wordsBy (opened (d .mode)) (upTo (opened (d .mode)) (d .callsB) (t - d .openB))
 
--- Of a list with one entry for each ms from `first` on: the entries of the ms from `from` on and before `to`.
+-- Of a list with one entry for each ms from `first` on: the entries of the ms from `from` on and before `to`. Those
+-- before `first` have none.
 abbrev pub between : {X : Type 0} → ℕ → ℕ → ℕ → List X → List X
-between first from to xs = take (to - from) (drop (from - first) xs)
+between first from to xs = drop (from - first) (take (to - first) xs)
+
+-- D3: "the last 40 ms of a rest of 300 ms". The first of them.
+abbrev pub lastForty : Lists → ℕ
+lastForty d = d .start + 260
 
 -- D3: "The premises". 01: "Waiting, bursts and codes in demand 3 are the book's". No line says what B heard before the
 -- 40 ms, D3: "however the line spoiled all that B heard".
 pub record Premises (d : Lists) : Type 0 where
-  -- D3: "a rest of 300 ms on A's sending". 01: "300 ms in a row in which a station is in no burst".
-  pub opened-A : d .openA ≤ d .start
+  -- D3: "a rest of 300 ms on A's sending". 01: "300 ms in a row in which a station is in no burst"; "Either may be
+  -- opened at any ms": A is in none in those of them that it has run.
   pub idle-A : NoBurst (between (d .openA) (d .start) (d .start + 300) (didsA d))
-  -- D3: "every later millisecond that both have run"
+  -- D3: "every later millisecond that both have run". (That both have follows from `since-ms` and `hears`.)
   pub later : d .start + 300 ≤ d .asked
   pub run-A : d .asked < d .openA + msIn (stepsA d)
   pub run-B : d .asked < d .openB + msIn (stepsB d)
   -- 01: "B at the latest at the first of the 40"
-  pub opened-B : d .openB ≤ d .start + 260
+  pub opened-B : d .openB ≤ lastForty d
   -- D3: "from the start of the rest". B's steps before that, from there up to the ms asked about, and beyond it.
   pub past : List Step
   pub since : List Step
@@ -82,7 +87,7 @@ pub record Premises (d : Lists) : Type 0 where
   pub cut : stepsB d ≡ past ++ (since ++ beyond)
   pub past-ms : msIn past ≡ d .start - d .openB
   pub since-ms : msIn (past ++ since) ≡ d .asked + 1 - d .openB
-  -- 01: "if the rest began earlier, B's premises hold from its opening"
+  -- 01: "if the rest began earlier, B's premises hold from its opening". (The proof does not need it.)
   pub from-opening : d .start < d .openB → past ≡ []
   -- D3: "B has nothing waiting"; with no character offered, nothing waits later either. (The proof does not need it.)
   pub none-waits : modelAfter (theMode d) freshModel past .waiting ≡ []
@@ -90,9 +95,10 @@ pub record Premises (d : Lists) : Type 0 where
   pub idle-B : NoBurst (does (theMode d) (modelAfter (theMode d) freshModel past) since)
   -- D3: "no offer to it that holds a character succeeds"
   pub offers-none : OffersNone since
-  -- D3: "from those 40 ms on B hears exactly what A sends". 01: "up to the one asked about".
-  pub hears : between (d .openB) (d .start + 260) (d .asked + 1) (heardB d)
-      ≡ between (d .openA) (d .start + 260) (d .asked + 1) (sentA d)
+  -- D3: "from those 40 ms on B hears exactly what A sends". 01: "up to the one asked about"; "where A has run no such
+  -- ms, it does not": the lists are equally long, so A has run each of the 40.
+  pub hears : between (d .openB) (lastForty d) (d .asked + 1) (heardB d)
+      ≡ between (d .openA) (lastForty d) (d .asked + 1) (sentA d)
 
 -- 01: "what A takes after the rest". What A's model does from there up to the ms asked about.
 abbrev pub followsA : Lists → List Did
@@ -124,19 +130,20 @@ SendsAsModel = (mode : ℕ) (calls : List Call)
     → sentBy (opened mode) calls ≡ sentIn (does (modeOf mode) freshModel (stepsBy (opened mode) calls))
 
 -- 01: a list's words are "the same if such a run is cut in two"; and so are its sent ms and the steps of its model. In
--- place of a run that succeeds after some calls: the run on its first ms, and the run on the others, with slices that
--- are long enough.
+-- place of a run that succeeds after some calls: the run on its first ms, and the run on the others, each with any
+-- slices that are long enough.
 pub record Same (cs ds : List Call) (mode : ℕ) : Type 0 where
   pub same-words : wordsBy (opened mode) cs ≡ wordsBy (opened mode) ds
   pub same-sent : sentBy (opened mode) cs ≡ sentBy (opened mode) ds
   pub same-steps : stepsBy (opened mode) cs ≡ stepsBy (opened mode) ds
 
 abbrev pub CutInTwo : Type 0
-CutInTwo = (mode : ℕ) (past next : List Call) (xs ys sent words sent′ words′ : List ℕ)
+CutInTwo = (mode : ℕ) (past next : List Call) (xs ys sent words sent1 words1 sent2 words2 : List ℕ)
     → succeeds (leftBy (opened mode) past) (RunCall (xs ++ ys) sent words) ≡ true
-    → length ys ≤ length sent′ → length ys ≤ length words′
+    → length xs ≤ length sent1 → length xs ≤ length words1
+    → length ys ≤ length sent2 → length ys ≤ length words2
     → Same (past ++ (RunCall (xs ++ ys) sent words ∷ next))
-    (past ++ (RunCall xs sent words ∷ RunCall ys sent′ words′ ∷ next)) mode
+    (past ++ (RunCall xs sent1 words1 ∷ RunCall ys sent2 words2 ∷ next)) mode
 
 -- D3: "taking the normal form twice equals taking it once", in every mode.
 abbrev pub NormalTwice : Type 0
