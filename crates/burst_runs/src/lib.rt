@@ -85,7 +85,7 @@ pub fn codes(
         let l = burst::code_begins(a, line, sender, sends);
         let begins = l.line;
         let code = begins.code;
-        signal_runs::put_whole(mode, code, sent, at);
+        signal_codes::put_whole(mode, code, sent, at);
         let ms = signal::duration(mode, code);
         taken = taken_after(l.takes, taken);
         sender = l.sender;

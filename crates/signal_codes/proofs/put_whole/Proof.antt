@@ -1,8 +1,8 @@
 -- `put_whole` meets its contract, by the mode.
 use borrow.Author.Needs.{needs}
 use Rattle.signal.specs.Signal.{signal}
-use Rattle.signal_runs.proofs.put_whole.Statement.{statement}
-use Rattle.signal_runs.proofs.put_whole.Tie as tie
+use Rattle.signal_codes.proofs.put_whole.Statement.{statement}
+use Rattle.signal_codes.proofs.put_whole.Tie as tie
 
 enum-told : tie.Need-enum-told
 enum-told c = search needs

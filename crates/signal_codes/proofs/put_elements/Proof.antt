@@ -2,10 +2,10 @@
 use native.Mathlib.Omega.{arith}
 use borrow.Author.Needs.{needs}
 use Rattle.signal.specs.Signal.{digits, held}
 use Rattle.signal_runs.proofs.Filling.{Writing, writing-start}
-use Rattle.signal_runs.proofs.Elements.{digit-fits, digit-written, digits-end}
-use Rattle.signal_runs.proofs.put_elements.Statement.{statement}
-use Rattle.signal_runs.proofs.put_elements.Tie as tie
+use Rattle.signal_codes.proofs.WholeCodes.{digit-fits, digit-written, digits-end}
+use Rattle.signal_codes.proofs.put_elements.Statement.{statement}
+use Rattle.signal_codes.proofs.put_elements.Tie as tie
 
 abbrev Inv-loop : tie.InvT-loop
 Inv-loop number count ms sent₀ from rest₀ left₀ i₀ sent rest left i =

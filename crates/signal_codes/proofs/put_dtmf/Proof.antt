@@ -6,9 +6,9 @@ use lib.ListN.{length}
 use Rattle.alphabet.specs.Dtmf.{keysOf}
 use Rattle.signal.specs.Signal.{signal}
 use Rattle.signal.proofs.Lengths.{dtmf-120, four-keys}
-use Rattle.signal_runs.proofs.Elements.{Keying, keying-start, keying-turn, keying-end}
-use Rattle.signal_runs.proofs.put_dtmf.Statement.{statement}
-use Rattle.signal_runs.proofs.put_dtmf.Tie as tie
+use Rattle.signal_codes.proofs.WholeCodes.{Keying, keying-start, keying-turn, keying-end}
+use Rattle.signal_codes.proofs.put_dtmf.Statement.{statement}
+use Rattle.signal_codes.proofs.put_dtmf.Tie as tie
 
 abbrev Inv-loop : tie.InvT-loop
 Inv-loop code sent₀ from end i₀ k₀ sent i k = Keying (keysOf (code .0)) sent₀ from sent i k

@@ -2,9 +2,9 @@
 use native.Mathlib.Omega.{arith}
 use borrow.Author.Needs.{needs}
 use Rattle.signal.proofs.Lengths.{baudot-length}
-use Rattle.signal_runs.proofs.Elements.{digits-ms, baudot-written}
-use Rattle.signal_runs.proofs.put_baudot.Statement.{statement}
-use Rattle.signal_runs.proofs.put_baudot.Tie as tie
+use Rattle.signal_codes.proofs.WholeCodes.{digits-ms, baudot-written}
+use Rattle.signal_codes.proofs.put_baudot.Statement.{statement}
+use Rattle.signal_codes.proofs.put_baudot.Tie as tie
 
 -- after the start, after the five elements, after the stop
 abbrev start : tie.After-slice-known2 → tie.After-fill-ms

@@ -2,9 +2,9 @@
 use native.Mathlib.Omega.{arith}
 use borrow.Author.Needs.{needs}
 use Rattle.signal.proofs.Lengths.{edt-100}
-use Rattle.signal_runs.proofs.Elements.{digits-ms, edt-written}
-use Rattle.signal_runs.proofs.put_edt.Statement.{statement}
-use Rattle.signal_runs.proofs.put_edt.Tie as tie
+use Rattle.signal_codes.proofs.WholeCodes.{digits-ms, edt-written}
+use Rattle.signal_codes.proofs.put_edt.Statement.{statement}
+use Rattle.signal_codes.proofs.put_edt.Tie as tie
 
 -- after the start, after the seven elements, with the parity's level, after the parity
 abbrev entry : tie.After-fill-ms → tie.Start
