@@ -208,7 +208,8 @@ dtmf-sent c = either CodeSent (eqb c 0x00) Nothing _ tt (in-rows c _ remaining (
     all : AllCodes remaining
     all = rows-codes [] (rows b1)
 
-    by-b2 : (b : Bool) → hasRow s remaining ≡ b → CodeSent (cond b (Code 3 (record { 0 = codeOfKeys (keys s) })) Nothing)
+    by-b2 : (b : Bool) → hasRow s remaining ≡ b
+        → CodeSent (cond b (Code 3 (record { 0 = codeOfKeys (keys s) })) Nothing)
     by-b2 true e = row-code s remaining all e
     by-b2 false e = tt
 

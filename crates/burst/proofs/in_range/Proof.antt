@@ -25,7 +25,8 @@ returns-3 : tie.Need-returns-3
 returns-3 c =
     let e = c .before .before in
     let k = e .before .code-in in
-    simp (le-leb _ 2 (e .before .before .if1 .left), sym (k .ensures) ∙ not-false (k .result) (e .if2 .left), c .before .part-ms .ensures)
+    let good = sym (k .ensures) ∙ not-false (k .result) (e .if2 .left) in
+    simp (le-leb _ 2 (e .before .before .if1 .left), good, c .before .part-ms .ensures)
 
 pub in-range-spec : {M : Type 1} → statement M
 in-range-spec = tie.close (tie.spec returns code-in-requires returns-2 part-ms-requires returns-3)
