@@ -260,22 +260,32 @@ uint8_t cq_calling_run(cq_calling *state, const uint8_t *tones, size_t tones_len
 /*
  * A station, which the host keeps: make it with cq_station_open, and let nothing but cq_station_offer and
  * cq_station_run change it. It holds no pointer, so it may be copied, moved and stored. The fields are
- * listed with their ranges, since each entry asks for them first; only `waiting` is of use to a host.
+ * listed with their ranges, since each entry asks for them first; only `waiting` is of use to a host. Where
+ * four numbers are given, they are those of modes 1 to 4.
+ *
+ * The ms of a part, which bound `at`:
+ *   0, in no burst   0
+ *   1, the preamble  150, 150, 0, 300
+ *   2, a code        165, 150, 120 for each key of the code, 100
+ *
+ * A DTMF code is 16 times its prefix, 0 to 14, plus the key of its digit, 1 to 10: 150 codes. The prefix is 0
+ * where there is none; a * behind prefix p makes it 2p + 1, a # 2p + 2. So a code has one key with prefix 0,
+ * two with 1 and 2, three with 3 to 6 and four with 7 to 14; and `at` is at most 120, 240, 360 or 480.
  */
 typedef struct cq_on_line {
-    uint16_t at;  /* ms of the part that are sent, at most those that the part has */
+    uint16_t at;  /* ms of the part that are sent, 0 to those that the part has */
     uint8_t part; /* 0 in no burst, 1 the preamble, 2 a code */
-    uint8_t code; /* the code: below 32 in Baudot, 128 in EDT; in DTMF any, 16 times the prefix and the digit's key */
+    uint8_t code; /* 0 to 31 in Baudot; 0 to 127 in EDT; in DTMF one of the 150, and with part 0 or 1 also 0 */
 } cq_on_line;
 
 typedef struct cq_sender {
-    uint8_t shift; /* CQ_SHIFT_FRESH, CQ_SHIFT_LETTERS or CQ_SHIFT_FIGURES */
+    uint8_t shift; /* CQ_SHIFT_FRESH, CQ_SHIFT_LETTERS or CQ_SHIFT_FIGURES: 0 to 2 */
     uint8_t count; /* characters since the last shift code, 0 to 72 */
 } cq_sender;
 
 typedef struct cq_frame {
     uint8_t place;  /* 0 hunting, 1 waiting after a fault, m + 1 before ms m of a frame; at most 144, 131, 1, 96 */
-    uint8_t digits; /* those sampled so far; below 32, 32, 1, 128 in modes 1 to 4 */
+    uint8_t digits; /* those sampled so far; at most 31, 31, 0, 127 */
 } cq_frame;
 
 typedef struct cq_keys {
@@ -287,8 +297,8 @@ typedef struct cq_keys {
 typedef struct cq_reader {
     cq_frame frame; /* in Baudot and EDT */
     cq_keys keys;   /* in DTMF */
-    uint8_t shift;  /* CQ_SHIFT_LETTERS or CQ_SHIFT_FIGURES */
-    uint8_t prefix; /* the * and # ahead of a digit, 0 to 15 */
+    uint8_t shift;  /* CQ_SHIFT_LETTERS or CQ_SHIFT_FIGURES: 1 or 2 */
+    uint8_t prefix; /* the * and # ahead of a digit, 0 to 14; 15 for more than three */
 } cq_reader;
 
 typedef struct cq_core {
@@ -303,7 +313,9 @@ typedef struct cq_core {
 
 typedef struct cq_station {
     cq_core core;
-    uint8_t chars[CQ_STATION_WAITING_MAX]; /* those waiting, the front one first; each sends something */
+    /* Those waiting, the front one first: each 00 to 7F, and sends something in the mode (docs/ANNEXES.md lists
+     * those that do not). Behind them anything may stand. */
+    uint8_t chars[CQ_STATION_WAITING_MAX];
 } cq_station;
 
 /* What cq_station_run gives back. */

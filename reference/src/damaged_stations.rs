@@ -2,17 +2,17 @@
 //! beyond, and random ones that no list of calls leads to. What a number of the struct stands for is
 //! the header's; how far it goes is derived here from document 01. Part of `differential`.
 
-use crate::engine::Station;
+use crate::engine::{OnLine, Station};
 use reference::annex::{FIGURES, LETTERS};
 use reference::answer::{STATE, SUCCESS};
 use reference::baudot::REPEAT;
 use reference::demand3::Entries;
-use reference::line::{KEYS, PREFIXES};
+use reference::line::{Code, KEYS, PREFIXES, QUIET};
 use reference::mode::Mode;
 use reference::normal::Alphabet;
 use reference::random::Random;
 use reference::reader::{FAULT, IN_A_ROW};
-use reference::station::{Ran, FREE, INHIBITED, MOST_MS, MOST_WAITING};
+use reference::station::{Part, Ran, FREE, INHIBITED, MOST_MS, MOST_WAITING};
 use std::process::exit;
 use std::sync::LazyLock;
 
@@ -24,33 +24,61 @@ const CODE_PART: u8 = 2;
 const FIVE_BITS: usize = 1 << 5;
 const SEVEN_BITS: usize = 1 << 7;
 
+/// The number of a DTMF code is this many times the place of its marks among all prefixes, plus the
+/// digit's key: the header.
+const PREFIX: usize = 16;
+
 /// Behind the prefixes of up to three marks one value stands for those of more: document 01, "DTMF
 /// alphabet (Annex B)", sentences 2 and 9.
 const PREFIX_TOO_LONG: usize = PREFIXES.len();
 
+/// The digits are the first of the keys.
+const DIGITS: usize = 10;
+
 /// The most ms of a key that has not counted yet: document 01, "Line signal", reading DTMF.
 const KEY_NOT_COUNTED: u8 = IN_A_ROW - 1;
 
-/// The ms of a part on the line; the code of a DTMF station is 16 times the prefix, plus a key, and
-/// prefix 15 stands for no keys.
-fn part_length(mode: Mode, part: u8, code: u8) -> usize {
-    match part {
-        0 => 0,
-        1 => usize::from(mode.preamble()),
-        _ if mode == Mode::Dtmf => {
-            let prefix = [0, 1, 1, 2, 2, 2, 2, 3, 3, 3, 3, 3, 3, 3, 3, 0][usize::from(code / 16)];
-            (prefix + 1) * mode.code_length()
+/// The code of a number: five bits; zero to three marks and one digit; seven bits.
+fn code_of(mode: Mode, number: u8) -> Option<Code> {
+    let n = usize::from(number);
+    match mode {
+        Mode::Baudot45 | Mode::Baudot50 => (n < FIVE_BITS).then_some(Code::FiveBits(number)),
+        Mode::Dtmf => {
+            let prefix = PREFIXES.get(n / PREFIX)?;
+            let digit = KEYS.chars().nth((n % PREFIX).checked_sub(1)?)?;
+            digit.is_ascii_digit().then(|| Code::Keys(format!("{prefix}{digit}")))
         }
-        _ => mode.code_length(),
+        Mode::Edt => (n < SEVEN_BITS).then_some(Code::SevenBits(number)),
     }
 }
 
-/// How many codes the line has, and how many values the digits of a frame.
-fn codes(mode: Mode) -> (usize, usize) {
+/// The part of these numbers, if they are in range; where it is no code, that number may be 0.
+fn part_of(mode: Mode, part: u8, code: u8) -> Option<Part> {
+    let found = code_of(mode, code);
+    match part {
+        0 if code == 0 || found.is_some() => Some(Part::Idle),
+        1 if code == 0 || found.is_some() => Some(Part::Preamble),
+        2 => found.map(Part::Code),
+        _ => None,
+    }
+}
+
+/// The ms of a part on the line; none if there is no such part.
+fn part_length(mode: Mode, part: Option<Part>) -> usize {
+    match part {
+        None | Some(Part::Idle) => 0,
+        Some(Part::Preamble) => usize::from(mode.preamble()),
+        Some(Part::Code(Code::Keys(keys))) => keys.len() * mode.code_length(),
+        Some(Part::Code(_)) => mode.code_length(),
+    }
+}
+
+/// The highest number of a code, and the highest value of the digits of a frame.
+fn highest_codes(mode: Mode) -> (usize, usize) {
     match mode {
-        Mode::Baudot45 | Mode::Baudot50 => (FIVE_BITS, FIVE_BITS),
-        Mode::Dtmf => (256, 1),
-        Mode::Edt => (SEVEN_BITS, SEVEN_BITS),
+        Mode::Baudot45 | Mode::Baudot50 => (FIVE_BITS - 1, FIVE_BITS - 1),
+        Mode::Dtmf => ((PREFIXES.len() - 1) * PREFIX + DIGITS, 0),
+        Mode::Edt => (SEVEN_BITS - 1, SEVEN_BITS - 1),
     }
 }
 
@@ -81,19 +109,18 @@ pub fn in_range(station: &Station) -> bool {
         return false;
     };
     let (core, reader) = (&station.core, &station.core.reader);
-    let (line_codes, frame_codes) = codes(mode);
+    let part = part_of(mode, core.line.part, core.line.code);
     let sends = sends(mode);
     usize::from(core.waiting) <= MOST_WAITING
         && station.chars[..usize::from(core.waiting)].iter().all(|&c| sends[usize::from(c)])
         && core.silence <= FREE
         && core.inhibited <= INHIBITED
-        && core.line.part <= CODE_PART
-        && usize::from(core.line.code) < line_codes
-        && usize::from(core.line.at) <= part_length(mode, core.line.part, core.line.code)
+        && part.is_some()
+        && usize::from(core.line.at) <= part_length(mode, part)
         && core.sender.shift <= FIGURES
         && core.sender.count <= REPEAT
         && usize::from(reader.frame.place) <= last_place(mode)
-        && usize::from(reader.frame.digits) < frame_codes
+        && usize::from(reader.frame.digits) <= highest_codes(mode).1
         && usize::from(reader.keys.key) <= KEYS.len()
         && reader.keys.ms <= KEY_NOT_COUNTED
         && reader.keys.needed <= IN_A_ROW
@@ -131,18 +158,18 @@ fn set(station: &mut Station, field: usize, value: u16) {
 /// The least and the most value of a number in a station that is in range but for it.
 fn range(station: &Station, mode: Mode, field: usize) -> (u16, u16) {
     let line = &station.core.line;
-    let (line_codes, frame_codes) = codes(mode);
+    let (line_code, frame_code) = highest_codes(mode);
     let most = match field {
         0 => MOST_WAITING,
         1 => usize::from(FREE),
         2 => usize::from(INHIBITED),
-        3 => part_length(mode, line.part, line.code),
+        3 => part_length(mode, part_of(mode, line.part, line.code)),
         4 => usize::from(CODE_PART),
-        5 => line_codes - 1,
+        5 => line_code,
         6 | 13 => usize::from(FIGURES),
         7 => usize::from(REPEAT),
         8 => last_place(mode),
-        9 => frame_codes - 1,
+        9 => frame_code,
         10 => KEYS.len(),
         11 => usize::from(KEY_NOT_COUNTED),
         12 => usize::from(IN_A_ROW),
@@ -191,6 +218,10 @@ fn random_station(random: &mut Random, mode: Mode) -> Station {
             _ => least + random.below(usize::from(most - least) + 1) as u16,
         };
         set(&mut station, field, value);
+        while field == 5 && part_of(mode, station.core.line.part, station.core.line.code).is_none()
+        {
+            set(&mut station, field, random.below(usize::from(most) + 1) as u16);
+        }
     }
     if random.one_in(2) {
         station.core.waiting = station.core.waiting.min(3);
@@ -220,6 +251,7 @@ struct Tried {
 pub fn check(random: &mut Random, number: usize) -> String {
     let mut tried = Tried::default();
     for mode in Mode::ALL {
+        every_part(random, mode, &mut tried);
         for _ in 0..20 {
             ends(random, mode, &mut tried);
         }
@@ -240,6 +272,21 @@ pub fn check(random: &mut Random, number: usize) -> String {
     format!("damaged stations: each refused, {bad}; in range, each ran, {good}")
 }
 
+/// A fresh station with every part and code on the line: at its start, over and beyond.
+fn every_part(random: &mut Random, mode: Mode, tried: &mut Tried) {
+    let mut station = Station::open(mode.number()).1;
+    let mut codes = 0;
+    for (part, code) in (0..=3).flat_map(|part| (0..=255).map(move |code| (part, code))) {
+        let most = part_length(mode, part_of(mode, part, code)) as u16;
+        for at in [0, most, most + 1] {
+            station.core.line = OnLine { at, part, code };
+            try_station(random, &station, tried);
+        }
+        codes += u32::from(part == 2 && part_of(mode, part, code).is_some());
+    }
+    assert_eq!(codes, [32, 32, 150, 128][usize::from(mode.number()) - 1]);
+}
+
 /// Every number of a fresh and of a random station at both ends of its range and beyond each.
 fn ends(random: &mut Random, mode: Mode, tried: &mut Tried) {
     for base in [Station::open(mode.number()).1, random_station(random, mode)] {
@@ -254,8 +301,8 @@ fn ends(random: &mut Random, mode: Mode, tried: &mut Tried) {
         for part in 0..=2 {
             let mut station = base;
             station.core.line.part = part;
-            station.core.line.code = random.below(codes(mode).0) as u8;
-            let most = part_length(mode, part, station.core.line.code) as u16;
+            station.core.line.code = random.below(highest_codes(mode).0 + 1) as u8;
+            let most = part_length(mode, part_of(mode, part, station.core.line.code)) as u16;
             for at in [0, most, most + 1] {
                 station.core.line.at = at;
                 try_station(random, &station, tried);
@@ -275,7 +322,7 @@ fn ends(random: &mut Random, mode: Mode, tried: &mut Tried) {
 }
 
 /// Asks the engine: if the station is out of range both entries must refuse it and change nothing,
-/// else both must succeed and keep it in range.
+/// else both must succeed and keep it in range, and it must send as the reference does.
 fn try_station(random: &mut Random, station: &Station, tried: &mut Tried) {
     let good = if in_range(station) { ran(random, station) } else { refused(random, station) };
     if !good {
@@ -329,9 +376,40 @@ fn ran(random: &mut Random, station: &Station) -> bool {
         && words[..count].iter().all(good_word)
         && words[count..].iter().all(|&word| word == 9)
         && play(random.below(ms + 1)) == (answers, after, sent, words, count)
+        && as_reference(mode, station, heard)
         && after.offer(b"") == SUCCESS
         && (after.core.waiting >= 256 || after.offer(b"e") == SUCCESS)
         && in_range(&after)
         && (mode.alphabet() == Alphabet::Baudot
             || after.core.reader.shift == station.core.reader.shift)
+}
+
+/// Does the station, with a fresh reader, go as the reference does from the same numbers? On a quiet
+/// line with few waiting it must come to rest, too.
+fn as_reference(mode: Mode, station: &Station, heard: &[u8]) -> bool {
+    let (core, line) = (&station.core, &station.core.line);
+    let Some(part) = part_of(mode, line.part, line.code) else {
+        return false;
+    };
+    let mut engine = *station;
+    engine.core.reader = Station::open(core.mode).1.core.reader;
+    let mut reference = reference::station::Station::forged(
+        mode,
+        [core.silence, core.inhibited],
+        [core.sender.shift, core.sender.count],
+        &part,
+        line.at,
+        &station.chars[..usize::from(core.waiting)],
+    );
+    let mut alike = |heard: &[u8]| {
+        let (mut sent, mut words) = ([[9; MOST_MS]; 2], [[9; MOST_MS]; 2]);
+        engine.run(heard, &mut sent[0], &mut words[0])
+            == reference.run(heard, &mut sent[1], &mut words[1])
+            && sent[0] == sent[1]
+            && words[0] == words[1]
+            && usize::from(engine.core.waiting) == reference.waiting()
+    };
+    alike(heard)
+        && (core.waiting > 3
+            || alike(&[QUIET; MOST_MS]) && engine.core.waiting == 0 && engine.core.line.part == 0)
 }

@@ -8,7 +8,7 @@ use crate::answer::{
     CHARACTER, DURATION, LEVEL, MODE, SENT_SLICE, SPACE, STATE, SUCCESS, WORD_SLICE,
 };
 use crate::baudot::{FRESH, REPEAT};
-use crate::line::{elements, key_number, KEY_GAP, KEY_LENGTH, MARK, QUIET};
+use crate::line::{elements, key_number, Code, KEY_GAP, KEY_LENGTH, MARK, QUIET};
 use crate::mode::Mode;
 use crate::normal::Alphabet;
 use crate::reader::{Hear, Reader};
@@ -33,12 +33,14 @@ pub struct Ran {
     pub words: usize,
 }
 
-/// The keys of a DTMF code, four bits for each, the first one lowest; 0 if nothing is sent.
+/// The keys of a DTMF code, four bits for each, the first one lowest.
+fn packed(keys: &str) -> u16 {
+    keys.chars().rev().fold(0, |packed, key| packed << 4 | u16::from(key_number(key)))
+}
+
+/// The keys that a character sends; 0 if nothing is sent.
 static KEYS_SENT: LazyLock<[u16; 128]> = LazyLock::new(|| {
-    std::array::from_fn(|character| {
-        let keys = dtmf_sends(character as u8).unwrap_or("");
-        keys.chars().rev().fold(0, |packed, key| packed << 4 | u16::from(key_number(key)))
-    })
+    std::array::from_fn(|character| packed(dtmf_sends(character as u8).unwrap_or("")))
 });
 
 static BAUDOT_SENT: [Option<Sending>; 128] = BAUDOT_SENDS;
@@ -97,6 +99,13 @@ struct Line {
     /// In frames the elements behind this one, the next lowest, below a 1; in DTMF the keys behind
     /// this one, four bits for each.
     rest: u16,
+}
+
+/// What is on the line: nothing, or a part of a burst.
+pub enum Part {
+    Idle,
+    Preamble,
+    Code(Code),
 }
 
 /// The rest of a frame, or of a preamble, behind which nothing follows.
@@ -232,6 +241,35 @@ impl Station {
         }
     }
 
+    /// A station that no list of calls need lead to: its silence and inhibited ms, its shift and
+    /// count, the part on the line with the ms of it that are sent, and those waiting. The reader
+    /// is fresh.
+    pub fn forged(
+        mode: Mode,
+        [silence, inhibited]: [u16; 2],
+        [shift, count]: [u8; 2],
+        part: &Part,
+        ms_sent: u16,
+        waiting: &[u8],
+    ) -> Station {
+        let mut station = Station::fresh(mode);
+        let mut line = match part {
+            Part::Idle => station.line,
+            Part::Preamble => Line::preamble(mode),
+            Part::Code(Code::Keys(keys)) => Line::keys(packed(keys)),
+            Part::Code(Code::FiveBits(code) | Code::SevenBits(code)) => Line::frame(mode, *code),
+        };
+        for _ in 0..ms_sent {
+            line.left -= 1;
+            if line.left == 0 {
+                line.next(mode);
+            }
+        }
+        waiting.iter().for_each(|&character| station.queue.push(character));
+        let in_burst = !matches!(part, Part::Idle);
+        Station { in_burst, silence, inhibited, sender: Sender { shift, count }, line, ..station }
+    }
+
     /// A fresh station of a mode given by its number; of mode 1 if there is no such mode.
     pub fn open(mode: u8) -> (u8, Station) {
         match Mode::from_number(mode) {
@@ -322,6 +360,13 @@ impl Station {
     fn send(&mut self, sent: &mut [u8]) -> usize {
         let mut done = 0;
         while done < sent.len() {
+            if self.line.left == 0 && self.queue.waiting == 0 {
+                // No list of calls leads here. The part is over: a quiet ms, and the burst ends.
+                sent[done] = QUIET;
+                done += 1;
+                self.end_burst();
+                break;
+            }
             if self.line.left == 0 {
                 self.begin_code();
             }
@@ -330,14 +375,18 @@ impl Station {
             self.line.left -= ms as u16;
             done += ms;
             if self.line.left == 0 && !self.line.next(self.mode) && self.queue.waiting == 0 {
-                self.in_burst = false;
-                self.inhibited = INHIBITED;
+                self.end_burst();
                 break;
             }
         }
         self.silence = FREE.min(self.silence.saturating_add(done as u16));
         self.reader.inhibited_for(done);
         done
+    }
+
+    fn end_burst(&mut self) {
+        self.in_burst = false;
+        self.inhibited = INHIBITED;
     }
 
     /// Begins the code that the front character wants next, and takes it with its own.

@@ -1,11 +1,11 @@
 -- What a ms starts with is in range, and every ms keeps what is on the line in range.
-use mathlib.Core.Path.{_≡_, refl}
-use mathlib.Core.Bool.{Bool, true, false, cond, not, _&&_, false≢true}
+use mathlib.Core.Path.{_≡_, refl, sym}
+use mathlib.Core.Bool.{Bool, true, false, cond, not, _&&_, _||_, false≢true}
 use Prim.Native.Nat.{ℕ, _+_, _<_, _≤_}
 use native.Mathlib.Omega.{arith}
 use lib.Dec.{eqb, leb, ltb}
 use lib.ListN.{length}
-use borrow.Author.Tests.{eqb-true, eqb-false, leb-true, leb-false, ltb-true, le-leb, lt-ltb, not-true}
+use borrow.Author.Tests.{eqb-true, eqb-false, leb-true, leb-false, ltb-true, ne-eqb, le-leb, not-true}
 use Rattle.lists.proofs.Lists.{either, and-left, and-right}
 use Rattle.alphabet.specs.declared.Alphabet.{Alphabet}
 use Rattle.alphabet.specs.declared.Alphabet.the-variants.{Baudot, Dtmf, Edt}
@@ -20,22 +20,42 @@ use Rattle.baudot.specs.Sending.{sender, differs, wanted, shiftCode, shifted}
 use Rattle.burst.specs.declared.OnLine.{OnLine}
 use Rattle.burst.specs.declared.Loaded.{Loaded}
 use Rattle.burst.specs.Rules.{shiftWanted, senderAfterOwn}
-use Rattle.burst.specs.Line.{onLine, further, idle, inBurst, partMs, isOver, begun, loaded, codeBegins, nextCode, oneGone, closed}
-use Rattle.burst.specs.Range.{lineIn}
+use Rattle.burst.specs.Line.{onLine, further, idle, inBurst, isCode, partMs, isOver, begun, loaded, codeBegins, nextCode, oneGone, closed}
+use Rattle.burst.specs.Range.{isCodeOf, codeIn, lineIn}
 use Rattle.baudot.specs.code.Bounds.{SenderIn}
 use Rattle.burst.specs.code.Bounds.{LineIn, SendsIn}
+use Rattle.burst.proofs.Codes.{code-few, sent-code}
 
 -- ---- question 1 in facts
+
+some-codes : (a : Alphabet) → 0 < codes a
+some-codes Baudot = omega arith
+some-codes Dtmf = omega arith
+some-codes Edt = omega arith
+
+-- a code of the alphabet, or 0 where none is on the line, is below all codes
+below-codes : (a : Alphabet) (l : OnLine) → codeIn a l ≡ true → l .code .0 < codes a
+below-codes a l = go (not (isCode l) && eqb (l .code .0) 0) refl
+  where
+    go : (b : Bool) → (not (isCode l) && eqb (l .code .0) 0) ≡ b → (b || isCodeOf a (l .code .0)) ≡ true
+        → l .code .0 < codes a
+    go true e f =
+        let z = eqb-true (l .code .0) 0 (and-right (not (isCode l)) (eqb (l .code .0) 0) e) in
+        let s = some-codes a in
+        omega arith
+    go false e f = code-few a (l .code .0) f
 
 pub line-in : (mode : Mode) (l : OnLine) → lineIn mode l ≡ true → LineIn mode l
 line-in mode l e =
     let a = leb (l .part) 2 in
-    let b = ltb (l .code .0) (codes (alphabetOf mode)) in
+    let b = codeIn (alphabetOf mode) l in
     let c = leb (l .at) (length (partMs mode l)) in
     let ab = and-left (a && b) c e in
+    let k = and-right a b ab in
     record {
       part-in = leb-true (l .part) 2 (and-left a b ab);
-      code-in = ltb-true (l .code .0) (codes (alphabetOf mode)) (and-right a b ab);
+      code-is = k;
+      code-in = below-codes (alphabetOf mode) l k;
       at-in = leb-true (l .at) (length (partMs mode l)) (and-right (a && b) c e);
     }
 
@@ -43,7 +63,7 @@ pub line-is : (mode : Mode) (l : OnLine) → LineIn mode l → lineIn mode l ≡
 line-is mode l h =
     rw (
       le-leb (l .part) 2 (h .part-in),
-      lt-ltb (l .code .0) (codes (alphabetOf mode)) (h .code-in),
+      h .code-is,
       le-leb (l .at) (length (partMs mode l)) (h .at-in),
     ) refl
 
@@ -52,11 +72,6 @@ pub record LoadedIn (mode : Mode) (x : Loaded) : Type 0 where
   pub sender-in : SenderIn (x .sender)
 
 -- ---- what characters send
-
-some-codes : (a : Alphabet) → 31 < codes a
-some-codes Baudot = omega arith
-some-codes Dtmf = omega arith
-some-codes Edt = omega arith
 
 pub sends-in : (a : Alphabet) (c : ℕ) → c < 128 → SendsIn a (sends a c)
 sends-in a c h = go (sends a c) refl
@@ -67,7 +82,7 @@ sends-in a c h = go (sends a c) refl
         let r = range-of a c h own k e in
         let l = some-shift a in
         let m = r .shift-least in
-        record { own-low = omega arith; own-in = r .shift-most; code-in = r .code-in }
+        record { own-low = omega arith; own-in = r .shift-most; code-is = sent-code a c h own k e }
 
 -- ---- the sending rule
 
@@ -110,18 +125,28 @@ module _ (s : Sender) (own : ℕ) (lo : 1 ≤ own) (hi : own ≤ 3) (i : SenderI
   own-sender-in Dtmf e = i
   own-sender-in Edt e = i
 
-shift-code-in : (a : Alphabet) (w : ℕ) → shiftCode w < codes a
-shift-code-in a w =
-    let h = some-codes a in
-    either (λ (n : ℕ). n < codes a) (eqb w 2) 0b11011 0b11111 (omega arith) (omega arith)
+shift-code-is : (a : Alphabet) (s : Sender) (own : ℕ) → eqb (shiftWanted a s own) 0 ≡ false
+    → isCodeOf a (shiftCode (shiftWanted a s own)) ≡ true
+unfolding isCodeOf
+shift-code-is Baudot s own e =
+    either (λ (n : ℕ). ltb n 32 ≡ true) (eqb (wanted s own) 2) 0b11011 0b11111 refl refl
+shift-code-is Dtmf s own e = absurd (false≢true (sym e))
+shift-code-is Edt s own e = absurd (false≢true (sym e))
 
 -- ---- what a ms starts with
 
-start-in : (mode : Mode) (part code : ℕ) → part ≤ 2 → code < codes (alphabetOf mode) → LineIn mode (onLine part code 0)
-start-in mode part code p k = record { part-in = p; code-in = k; at-in = omega arith }
+code-starts : (mode : Mode) (code : ℕ) → isCodeOf (alphabetOf mode) code ≡ true → LineIn mode (onLine 2 code 0)
+code-starts mode code k =
+    record { part-in = omega arith; code-is = k; code-in = code-few (alphabetOf mode) code k; at-in = omega arith }
 
-pub blank-in : (mode : Mode) (part : ℕ) → part ≤ 2 → LineIn mode (onLine part 0 0)
-blank-in mode part p = let h = some-codes (alphabetOf mode) in start-in mode part 0 p (omega arith)
+-- with no code on the line
+pub blank-in : (mode : Mode) (part : ℕ) → part ≤ 1 → LineIn mode (onLine part 0 0)
+blank-in mode part p = record {
+  part-in = omega arith;
+  code-is = rw (ne-eqb part 2 (λ (e : part ≡ 2). omega arith)) refl;
+  code-in = some-codes (alphabetOf mode);
+  at-in = omega arith;
+}
 
 module _ (mode : Mode) (l : OnLine) (s : Sender) (i : LineIn mode l) (j : SenderIn s) where
   pub begins-in : (x : Sends) → SendsIn (alphabetOf mode) x → LoadedIn mode (codeBegins (alphabetOf mode) l s x)
@@ -140,11 +165,11 @@ module _ (mode : Mode) (l : OnLine) (s : Sender) (i : LineIn mode l) (j : Sender
           (cond b (loaded (onLine 2 (k .0) 0) (senderAfterOwn a s) true)
           (loaded (onLine 2 (shiftCode w) 0) (shifted s w) false))
       go true e = record {
-        line-in = start-in mode 2 (k .0) (omega arith) (h .code-in);
+        line-in = code-starts mode (k .0) (h .code-is);
         sender-in = own-sender-in s own (h .own-low) (h .own-in) j a e;
       }
       go false e = record {
-        line-in = start-in mode 2 (shiftCode w) (omega arith) (shift-code-in a w);
+        line-in = code-starts mode (shiftCode w) (shift-code-is a s own e);
         sender-in = shifted-in s own (h .own-low) (h .own-in) j w (any-wanted-in s own (h .own-low) (h .own-in) j a);
       }
 
@@ -175,7 +200,7 @@ gone-in mode l i = go (ltb (l .at) (length (partMs mode l))) refl
     go : (b : Bool) → ltb (l .at) (length (partMs mode l)) ≡ b → LineIn mode (cond b (further l 1) l)
     go true e =
         let n = ltb-true (l .at) (length (partMs mode l)) e in
-        record { part-in = i .part-in; code-in = i .code-in; at-in = omega arith }
+        record { part-in = i .part-in; code-is = i .code-is; code-in = i .code-in; at-in = omega arith }
     go false e = i
 
 pub closed-in : (mode : Mode) (ends : Bool) (l : OnLine) → LineIn mode l → LineIn mode (closed mode ends l)

@@ -1,5 +1,5 @@
--- What a station has on the line, in numbers: part 0 no burst, 1 the preamble (document 01: lead), 2 a code; `at` of the
--- part's ms are sent.
+-- What a station has on the line, in numbers: part 0 no burst, 1 the preamble (document 01: lead), 2 a code; `at` of
+-- the part's ms are sent.
 use Prim.Native.Nat.{ℕ, _+_}
 use mathlib.Core.Bool.{Bool, true, false, cond, not, _&&_}
 use mathlib.Core.List.{List, []}
@@ -50,8 +50,8 @@ begun begins l = cond (begins && not (inBurst l)) (onLine 1 0 0) l
 abbrev pub loaded : OnLine → Sender → Bool → Loaded
 loaded l s takes = record { line = l; sender = s; takes = takes }
 
--- The next code: a shift code (document 01: case code), which takes none, where one is wanted ahead of the front character;
--- else that character's own code, and it is taken. (One that sends nothing never waits; it would be taken.)
+-- The next code: a shift code (document 01: case code), which takes none, where one is wanted ahead of the front
+-- character; else that character's own code, and it is taken. (One that sends nothing never waits; it would be taken.)
 unfoldable pub codeBegins : Alphabet → OnLine → Sender → Sends → Loaded
 codeBegins a l s Nothing = loaded l s true
 codeBegins a l s (Code own k) =
@@ -63,7 +63,9 @@ codeBegins a l s (Code own k) =
 -- In a burst with no ms of a part left, the next code begins in that ms.
 unfoldable pub nextCode : Mode → ℕ → ℕ → OnLine → Sender → Loaded
 nextCode mode waiting front l s =
-    cond (isOver mode l && ltb 0 waiting) (codeBegins (alphabetOf mode) l s (sends (alphabetOf mode) front)) (loaded l s false)
+    cond (isOver mode l && ltb 0 waiting)
+    (codeBegins (alphabetOf mode) l s (sends (alphabetOf mode) front))
+    (loaded l s false)
 
 -- The level that is sent: quiet outside a burst.
 unfoldable pub levelOn : Mode → OnLine → ℕ
@@ -73,9 +75,9 @@ levelOn mode l = getD (partMs mode l) (l .at) quiet
 unfoldable pub oneGone : Mode → OnLine → OnLine
 oneGone mode l = cond (ltb (l .at) (length (partMs mode l))) (further l 1) l
 
--- If the last ms of a part has come, the burst ends with that ms where it is to end. The part is a code: a burst begins
--- only with characters waiting, and its preamble takes none. In numbers that no list of calls gives, a preamble with none
--- waiting ends the burst too.
+-- If the last ms of a part has come, the burst ends with that ms where it is to end. The part is a code: a burst
+-- begins only with characters waiting, and its preamble takes none. In a station that no list of calls gives, a
+-- preamble with none waiting ends the burst too.
 abbrev pub ended : Bool → Bool → OnLine → OnLine
 ended over ends l = cond (over && ends) idle l
 

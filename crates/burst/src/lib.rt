@@ -7,11 +7,15 @@ use alphabet::Sends;
 use baudot::Sender;
 ghost use mathlib.Core.Path.{_≡_};
 ghost use Prim.Native.Nat.{_+_, _≤_, _<_};
+ghost use mathlib.Core.Bool.{not, _&&_};
+ghost use lib.Dec.{eqb};
 ghost use lib.ListN.{length};
+ghost use Rattle.alphabet.specs.declared.Alphabet.the-variants.{Dtmf as dtmf};
+ghost use Rattle.alphabet.specs.Modes.{alphabetOf};
 ghost use Rattle.baudot.specs.Sending.{wanted};
 ghost use Rattle.burst.specs.Rules.{shiftWanted, senderAfterOwn};
-ghost use Rattle.burst.specs.Line.{idle, partMs, isOver, begun, codeBegins, nextCode, levelOn, oneGone, ended, closed};
-ghost use Rattle.burst.specs.Range.{lineIn};
+ghost use Rattle.burst.specs.Line.{idle, isCode, partMs, isOver, begun, codeBegins, nextCode, levelOn, oneGone, ended, closed};
+ghost use Rattle.burst.specs.Range.{isCodeOf, codeIn, lineIn};
 ghost use Rattle.baudot.specs.code.Bounds.{SenderIn};
 ghost use Rattle.burst.specs.code.Bounds.{LineIn, SendsIn};
 
@@ -239,6 +243,51 @@ pub fn line_after(mode: Mode, ends: bool, l: OnLine) -> OnLine
     ended(is_over(mode, gone), ends, gone)
 }
 
+// A prefix of at most three marks, and the key of a digit?
+fn is_dtmf_code(code: LineCode) -> bool
+    ensures { λ r. ⌜ r ≡ isCodeOf dtmf (code .0) ⌝ }
+{
+    if 15 <= code.0 / 16 {
+        return false;
+    }
+    let digit = code.0 % 16;
+    if digit < 1 {
+        return false;
+    }
+    digit <= 10
+}
+
+// A code of the alphabet?
+fn is_code(a: Alphabet, code: LineCode) -> bool
+    ensures { λ r. ⌜ r ≡ isCodeOf a (code .0) ⌝ }
+{
+    match a {
+        Alphabet::Baudot => (code.0 as u16) < Mode::BAUDOT_CODES,
+        Alphabet::Dtmf => is_dtmf_code(code),
+        Alphabet::Edt => (code.0 as u16) < Mode::EDT_CODES,
+    }
+}
+
+// Is no code on the line, and 0 in its place?
+fn no_code(l: OnLine) -> bool
+    ensures { λ r. ⌜ r ≡ (not (isCode l) && eqb (l .code .0) 0) ⌝ }
+{
+    if l.part == CODE {
+        return false;
+    }
+    l.code.0 == 0
+}
+
+// A code of the alphabet, or none on the line?
+fn code_in(mode: Mode, l: OnLine) -> bool
+    ensures { λ r. ⌜ r ≡ codeIn (alphabetOf mode) l ⌝ }
+{
+    if no_code(l) {
+        return true;
+    }
+    is_code(mode.alphabet(), l.code)
+}
+
 // Question 1 of what is on the line.
 pub fn in_range(mode: Mode, l: OnLine) -> bool
     ensures { λ r. ⌜ r ≡ lineIn mode l ⌝ }
@@ -246,7 +295,7 @@ pub fn in_range(mode: Mode, l: OnLine) -> bool
     if CODE < l.part {
         return false;
     }
-    if mode.codes() <= l.code.0 as u16 {
+    if !code_in(mode, l) {
         return false;
     }
     l.at <= part_ms(mode, l)
