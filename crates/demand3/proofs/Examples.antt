@@ -1,51 +1,44 @@
--- The instances of demand 3: one computed test for each. The models of both are computed; which calls succeed is told
--- by them.
+-- The instances of demand 3: one computed test of the premises for each. The models of both are computed; which calls
+-- succeed is told by them.
 use mathlib.Core.Path.{_≡_, _∙_, refl, sym, ap, subst}
 use mathlib.Core.Bool.{Bool, true, false, not, _&&_, false≢true}
 use mathlib.Core.List.{List, [], _∷_, _++_}
 use Prim.Native.Nat.{ℕ, zero, suc, _+_, _-_, _<_}
 use native.Mathlib.Omega.{arith}
-use lib.ListN.{length, getD, take, drop}
+use lib.ListN.{length, getD, take}
 use lib.Dec.{eqb, leb, ltb}
 use borrow.Author.Tests.{eqb-true, leb-true, ltb-true, not-true}
 use Rattle.lists.specs.Lists.{allAtMost}
 use Rattle.lists.specs.Tables.{tabulate}
 use Rattle.lists.proofs.Lists.{and-left, and-right}
 use Rattle.alphabet.specs.Print.{leftRows, rightRows, rows, bitsFrom, bits, keys}
-use Rattle.alphabet.specs.TableA1.{a1}
 use Rattle.alphabet.specs.TableA2.{a2}
 use Rattle.alphabet.specs.TableB1.{b1}
 use Rattle.alphabet.specs.TableB2.{b2}
-use Rattle.alphabet.specs.Baudot.{printedAt, readBaudot, sendBaudot}
+use Rattle.alphabet.specs.Baudot.{printedAt, sendBaudot}
 use Rattle.alphabet.specs.Dtmf.{withMark, codeFrom, prefixes, keysOf, marksThenDigit, among, notStruck, remaining}
-use Rattle.alphabet.specs.Dtmf.{names, firstSign, named, readIn, readDtmf, sendIn, hasRow, sendFrom, sendDtmf}
-use Rattle.alphabet.specs.Normal.{sends, reads, normalForm}
+use Rattle.alphabet.specs.Dtmf.{names, firstSign, named, sendIn, hasRow, sendFrom, sendDtmf}
+use Rattle.alphabet.specs.Normal.{sends}
 use Rattle.baudot.specs.Sending.{wanted}
 use Rattle.signal.specs.Signal.{digits, held, baudotSignal, sum, edtElements, edtSignal, heldKeys, signal, signals}
-use Rattle.frames.specs.Samples.{placed, sampleAt, samplesOf, baudotKinds}
-use Rattle.frames.specs.Frames.{sampled, frameStep}
-use Rattle.frames.specs.Range.{lastMs}
-use Rattle.reader.specs.Reader.{fresh, hear, inhibited}
-use Rattle.reader.specs.Words.{wordsOf, faultWord}
 use Rattle.line_theorems.specs.Examples.{chars}
 use Rattle.queue.specs.Queue.{waiters}
 use Rattle.burst.specs.Rules.{mayBegin, mayEnd}
-use Rattle.station.specs.Station.{hasDel}
 use Rattle.demand3.specs.Model.{Step, Offer, Ms, Did, freshModel, offered, begun, codeBegins, nextCode, load}
 use Rattle.demand3.specs.Model.{levelOn, oneGone, ended, closed, did, msAfter, modelAfter, does, sentIn, takenIn}
 use Rattle.demand3.specs.Model.{heardIn, msIn, OffersNone}
 use Rattle.demand3.specs.Reading.{synchronizes, untilSynchronized, synchronizedAfter, NoBurst, EndsIdle}
-use Rattle.demand3.specs.Demand3.{Lists, theMode, theAlphabet, stepsA, stepsB, didsA, between, Premises, followsA}
-use Rattle.demand3.specs.Demand3.{synchronized, wordsDue, wordsBefore}
-use Rattle.demand3.specs.Examples.{Example, Holds, Mistaken, AllHold, callsA45, line45, callsB45, baudot45}
+use Rattle.demand3.specs.Demand3.{Lists, theMode, stepsA, stepsB, didsA, between, Premises, followsA}
+use Rattle.demand3.specs.Demand3.{synchronized, wordsBefore}
+use Rattle.demand3.specs.Examples.{Example, Holds, AllHold, callsA45, line45, callsB45, baudot45}
 use Rattle.demand3.specs.Examples.{callsA50, line50, laterLine50, lastLine50, callsB50, baudot50}
 use Rattle.demand3.specs.Examples.{callsAKeys, callsBKeys, dtmf, callsAEdt, callsBEdt, edt}
-use Rattle.demand3.proofs.Told.{inhibitedBy, msBy, toldEvents}
 use Rattle.demand3.proofs.Cuts.{behind, does-length}
 use Rattle.demand3.proofs.OwnRules.{toldOf, own-does, own-heard}
-use Rattle.demand3.specs.Accepts.{accepts, modelSteps}
-use Rattle.demand3.proofs.Accepts.{steps-are}
-use Rattle.demand3.proofs.Demand3.{same-words, sends-as-model, words-are, demand-3}
+use Rattle.demand3.specs.Accepts.{accepts}
+use Rattle.demand3.proofs.Accepts.{modelSteps, steps-are}
+use Rattle.demand3.proofs.Demand3.{sends-as-model}
+use Rattle.demand3.proofs.ExampleWords.{HandsOut, words-45, words-50, words-dtmf, words-edt}
 
 -- ---- tests
 
@@ -129,7 +122,8 @@ front-back (suc n) [] = refl
 front-back (suc n) (Offer cs ∷ steps) = behind (front-back (suc n) steps)
 front-back (suc n) (Ms x ∷ steps) = behind (front-back n steps)
 
--- ---- what is computed of an example: A does ds, and B has these steps
+-- ---- what is computed of an example: A does ds, and B has these steps; the synchronizing code ends with the k-th ms
+-- after the idle period
 
 abbrev pastMs : Lists → ℕ
 pastMs d = d .start - d .openB
@@ -150,15 +144,14 @@ beyondOf d steps = backMs (sinceMs d) (backMs (pastMs d) steps)
 abbrev follows : Lists → List Did → List Did
 follows d ds = between (d .openA) (d .start + 300) (d .asked + 1) ds
 
-tests : Example → List Did → List Step → List Bool
-tests e ds steps =
+tests : Example → ℕ → List Did → List Step → List Bool
+tests e k ds steps =
     let d = e .lists in
     let mode = theMode d in
     let past = pastOf d steps in
     let since = sinceOf d steps in
     let m = modelAfter mode freshModel past in
     let fs = follows d ds in
-    let k = synchronizedAfter mode fs in
     -- 0: the premises
     leb (d .openA) (d .start)
     ∷ noBurst (between (d .openA) (d .start) (d .start + 300) ds)
@@ -175,8 +168,8 @@ tests e ds steps =
     (between (d .openA) (d .start + 260) (d .asked + 1) (sentIn ds))
     -- 12: and what follows
     ∷ endsIdle fs
+    ∷ eqb (synchronizedAfter mode fs) k
     ∷ same (takenIn (take k fs)) (e .before)
-    ∷ same (normalForm (theAlphabet d) (takenIn (drop k fs))) (e .words)
     ∷ []
 
 -- the steps of both, by their models
@@ -189,19 +182,19 @@ modelB d = modelSteps (theMode d) freshModel (d .callsB)
 abbrev didsOf : Lists → List Did
 didsOf d = does (theMode d) freshModel (modelA d)
 
-abbrev Passes : Example → Type 0
-Passes e = allTrue (tests e (didsOf (e .lists)) (modelB (e .lists))) ≡ true
+abbrev Passes : Example → ℕ → Type 0
+Passes e k = allTrue (tests e k (didsOf (e .lists)) (modelB (e .lists))) ≡ true
 
-module _ (e : Example) (c : Passes e) where
+module _ (e : Example) (k : ℕ) (c : Passes e k) where
   abbrev d : Lists
   d = e .lists
 
-  fact : (n : ℕ) → getD (tests e (didsA d) (stepsB d)) n true ≡ true
+  fact : (n : ℕ) → getD (tests e k (didsA d) (stepsB d)) n true ≡ true
   fact n =
       let a = steps-are (d .mode) (d .callsA) in
       let b = steps-are (d .mode) (d .callsB) in
-      nth n (tests e (didsA d) (stepsB d))
-      ((λ i. allTrue (tests e (does (theMode d) freshModel (a i)) (b i))) ∙ c)
+      nth n (tests e k (didsA d) (stepsB d))
+      ((λ i. allTrue (tests e k (does (theMode d) freshModel (a i)) (b i))) ∙ c)
 
   dids-length : length (didsA d) ≡ msIn (stepsA d)
   dids-length =
@@ -236,84 +229,59 @@ module _ (e : Example) (c : Passes e) where
             ∙ ap (between (d .openA) (d .start + 260) (d .asked + 1)) (sym (sends-as-model (d .mode) (d .callsA)));
       }
 
-  holds : Holds e
+  point : synchronized d ≡ k
   unfolding tests
-  holds =
-      let z = ends-by (followsA d) (fact 12) in
-      let due : wordsDue d ≡ e .words = same-words _ ∙ same-by _ _ (fact 14) in
-      record {
-        premises = premises;
-        ends-idle = z;
-        before-is = same-by _ _ (fact 13);
-        words-are =
-            demand-3 .reads d premises .text z
-            ∙ ap (λ (l : List ℕ). wordsBefore d (d .start + 300 + synchronized d) ++ l) due;
-      }
+  point = eqb-true _ _ (fact 13)
+
+  holds : HandsOut e k → Holds e
+  unfolding tests
+  holds w = record {
+    premises = premises;
+    ends-idle = ends-by (followsA d) (fact 12);
+    before-is = ap (λ (n : ℕ). takenIn (take n (followsA d))) point ∙ same-by _ _ (fact 14);
+    earlier-is = ap (λ (n : ℕ). wordsBefore d (d .start + 300 + n)) point ∙ w .earlier;
+    words-are = w .all;
+  }
 
 -- ---- the instances
 
-passes-45 : Passes baudot45
+passes-45 : Passes baudot45 810
 unfolding allTrue tests noBurst endsIdle same offersNone frontMs backMs accepts modelSteps
     baudot45 callsA45 line45 callsB45
     chars waiters heardIn offered mayBegin mayEnd begun codeBegins nextCode load levelOn oneGone ended closed did
-    msAfter modelAfter does takenIn allAtMost sends reads signal signals normalForm synchronizes untilSynchronized
-    wanted sendBaudot readBaudot printedAt leftRows rightRows rows bits bitsFrom a1 a2 digits held baudotSignal
+    msAfter modelAfter does takenIn allAtMost sends signal signals synchronizes untilSynchronized
+    wanted sendBaudot printedAt leftRows rightRows rows bits bitsFrom a2 digits held baudotSignal
 passes-45 = refl
 
-passes-50 : Passes baudot50
+passes-50 : Passes baudot50 10_950
 unfolding allTrue tests noBurst endsIdle same offersNone frontMs backMs accepts modelSteps
     baudot50 callsA50 line50 laterLine50 lastLine50 callsB50
     chars waiters heardIn offered mayBegin mayEnd begun codeBegins nextCode load levelOn oneGone ended closed did
-    msAfter modelAfter does takenIn allAtMost sends reads signal signals normalForm synchronizes untilSynchronized
-    wanted sendBaudot readBaudot printedAt leftRows rightRows rows bits bitsFrom a1 a2 digits held baudotSignal
+    msAfter modelAfter does takenIn allAtMost sends signal signals synchronizes untilSynchronized
+    wanted sendBaudot printedAt leftRows rightRows rows bits bitsFrom a2 digits held baudotSignal
 passes-50 = refl
 
-passes-dtmf : Passes dtmf
+passes-dtmf : Passes dtmf 120
 unfolding allTrue tests noBurst endsIdle same offersNone frontMs backMs accepts modelSteps
     dtmf callsAKeys callsBKeys
     chars waiters heardIn offered mayBegin mayEnd begun codeBegins nextCode load levelOn oneGone ended closed did
-    msAfter modelAfter does takenIn allAtMost sends reads signal signals normalForm synchronizes untilSynchronized
+    msAfter modelAfter does takenIn allAtMost sends signal signals synchronizes untilSynchronized
     keys prefixes keysOf heldKeys withMark codeFrom marksThenDigit among notStruck remaining names firstSign named
-    readIn readDtmf sendIn hasRow sendFrom sendDtmf leftRows rightRows rows b1 b2 printedAt
+    sendIn hasRow sendFrom sendDtmf leftRows rightRows rows b1 b2 printedAt
 passes-dtmf = refl
 
-passes-edt : Passes edt
+passes-edt : Passes edt 0
 unfolding allTrue tests noBurst endsIdle same offersNone frontMs backMs accepts modelSteps
     edt callsAEdt callsBEdt
     chars waiters heardIn offered mayBegin mayEnd begun codeBegins nextCode load levelOn oneGone ended closed did
-    msAfter modelAfter does takenIn allAtMost sends reads signal signals normalForm synchronizes untilSynchronized
+    msAfter modelAfter does takenIn allAtMost sends signal signals synchronizes untilSynchronized
     edtSignal edtElements digits sum tabulate
 passes-edt = refl
 
--- ---- what B makes of TOO
-
--- B's words after its steps, before the ms after the synchronizing code's last
-abbrev wordsTo : Lists → List Did → List Step → List ℕ
-wordsTo d ds steps =
-    let t = 1_780 + synchronizedAfter (theMode d) (follows d ds) in
-    wordsOf (take (t - d .openB) (toldEvents (theMode d) freshModel fresh (toldOf (theMode d) freshModel steps)))
-
-mistaken-model : let d = baudot45 .lists in wordsTo d (didsOf d) (modelB d) ≡ faultWord ∷ chars "599"
-unfolding accepts modelSteps baudot45 callsA45 line45 callsB45
-    chars waiters hasDel heardIn offered mayBegin mayEnd begun codeBegins nextCode load levelOn oneGone ended closed did
-    msAfter modelAfter does takenIn allAtMost sends reads signal signals normalForm synchronizes untilSynchronized
-    wanted sendBaudot readBaudot printedAt leftRows rightRows rows bits bitsFrom a1 a2 digits held baudotSignal
-    toldOf toldEvents msBy inhibitedBy hear inhibited wordsOf lastMs placed sampleAt samplesOf sampled frameStep
-    baudotKinds
-mistaken-model = refl
-
-mistaken : Mistaken
-mistaken =
-    let d = baudot45 .lists in
-    let a = steps-are (d .mode) (d .callsA) in
-    let b = steps-are (d .mode) (d .callsB) in
-    words-are d (1_780 + synchronized d) ∙ (λ i. wordsTo d (does (theMode d) freshModel (a i)) (b i)) ∙ mistaken-model
-
 pub all-hold : AllHold
 all-hold = record {
-  baudot45-holds = holds baudot45 passes-45;
-  baudot50-holds = holds baudot50 passes-50;
-  dtmf-holds = holds dtmf passes-dtmf;
-  edt-holds = holds edt passes-edt;
-  mistaken = mistaken;
+  baudot45-holds = holds baudot45 810 passes-45 words-45;
+  baudot50-holds = holds baudot50 10_950 passes-50 words-50;
+  dtmf-holds = holds dtmf 120 passes-dtmf words-dtmf;
+  edt-holds = holds edt 0 passes-edt words-edt;
 }
