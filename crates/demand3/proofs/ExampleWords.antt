@@ -1,5 +1,5 @@
 -- The instances of demand 3: the words of B, computed call by call and ms by ms from the definitions of the station's
--- entries.
+-- entries. (Of the longest instance in Examples.antt.)
 use mathlib.Core.Path.{_≡_, refl}
 use mathlib.Core.List.{_++_}
 use Prim.Native.Nat.{ℕ, _+_}
@@ -36,7 +36,6 @@ use Rattle.demand3.specs.Model.{heardIn}
 use Rattle.demand3.specs.Calls.{upTo}
 use Rattle.demand3.specs.Demand3.{wordsBefore}
 use Rattle.demand3.specs.Examples.{Example, line45, callsB45, baudot45, callsBKeys, dtmf, callsBEdt, edt}
-use Rattle.demand3.specs.Examples.{line50, laterLine50, lastLine50, callsB50, baudot50}
 
 -- up to k ms after the idle period, and up to the ms asked about
 pub record HandsOut (e : Example) (k : ℕ) : Type 0 where
@@ -53,32 +52,6 @@ unfolding baudot45 callsB45 line45
     wanted sendBaudot readBaudot printedAt leftRows rightRows rows bits bitsFrom a1 a2 digits held baudotSignal
     baudotKinds
 words-45 = record { earlier = refl; all = refl }
-
-earlier-50 : wordsBefore (baudot50 .lists) 11_700 ≡ baudot50 .earlier
-unfolding baudot50 callsB50 line50 laterLine50 lastLine50
-    chars allAtMost stateAfter outputs joined sends reads signal signals
-    waiters allWait room offered queueIn mayBegin mayEnd partMs isOver begun codeBegins nextCode levelOn oneGone closed
-    silenceAfter settled coreFrom coreIn freshStation hasDel offeredTo stationMs eventOf inRange
-    openOf offerAnswer offerOf runAnswer ranOf wordsAfter heardIn upTo
-    placed sampleAt samplesOf sampled frameStep lastMs keyStep hear inhibited wordsOf
-    wanted sendBaudot readBaudot printedAt leftRows rightRows rows bits bitsFrom a1 a2 digits held baudotSignal
-    baudotKinds
-earlier-50 = refl
-
-all-50 : wordsBefore (baudot50 .lists) 12_451 ≡ baudot50 .earlier ++ baudot50 .words
-unfolding baudot50 callsB50 line50 laterLine50 lastLine50
-    chars allAtMost stateAfter outputs joined sends reads signal signals
-    waiters allWait room offered queueIn mayBegin mayEnd partMs isOver begun codeBegins nextCode levelOn oneGone closed
-    silenceAfter settled coreFrom coreIn freshStation hasDel offeredTo stationMs eventOf inRange
-    openOf offerAnswer offerOf runAnswer ranOf wordsAfter heardIn upTo
-    placed sampleAt samplesOf sampled frameStep lastMs keyStep hear inhibited wordsOf
-    wanted sendBaudot readBaudot printedAt leftRows rightRows rows bits bitsFrom a1 a2 digits held baudotSignal
-    baudotKinds
-all-50 = refl
-
-pub words-50 : HandsOut baudot50 10_950
-unfolding baudot50
-words-50 = record { earlier = earlier-50; all = all-50 }
 
 pub words-dtmf : HandsOut dtmf 120
 unfolding dtmf callsBKeys

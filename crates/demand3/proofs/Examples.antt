@@ -11,19 +11,26 @@ use borrow.Author.Tests.{eqb-true, leb-true, ltb-true, not-true}
 use Rattle.lists.specs.Lists.{allAtMost}
 use Rattle.lists.specs.Tables.{tabulate}
 use Rattle.lists.proofs.Lists.{and-left, and-right}
+use Rattle.alphabet.specs.declared.Mode.the-variants.{Baudot50}
 use Rattle.alphabet.specs.Print.{leftRows, rightRows, rows, bitsFrom, bits, keys}
+use Rattle.alphabet.specs.TableA1.{a1}
 use Rattle.alphabet.specs.TableA2.{a2}
 use Rattle.alphabet.specs.TableB1.{b1}
 use Rattle.alphabet.specs.TableB2.{b2}
-use Rattle.alphabet.specs.Baudot.{printedAt, sendBaudot}
+use Rattle.alphabet.specs.Baudot.{printedAt, readBaudot, sendBaudot}
 use Rattle.alphabet.specs.Dtmf.{withMark, codeFrom, prefixes, keysOf, marksThenDigit, among, notStruck, remaining}
 use Rattle.alphabet.specs.Dtmf.{names, firstSign, named, sendIn, hasRow, sendFrom, sendDtmf}
-use Rattle.alphabet.specs.Normal.{sends}
+use Rattle.alphabet.specs.Normal.{sends, reads}
 use Rattle.baudot.specs.Sending.{wanted}
 use Rattle.signal.specs.Signal.{digits, held, baudotSignal, sum, edtElements, edtSignal, heldKeys, signal, signals}
+use Rattle.frames.specs.Samples.{placed, sampleAt, samplesOf, baudotKinds}
+use Rattle.frames.specs.Frames.{sampled, frameStep}
+use Rattle.reader.specs.Reader.{fresh, hear, inhibited}
+use Rattle.reader.specs.Words.{wordsOf}
 use Rattle.line_theorems.specs.Examples.{chars}
 use Rattle.queue.specs.Queue.{waiters}
 use Rattle.burst.specs.Rules.{mayBegin, mayEnd}
+use Rattle.station.specs.Station.{hasDel}
 use Rattle.demand3.specs.Model.{Step, Offer, Ms, Did, freshModel, offered, begun, codeBegins, nextCode, load}
 use Rattle.demand3.specs.Model.{levelOn, oneGone, ended, closed, did, msAfter, modelAfter, does, sentIn, takenIn}
 use Rattle.demand3.specs.Model.{heardIn, msIn, OffersNone}
@@ -33,12 +40,13 @@ use Rattle.demand3.specs.Demand3.{synchronized, wordsBefore}
 use Rattle.demand3.specs.Examples.{Example, Holds, AllHold, callsA45, line45, callsB45, baudot45}
 use Rattle.demand3.specs.Examples.{callsA50, line50, laterLine50, lastLine50, callsB50, baudot50}
 use Rattle.demand3.specs.Examples.{callsAKeys, callsBKeys, dtmf, callsAEdt, callsBEdt, edt}
+use Rattle.demand3.proofs.Told.{inhibitedBy, msBy, toldEvents}
 use Rattle.demand3.proofs.Cuts.{behind, does-length}
 use Rattle.demand3.proofs.OwnRules.{toldOf, own-does, own-heard}
 use Rattle.demand3.specs.Accepts.{accepts}
 use Rattle.demand3.proofs.Accepts.{modelSteps, steps-are}
-use Rattle.demand3.proofs.Demand3.{sends-as-model}
-use Rattle.demand3.proofs.ExampleWords.{HandsOut, words-45, words-50, words-dtmf, words-edt}
+use Rattle.demand3.proofs.Demand3.{sends-as-model, words-are}
+use Rattle.demand3.proofs.ExampleWords.{HandsOut, words-45, words-dtmf, words-edt}
 
 -- ---- tests
 
@@ -277,6 +285,39 @@ unfolding allTrue tests noBurst endsIdle same offersNone frontMs backMs accepts 
     msAfter modelAfter does takenIn allAtMost sends signal signals synchronizes untilSynchronized
     edtSignal edtElements digits sum tabulate
 passes-edt = refl
+
+-- ---- the words of the longest instance: those of B's reader beside its model are computed
+
+abbrev readerWords : ℕ → List Step → List ℕ
+readerWords n steps = wordsOf (take n (toldEvents Baudot50 freshModel fresh (toldOf Baudot50 freshModel steps)))
+
+abbrev stepsB50 : List Step
+stepsB50 = modelSteps Baudot50 freshModel callsB50
+
+earlier-50 : readerWords 11_500 stepsB50 ≡ baudot50 .earlier
+unfolding accepts modelSteps baudot50 line50 laterLine50 lastLine50 callsB50
+    chars waiters hasDel offered mayBegin mayEnd begun codeBegins nextCode load levelOn oneGone ended closed did
+    msAfter modelAfter allAtMost sends reads signal signals
+    wanted sendBaudot readBaudot printedAt leftRows rightRows rows bits bitsFrom a1 a2 digits held baudotSignal
+    toldOf toldEvents msBy inhibitedBy hear inhibited wordsOf placed sampleAt samplesOf sampled frameStep baudotKinds
+earlier-50 = refl
+
+all-50 : readerWords 12_251 stepsB50 ≡ baudot50 .earlier ++ baudot50 .words
+unfolding accepts modelSteps baudot50 line50 laterLine50 lastLine50 callsB50
+    chars waiters hasDel offered mayBegin mayEnd begun codeBegins nextCode load levelOn oneGone ended closed did
+    msAfter modelAfter allAtMost sends reads signal signals
+    wanted sendBaudot readBaudot printedAt leftRows rightRows rows bits bitsFrom a1 a2 digits held baudotSignal
+    toldOf toldEvents msBy inhibitedBy hear inhibited wordsOf placed sampleAt samplesOf sampled frameStep baudotKinds
+all-50 = refl
+
+words-50 : HandsOut baudot50 10_950
+unfolding baudot50
+words-50 =
+    let d = baudot50 .lists in
+    record {
+      earlier = words-are d 11_700 ∙ ap (readerWords 11_500) (steps-are 2 callsB50) ∙ earlier-50;
+      all = words-are d 12_451 ∙ ap (readerWords 12_251) (steps-are 2 callsB50) ∙ all-50;
+    }
 
 pub all-hold : AllHold
 all-hold = record {

@@ -36,9 +36,9 @@ abbrev pub run : List ℕ → Call
 run heard = RunCall heard (ms (length heard) 0) (ms (length heard) 0)
 
 -- Baudot 45.45. A's burst of e ends with ms 1479. A byte above 127, a level that is none and a sent slice that is too
--- short are refused. B has heard 11011, so that it is in figures, then a broken code; its own burst of b ends with ms
--- 1459, so that it is inhibited up to ms 1759, inside the last 40 ms of the idle period. It takes TOO for 599, and is
--- right from the shift code ahead of 1 on. From the idle period on offers to it are refused or empty.
+-- short are refused. B is opened in the idle period and hears 11011, then space: it is in figures, and in a frame when
+-- the line falls quiet. It gives a fault, takes TOO for 599, and is right from the shift code ahead of 1 on. Offers to
+-- it are refused or empty.
 unfoldable pub callsA45 : List Call
 callsA45 =
     OfferCall (chars "e") ∷
@@ -61,11 +61,8 @@ line45 =
 
 unfoldable pub callsB45 : List Call
 callsB45 =
-    run (signals Baudot45 (0b11011 ∷ []) ++ ms 100 2 ++ ms 315 0) ∷
-    OfferCall (chars "b") ∷
-    run (ms 500 1) ∷
     OfferCall (0x41 ∷ 0x80 ∷ []) ∷
-    run (ms 260 2) ∷
+    run (signals Baudot45 (0b11011 ∷ []) ++ ms 75 2) ∷
     OfferCall [] ∷
     run (take 500 line45) ∷
     RunCall (ms 50 0) (ms 50 0) [] ∷
@@ -79,7 +76,7 @@ baudot45 = record {
     callsA = callsA45;
     callsB = callsB45;
     openA = 1_000;
-    openB = 400;
+    openB = 1_500;
     start = 1_480;
     asked = 3_085;
   };
@@ -141,7 +138,8 @@ baudot50 = record {
   words = chars "TOO1";
 }
 
--- DTMF. B is opened in the idle period and hears ** in it, so that it takes b for +. Key 17 is refused.
+-- DTMF. Key 17 is refused. B has heard **; its own burst of b ends with ms 779, so that it is inhibited up to ms 1079,
+-- inside the last 40 ms of the idle period. The prefix stays, and it takes b for +.
 unfoldable pub callsAKeys : List Call
 callsAKeys =
     run (ms 300 5) ∷
@@ -157,8 +155,11 @@ key k = ms 70 k ++ ms 50 0
 
 unfoldable pub callsBKeys : List Call
 callsBKeys =
-    run (ms 70 11 ++ ms 40 0 ++ ms 50 11) ∷
+    run (key 11 ++ key 11 ++ ms 250 0) ∷
+    OfferCall (chars "b") ∷
+    run (ms 140 5) ∷
     OfferCall (0x62 ∷ 0xff ∷ []) ∷
+    run (ms 260 11) ∷
     run (ms 40 0 ++ key 1 ++ key 11 ++ key 11 ++ key 4 ++ key 1 ++ 0 ∷ []) ∷
     []
 
@@ -169,7 +170,7 @@ dtmf = record {
     callsA = callsAKeys;
     callsB = callsBKeys;
     openA = 500;
-    openB = 900;
+    openB = 170;
     start = 800;
     asked = 1_700;
   };
