@@ -25,6 +25,7 @@ use Rattle.baudot.specs.Sending.{wanted}
 use Rattle.signal.specs.Signal.{digits, held, baudotSignal, sum, edtElements, edtSignal, heldKeys, signal, signals}
 use Rattle.frames.specs.Samples.{placed, sampleAt, samplesOf, baudotKinds}
 use Rattle.frames.specs.Frames.{sampled, frameStep}
+use Rattle.reader.specs.declared.Event.{Event}
 use Rattle.reader.specs.Reader.{fresh, hear, inhibited}
 use Rattle.reader.specs.Words.{wordsOf}
 use Rattle.line_theorems.specs.Examples.{chars}
@@ -286,37 +287,35 @@ unfolding allTrue tests noBurst endsIdle same offersNone frontMs backMs accepts 
     edtSignal edtElements digits sum tabulate
 passes-edt = refl
 
--- ---- the words of the longest instance: those of B's reader beside its model are computed
+-- ---- the words of the longest instance: what B's reader makes of each ms beside B's model is computed
 
-abbrev readerWords : ℕ → List Step → List ℕ
-readerWords n steps = wordsOf (take n (toldEvents Baudot50 freshModel fresh (toldOf Baudot50 freshModel steps)))
+abbrev eventsIn50 : List Step → List Event
+eventsIn50 steps = toldEvents Baudot50 freshModel fresh (toldOf Baudot50 freshModel steps)
 
-abbrev stepsB50 : List Step
-stepsB50 = modelSteps Baudot50 freshModel callsB50
+reads50 : List Event → Bool
+reads50 es =
+    same (wordsOf (take 11_500 es)) (baudot50 .earlier)
+    && same (wordsOf (take 12_251 es)) (baudot50 .earlier ++ baudot50 .words)
 
-earlier-50 : readerWords 11_500 stepsB50 ≡ baudot50 .earlier
-unfolding accepts modelSteps baudot50 line50 laterLine50 lastLine50 callsB50
+reads-50 : reads50 (eventsIn50 (modelSteps Baudot50 freshModel callsB50)) ≡ true
+unfolding reads50 same accepts modelSteps baudot50 line50 laterLine50 lastLine50 callsB50
     chars waiters hasDel offered mayBegin mayEnd begun codeBegins nextCode load levelOn oneGone ended closed did
     msAfter modelAfter allAtMost sends reads signal signals
     wanted sendBaudot readBaudot printedAt leftRows rightRows rows bits bitsFrom a1 a2 digits held baudotSignal
     toldOf toldEvents msBy inhibitedBy hear inhibited wordsOf placed sampleAt samplesOf sampled frameStep baudotKinds
-earlier-50 = refl
-
-all-50 : readerWords 12_251 stepsB50 ≡ baudot50 .earlier ++ baudot50 .words
-unfolding accepts modelSteps baudot50 line50 laterLine50 lastLine50 callsB50
-    chars waiters hasDel offered mayBegin mayEnd begun codeBegins nextCode load levelOn oneGone ended closed did
-    msAfter modelAfter allAtMost sends reads signal signals
-    wanted sendBaudot readBaudot printedAt leftRows rightRows rows bits bitsFrom a1 a2 digits held baudotSignal
-    toldOf toldEvents msBy inhibitedBy hear inhibited wordsOf placed sampleAt samplesOf sampled frameStep baudotKinds
-all-50 = refl
+reads-50 = refl
 
 words-50 : HandsOut baudot50 10_950
-unfolding baudot50
+unfolding reads50 baudot50
 words-50 =
     let d = baudot50 .lists in
+    let es = eventsIn50 (stepsB d) in
+    let c : reads50 es ≡ true = ap (λ (l : List Step). reads50 (eventsIn50 l)) (steps-are 2 callsB50) ∙ reads-50 in
+    let earlier = same (wordsOf (take 11_500 es)) (baudot50 .earlier) in
+    let all = same (wordsOf (take 12_251 es)) (baudot50 .earlier ++ baudot50 .words) in
     record {
-      earlier = words-are d 11_700 ∙ ap (readerWords 11_500) (steps-are 2 callsB50) ∙ earlier-50;
-      all = words-are d 12_451 ∙ ap (readerWords 12_251) (steps-are 2 callsB50) ∙ all-50;
+      earlier = words-are d 11_700 ∙ same-by _ _ (and-left earlier all c);
+      all = words-are d 12_451 ∙ same-by _ _ (and-right earlier all c);
     }
 
 pub all-hold : AllHold
