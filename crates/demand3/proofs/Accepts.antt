@@ -70,7 +70,8 @@ module _ (mode : Mode) where
       subst (λ (k : Model). Like mode (left s c) k (toldReader mode m r (toldFor mode m s c)))
       (own-after mode (stepsFor s c) m) (call-like mode c s m r h .like)
 
-  model-append : (xs ys : List Step) (m : Model) → modelAfter mode m (xs ++ ys) ≡ modelAfter mode (modelAfter mode m xs) ys
+  model-append : (xs ys : List Step) (m : Model)
+      → modelAfter mode m (xs ++ ys) ≡ modelAfter mode (modelAfter mode m xs) ys
   unfolding modelAfter
   model-append [] ys m = refl
   model-append (Offer cs ∷ xs) ys m = model-append xs ys (offered mode cs m)

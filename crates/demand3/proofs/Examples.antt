@@ -11,7 +11,7 @@ use borrow.Author.Tests.{eqb-true, leb-true, ltb-true, not-true}
 use Rattle.lists.specs.Lists.{allAtMost}
 use Rattle.lists.specs.Tables.{tabulate}
 use Rattle.lists.proofs.Lists.{and-left, and-right}
-use Rattle.alphabet.specs.declared.Mode.the-variants.{Baudot50}
+use Rattle.alphabet.specs.declared.Mode.the-variants.{Baudot50, Dtmf}
 use Rattle.alphabet.specs.Print.{leftRows, rightRows, rows, bitsFrom, bits, keys}
 use Rattle.alphabet.specs.TableA1.{a1}
 use Rattle.alphabet.specs.TableA2.{a2}
@@ -38,7 +38,7 @@ use Rattle.demand3.specs.Model.{heardIn, msIn, OffersNone}
 use Rattle.demand3.specs.Reading.{synchronizes, untilSynchronized, synchronizedAfter, NoBurst, EndsIdle}
 use Rattle.demand3.specs.Demand3.{Lists, theMode, stepsA, stepsB, didsA, between, Premises, followsA}
 use Rattle.demand3.specs.Demand3.{synchronized, wordsBefore}
-use Rattle.demand3.specs.Examples.{Example, Holds, AllHold, callsA45, line45, callsB45, baudot45}
+use Rattle.demand3.specs.Examples.{Example, Holds, Inhibited, AllHold, callsA45, line45, callsB45, baudot45}
 use Rattle.demand3.specs.Examples.{callsA50, line50, laterLine50, lastLine50, callsB50, baudot50}
 use Rattle.demand3.specs.Examples.{callsAKeys, callsBKeys, dtmf, callsAEdt, callsBEdt, edt}
 use Rattle.demand3.proofs.Told.{inhibitedBy, msBy, toldEvents}
@@ -287,6 +287,20 @@ unfolding allTrue tests noBurst endsIdle same offersNone frontMs backMs accepts 
     edtSignal edtElements digits sum tabulate
 passes-edt = refl
 
+-- ---- B's inhibition in the third
+
+inhibited-model : modelAfter Dtmf freshModel (modelSteps Dtmf freshModel (take 5 callsBKeys)) .inhibitedMs ≡ 20
+unfolding accepts modelSteps callsBKeys
+    chars waiters offered mayBegin mayEnd begun codeBegins nextCode load levelOn oneGone ended closed did
+    msAfter modelAfter allAtMost sends signal
+    keys prefixes keysOf heldKeys withMark codeFrom marksThenDigit among notStruck remaining names firstSign named
+    sendIn hasRow sendFrom sendDtmf leftRows rightRows rows b1 b2 printedAt
+inhibited-model = refl
+
+dtmf-inhibited : Inhibited
+dtmf-inhibited =
+    ap (λ (l : List Step). modelAfter Dtmf freshModel l .inhibitedMs) (steps-are 3 (take 5 callsBKeys)) ∙ inhibited-model
+
 -- ---- the words of the longest instance: what B's reader makes of each ms beside B's model is computed
 
 abbrev eventsIn50 : List Step → List Event
@@ -324,4 +338,5 @@ all-hold = record {
   baudot50-holds = holds baudot50 10_950 passes-50 words-50;
   dtmf-holds = holds dtmf 120 passes-dtmf words-dtmf;
   edt-holds = holds edt 0 passes-edt words-edt;
+  dtmf-inhibited = dtmf-inhibited;
 }

@@ -4,10 +4,12 @@ use Rattle.demand3.specs.Demand3.{Lists, Premises, Conclusion, SendsAsMo
 use Rattle.demand3.specs.Examples.{AllHold}
 
 pub record Demand3 : Type 0 where
+  -- No call is refused without a reason, and each sent ms is the send model's.
   pub succeeds : SucceedsAsModel
   pub sends : SendsAsModel
+  -- B reads what follows the idle period.
   pub reads : (d : Lists) → Premises d → Conclusion d
   pub cut-in-two : CutInTwo
   pub normal-twice : NormalTwice
-  -- For each mode an instance, computed: what an engine that refuses, sends nothing or reads nothing does not meet.
+  -- For each mode an instance, computed, that an engine which refuses, sends nothing or reads nothing does not have.
   pub examples : AllHold

@@ -4,13 +4,13 @@ use Prim.Native.Nat.{ℕ, _+_}
 use mathlib.Core.Path.{_≡_}
 use mathlib.Core.List.{List, [], _∷_, _++_}
 use lib.ListN.{length, take, drop, replicate}
-use Rattle.alphabet.specs.declared.Mode.the-variants.{Baudot45, Baudot50, Edt}
+use Rattle.alphabet.specs.declared.Mode.the-variants.{Baudot45, Baudot50, Dtmf, Edt}
 use Rattle.signal.specs.Signal.{signals, preamble}
 use Rattle.reader.specs.Words.{faultWord}
 use Rattle.line_theorems.specs.Examples.{chars}
-use Rattle.demand3.specs.Model.{takenIn}
+use Rattle.demand3.specs.Model.{freshModel, modelAfter, takenIn}
 use Rattle.demand3.specs.Reading.{EndsIdle}
-use Rattle.demand3.specs.Calls.{Call, OfferCall, RunCall}
+use Rattle.demand3.specs.Calls.{Call, OfferCall, RunCall, opened, stepsBy}
 use Rattle.demand3.specs.Demand3.{Lists, Premises, followsA, synchronized, wordsBefore}
 
 -- The lists; the characters that A takes after the idle period up to the synchronizing code's last ms; the words that
@@ -216,8 +216,13 @@ edt = record {
   words = chars "Ab1";
 }
 
+-- In the third, B has 20 inhibited ms to come at the first of the last 40 ms of the idle period.
+abbrev pub Inhibited : Type 0
+Inhibited = modelAfter Dtmf freshModel (stepsBy (opened 3) (take 5 callsBKeys)) .inhibitedMs ≡ 20
+
 pub record AllHold : Type 0 where
   pub baudot45-holds : Holds baudot45
   pub baudot50-holds : Holds baudot50
   pub dtmf-holds : Holds dtmf
   pub edt-holds : Holds edt
+  pub dtmf-inhibited : Inhibited
