@@ -299,7 +299,8 @@ inhibited-model = refl
 
 dtmf-inhibited : Inhibited
 dtmf-inhibited =
-    ap (λ (l : List Step). modelAfter Dtmf freshModel l .inhibitedMs) (steps-are 3 (take 5 callsBKeys)) ∙ inhibited-model
+    ap (λ (l : List Step). modelAfter Dtmf freshModel l .inhibitedMs) (steps-are 3 (take 5 callsBKeys))
+    ∙ inhibited-model
 
 -- ---- the words of the longest instance: what B's reader makes of each ms beside B's model is computed
 
