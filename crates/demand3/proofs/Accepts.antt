@@ -1,11 +1,11 @@
 -- Which calls succeed, told by the send model alone, so that whole lists of calls can be computed over it.
-use mathlib.Core.Path.{_≡_, _∙_, refl, ap}
+use mathlib.Core.Path.{_≡_, _∙_, refl, sym, ap, subst}
 use mathlib.Core.Bool.{Bool, true, false, cond, _&&_}
 use mathlib.Core.List.{List, [], _∷_, _++_}
 use Prim.Native.Nat.{ℕ, _+_}
 use lib.Dec.{eqb, leb}
 use lib.ListN.{length}
-use Rattle.lists.specs.Steps.{joined}
+use Rattle.lists.specs.Steps.{stateAfter, joined}
 use Rattle.lists.specs.Lists.{allAtMost}
 use Rattle.alphabet.specs.declared.Mode.{Mode}
 use Rattle.alphabet.specs.Modes.{modeOf, alphabetOf, highestLevel}
@@ -16,13 +16,20 @@ use Rattle.queue.specs.Queue.{waiters, room}
 use Rattle.station.specs.declared.Station.{Station}
 use Rattle.station.specs.Station.{modeOfStation, alphabetOfStation, queueOf}
 use Rattle.station.specs.Entries.{offerAnswer, runAnswer}
-use Rattle.demand3.specs.Model.{Model, Step, freshModel, modelAfter}
-use Rattle.demand3.specs.Accepts.{accepts, modelSteps}
-use Rattle.demand3.specs.Calls.{Call, OfferCall, RunCall, opened, left, succeeds, stepsFor, stepsIf, stepsBy}
-use Rattle.demand3.proofs.Told.{toldAfter, toldReader}
+use Rattle.demand3.specs.Model.{Model, Step, Offer, Ms, freshModel, offered, msAfter, modelAfter}
+use Rattle.demand3.specs.Accepts.{accepts, SucceedsAsModel}
+use Rattle.demand3.specs.Calls.{Call, OfferCall, RunCall, opened, left, succeeds, stepsFor, stepsIf, leftBy, stepsBy}
+use Rattle.demand3.proofs.Told.{toldReader}
 use Rattle.demand3.proofs.OwnRules.{own-after}
 use Rattle.demand3.proofs.StationLike.{Like, mode-same, count-same, opened-like}
 use Rattle.demand3.proofs.Calls.{offer-succeeds, run-succeeds, toldFor, call-like}
+
+-- the steps of a list of calls, of which those succeed that the model accepts
+unfoldable pub modelSteps : Mode → Model → List Call → List Step
+modelSteps mode m [] = []
+modelSteps mode m (c ∷ cs) =
+    let steps = cond (accepts mode m c) (stepsIf c) [] in
+    steps ++ modelSteps mode (modelAfter mode m steps) cs
 
 -- the answers to questions 3 and 4, and 5 to 8
 two-asked : (a b : Bool) → eqb (cond a (cond b 0 4) 3) 0 ≡ (a && b)
@@ -56,19 +63,44 @@ module _ (mode : Mode) where
       ∙ (λ i. eqb (cond (h .in-range i) (cond few (cond (levels i) (cond sent-fits (cond words-fit 0 8) 7) 6) 5) 1) 0)
       ∙ four-asked few (allAtMost (highestLevel mode) heard) sent-fits words-fit
 
+  -- a station after a call, and its model
+  next-like : (c : Call) (s : Station) (m : Model) (r : Reader) → Like mode s m r
+      → Like mode (left s c) (modelAfter mode m (stepsFor s c)) (toldReader mode m r (toldFor mode m s c))
+  next-like c s m r h =
+      subst (λ (k : Model). Like mode (left s c) k (toldReader mode m r (toldFor mode m s c)))
+      (own-after mode (stepsFor s c) m) (call-like mode c s m r h .like)
+
+  model-append : (xs ys : List Step) (m : Model)
+      → modelAfter mode m (xs ++ ys) ≡ modelAfter mode (modelAfter mode m xs) ys
+  unfolding modelAfter
+  model-append [] ys m = refl
+  model-append (Offer cs ∷ xs) ys m = model-append xs ys (offered mode cs m)
+  model-append (Ms x ∷ xs) ys m = model-append xs ys (msAfter mode m x)
+
+  succeeds-after : (past : List Call) (c : Call) (s : Station) (m : Model) (r : Reader) → Like mode s m r
+      → succeeds (leftBy s past) c ≡ accepts mode (modelAfter mode m (stepsBy s past)) c
+  unfolding stateAfter joined modelAfter
+  succeeds-after [] c s m r h = accepts-is c s m r h
+  succeeds-after (p ∷ past) c s m r h =
+      let steps = stepsFor s p in
+      let m′ = modelAfter mode m steps in
+      succeeds-after past c (left s p) m′ (toldReader mode m r (toldFor mode m s p)) (next-like p s m r h)
+      ∙ ap (λ (k : Model). accepts mode k c) (sym (model-append steps (stepsBy (left s p) past) m))
+
   model-steps : (cs : List Call) (s : Station) (m : Model) (r : Reader) → Like mode s m r
       → stepsBy s cs ≡ modelSteps mode m cs
   unfolding joined modelSteps
   model-steps [] s m r h = refl
   model-steps (c ∷ cs) s m r h =
       let steps = stepsFor s c in
-      let told = toldFor mode m s c in
       let e : steps ≡ cond (accepts mode m c) (stepsIf c) [] =
       ap (λ (b : Bool). cond b (stepsIf c) []) (accepts-is c s m r h) in
-      let like = call-like mode c s m r h .like in
-      let i = model-steps cs (left s c) (toldAfter mode m told) (toldReader mode m r told) like in
-      (λ j. steps ++ i j) ∙ ap (λ (k : Model). steps ++ modelSteps mode k cs) (own-after mode steps m)
-      ∙ ap (λ (l : List Step). l ++ modelSteps mode (modelAfter mode m l) cs) e
+      let r′ = toldReader mode m r (toldFor mode m s c) in
+      let i = model-steps cs (left s c) (modelAfter mode m steps) r′ (next-like c s m r h) in
+      (λ j. steps ++ i j) ∙ ap (λ (l : List Step). l ++ modelSteps mode (modelAfter mode m l) cs) e
+
+pub succeeds-as-model : SucceedsAsModel
+succeeds-as-model n past c = succeeds-after (modeOf n) past c (opened n) freshModel fresh (opened-like n)
 
 pub steps-are : (n : ℕ) (calls : List Call) → stepsBy (opened n) calls ≡ modelSteps (modeOf n) freshModel calls
 steps-are n calls = model-steps (modeOf n) calls (opened n) freshModel fresh (opened-like n)

@@ -5,24 +5,23 @@ use mathlib.Core.List.{List, [], _∷_, _++_, map}
 use Prim.Native.Nat.{ℕ, _+_, _-_, _≤_}
 use native.Mathlib.Omega.{arith}
 use lib.ListN.{length, drop}
+use lib.Seq.{drop-append-seam}
 use Rattle.alphabet.specs.declared.Mode.{Mode}
-use Rattle.alphabet.specs.Modes.{modeOf, alphabetOf}
+use Rattle.alphabet.specs.Modes.{modeOf}
 use Rattle.alphabet.specs.Normal.{normalForm, allChars}
-use Rattle.alphabet_theorems.proofs.Normal.{normal-form-twice}
 use Rattle.reader.specs.Reader.{fresh}
 use Rattle.reader.specs.Words.{characterWord}
 use Rattle.demand3.specs.Model.{Model, Did, freshModel, modelAfter, does, sentIn, takenIn, heardIn}
-use Rattle.demand3.specs.Reading.{NoBurst}
+use Rattle.demand3.specs.Reading.{NoBurst, EndsIdle}
 use Rattle.demand3.specs.Calls.{Call, opened, sentBy, stepsBy}
 use Rattle.demand3.specs.Demand3.{Lists, theMode, theAlphabet, stepsA, stepsB, didsA, between, Premises, followsA}
-use Rattle.demand3.specs.Demand3.{lastForty, synchronized, wordsBefore, Conclusion, SendsAsModel, Demand3}
+use Rattle.demand3.specs.Demand3.{lastForty, synchronized, wordsBefore, wordsDue, Conclusion, SendsAsModel}
 use Rattle.demand3.proofs.Told.{Told, toldAfter, toldDoes, toldHeard}
 use Rattle.demand3.proofs.Cuts.{behind, idle-later}
 use Rattle.demand3.proofs.OneClock.{Clock, OneClock, ReadsOn, followsIn, wordsIn, reads-on}
 use Rattle.demand3.proofs.OwnRules.{toldOf, own-after, own-does, own-heard, own-none, own-append}
 use Rattle.demand3.proofs.StationLike.{opened-like}
 use Rattle.demand3.proofs.Calls.{CallsLike, calls-like, words-up-to}
-use Rattle.demand3.proofs.CutInTwo.{cut-in-two}
 
 pub same-words : (cs : List ℕ) → map characterWord cs ≡ cs
 same-words [] = refl
@@ -128,25 +127,20 @@ module _ (d : Lists) where
     follows-are : followsIn mode (clockOf d) toldA ≡ followsA d
     follows-are = ap (between (d .openA) (d .start + 300) (d .asked + 1)) dids-are
 
-    concludes : Conclusion d
+    pub concludes : Conclusion d
     concludes =
         let r : ReadsOn mode (clockOf d) toldB (followsA d) =
         subst (ReadsOn mode (clockOf d) toldB) follows-are (reads-on mode (clockOf d) toldA toldB one-clock) in
         let k = synchronized d in
         let due = same-words (normalForm (theAlphabet d) (takenIn (drop k (followsA d)))) in
+        let point = d .start + 300 + k in
+        let text : EndsIdle (followsA d) → wordsBefore d (d .asked + 1) ≡ wordsBefore d point ++ wordsDue d =
+        λ z. words-are (d .asked + 1) ∙ r .text z ∙ (λ i. sym (words-are point) i ++ sym due i) in
+        let no-fault-due : EndsIdle (followsA d) → allChars (wordsDue d) ≡ true =
+        λ z. subst (λ (l : List ℕ). allChars l ≡ true) (sym due) (r .no-fault z) in
         record {
           before = r .before;
-          text = λ z.
-              words-are (d .asked + 1) ∙ r .text z ∙ (λ i. sym (words-are (d .start + 300 + k)) i ++ sym due i);
-          no-fault = λ z. subst (λ (l : List ℕ). allChars l ≡ true) (sym due) (r .no-fault z);
+          text = text;
+          no-fault-due = no-fault-due;
+          no-fault = λ z. rw (text z, drop-append-seam (wordsBefore d point) (wordsDue d)) (no-fault-due z);
         }
-
--- ---- the whole claim
-
-pub demand-3 : Demand3
-demand-3 = record {
-  sends = sends-as-model;
-  reads = concludes;
-  cut-in-two = cut-in-two;
-  normal-twice = λ mode. normal-form-twice (alphabetOf mode);
-}

@@ -1,16 +1,17 @@
--- The instances of demand 3: one computed test for each. The models of both are computed; which calls succeed is told
--- by them.
+-- The instances of demand 3: one computed test of the premises for each. The models of both are computed; which calls
+-- succeed is told by them.
 use mathlib.Core.Path.{_≡_, _∙_, refl, sym, ap, subst}
 use mathlib.Core.Bool.{Bool, true, false, not, _&&_, false≢true}
 use mathlib.Core.List.{List, [], _∷_, _++_}
 use Prim.Native.Nat.{ℕ, zero, suc, _+_, _-_, _<_}
 use native.Mathlib.Omega.{arith}
-use lib.ListN.{length, getD, take, drop}
+use lib.ListN.{length, getD, take}
 use lib.Dec.{eqb, leb, ltb}
 use borrow.Author.Tests.{eqb-true, leb-true, ltb-true, not-true}
 use Rattle.lists.specs.Lists.{allAtMost}
 use Rattle.lists.specs.Tables.{tabulate}
 use Rattle.lists.proofs.Lists.{and-left, and-right}
+use Rattle.alphabet.specs.declared.Mode.the-variants.{Baudot50, Dtmf}
 use Rattle.alphabet.specs.Print.{leftRows, rightRows, rows, bitsFrom, bits, keys}
 use Rattle.alphabet.specs.TableA1.{a1}
 use Rattle.alphabet.specs.TableA2.{a2}
@@ -18,15 +19,15 @@ use Rattle.alphabet.specs.TableB1.{b1}
 use Rattle.alphabet.specs.TableB2.{b2}
 use Rattle.alphabet.specs.Baudot.{printedAt, readBaudot, sendBaudot}
 use Rattle.alphabet.specs.Dtmf.{withMark, codeFrom, prefixes, keysOf, marksThenDigit, among, notStruck, remaining}
-use Rattle.alphabet.specs.Dtmf.{names, firstSign, named, readIn, readDtmf, sendIn, hasRow, sendFrom, sendDtmf}
-use Rattle.alphabet.specs.Normal.{sends, reads, normalForm}
+use Rattle.alphabet.specs.Dtmf.{names, firstSign, named, sendIn, hasRow, sendFrom, sendDtmf}
+use Rattle.alphabet.specs.Normal.{sends, reads}
 use Rattle.baudot.specs.Sending.{wanted}
 use Rattle.signal.specs.Signal.{digits, held, baudotSignal, sum, edtElements, edtSignal, heldKeys, signal, signals}
 use Rattle.frames.specs.Samples.{placed, sampleAt, samplesOf, baudotKinds}
 use Rattle.frames.specs.Frames.{sampled, frameStep}
-use Rattle.frames.specs.Range.{lastMs}
+use Rattle.reader.specs.declared.Event.{Event}
 use Rattle.reader.specs.Reader.{fresh, hear, inhibited}
-use Rattle.reader.specs.Words.{wordsOf, faultWord}
+use Rattle.reader.specs.Words.{wordsOf}
 use Rattle.line_theorems.specs.Examples.{chars}
 use Rattle.queue.specs.Queue.{waiters}
 use Rattle.burst.specs.Rules.{mayBegin, mayEnd}
@@ -35,17 +36,18 @@ use Rattle.demand3.specs.Model.{Step, Offer, Ms, Did, freshModel, offere
 use Rattle.demand3.specs.Model.{levelOn, oneGone, ended, closed, did, msAfter, modelAfter, does, sentIn, takenIn}
 use Rattle.demand3.specs.Model.{heardIn, msIn, OffersNone}
 use Rattle.demand3.specs.Reading.{synchronizes, untilSynchronized, synchronizedAfter, NoBurst, EndsIdle}
-use Rattle.demand3.specs.Demand3.{Lists, theMode, theAlphabet, stepsA, stepsB, didsA, between, Premises, followsA}
-use Rattle.demand3.specs.Demand3.{synchronized, wordsDue, wordsBefore}
-use Rattle.demand3.specs.Examples.{Example, Holds, Mistaken, AllHold, callsA45, line45, callsB45, baudot45}
+use Rattle.demand3.specs.Demand3.{Lists, theMode, stepsA, stepsB, didsA, between, Premises, followsA}
+use Rattle.demand3.specs.Demand3.{synchronized, wordsBefore}
+use Rattle.demand3.specs.Examples.{Example, Holds, Inhibited, AllHold, callsA45, line45, callsB45, baudot45}
 use Rattle.demand3.specs.Examples.{callsA50, line50, laterLine50, lastLine50, callsB50, baudot50}
 use Rattle.demand3.specs.Examples.{callsAKeys, callsBKeys, dtmf, callsAEdt, callsBEdt, edt}
 use Rattle.demand3.proofs.Told.{inhibitedBy, msBy, toldEvents}
 use Rattle.demand3.proofs.Cuts.{behind, does-length}
 use Rattle.demand3.proofs.OwnRules.{toldOf, own-does, own-heard}
-use Rattle.demand3.specs.Accepts.{accepts, modelSteps}
-use Rattle.demand3.proofs.Accepts.{steps-are}
-use Rattle.demand3.proofs.Demand3.{same-words, sends-as-model, words-are, demand-3}
+use Rattle.demand3.specs.Accepts.{accepts}
+use Rattle.demand3.proofs.Accepts.{modelSteps, steps-are}
+use Rattle.demand3.proofs.Demand3.{sends-as-model, words-are}
+use Rattle.demand3.proofs.ExampleWords.{HandsOut, words-45, words-dtmf, words-edt}
 
 -- ---- tests
 
@@ -129,7 +131,8 @@ front-back (suc n) [] = refl
 front-back (suc n) (Offer cs ∷ steps) = behind (front-back (suc n) steps)
 front-back (suc n) (Ms x ∷ steps) = behind (front-back n steps)
 
--- ---- what is computed of an example: A does ds, and B has these steps
+-- ---- what is computed of an example: A does ds, and B has these steps; the synchronizing code ends with the k-th ms
+-- after the idle period
 
 abbrev pub pastMs : Lists → ℕ
 pastMs d = d .start - d .openB
@@ -172,15 +175,14 @@ premiseTests d ds steps =
     ∷ []
 
 -- and behind them, from 11 on, what follows
-tests : Example → List Did → List Step → List Bool
-tests e ds steps =
+tests : Example → ℕ → List Did → List Step → List Bool
+tests e k ds steps =
     let d = e .lists in
     let fs = follows d ds in
-    let k = synchronizedAfter (theMode d) fs in
     premiseTests d ds steps
     ++ (endsIdle fs
+    ∷ eqb (synchronizedAfter (theMode d) fs) k
     ∷ same (takenIn (take k fs)) (e .before)
-    ∷ same (normalForm (theAlphabet d) (takenIn (drop k fs))) (e .words)
     ∷ [])
 
 -- the steps of both, by their models
@@ -193,19 +195,19 @@ modelB d = modelSteps (theMode d) freshModel (d .callsB)
 abbrev pub didsOf : Lists → List Did
 didsOf d = does (theMode d) freshModel (modelA d)
 
-abbrev Passes : Example → Type 0
-Passes e = allTrue (tests e (didsOf (e .lists)) (modelB (e .lists))) ≡ true
+abbrev Passes : Example → ℕ → Type 0
+Passes e k = allTrue (tests e k (didsOf (e .lists)) (modelB (e .lists))) ≡ true
 
-module _ (e : Example) (c : Passes e) where
+module _ (e : Example) (k : ℕ) (c : Passes e k) where
   abbrev d : Lists
   d = e .lists
 
-  fact : (n : ℕ) → getD (tests e (didsA d) (stepsB d)) n true ≡ true
+  fact : (n : ℕ) → getD (tests e k (didsA d) (stepsB d)) n true ≡ true
   fact n =
       let a = steps-are (d .mode) (d .callsA) in
       let b = steps-are (d .mode) (d .callsB) in
-      nth n (tests e (didsA d) (stepsB d))
-      ((λ i. allTrue (tests e (does (theMode d) freshModel (a i)) (b i))) ∙ c)
+      nth n (tests e k (didsA d) (stepsB d))
+      ((λ i. allTrue (tests e k (does (theMode d) freshModel (a i)) (b i))) ∙ c)
 
   dids-length : length (didsA d) ≡ msIn (stepsA d)
   dids-length =
@@ -239,84 +241,106 @@ module _ (e : Example) (c : Passes e) where
             ∙ ap (between (d .openA) (d .start + 260) (d .asked + 1)) (sym (sends-as-model (d .mode) (d .callsA)));
       }
 
-  holds : Holds e
+  point : synchronized d ≡ k
   unfolding tests premiseTests
-  holds =
-      let z = ends-by (followsA d) (fact 11) in
-      let due : wordsDue d ≡ e .words = same-words _ ∙ same-by _ _ (fact 13) in
-      record {
-        premises = premises;
-        ends-idle = z;
-        before-is = same-by _ _ (fact 12);
-        words-are =
-            demand-3 .reads d premises .text z
-            ∙ ap (λ (l : List ℕ). wordsBefore d (d .start + 300 + synchronized d) ++ l) due;
-      }
+  point = eqb-true _ _ (fact 12)
+
+  holds : HandsOut e k → Holds e
+  unfolding tests premiseTests
+  holds w = record {
+    premises = premises;
+    ends-idle = ends-by (followsA d) (fact 11);
+    before-is = ap (λ (n : ℕ). takenIn (take n (followsA d))) point ∙ same-by _ _ (fact 13);
+    earlier-is = ap (λ (n : ℕ). wordsBefore d (d .start + 300 + n)) point ∙ w .earlier;
+    words-are = w .all;
+  }
 
 -- ---- the instances
 
-passes-45 : Passes baudot45
+passes-45 : Passes baudot45 810
 unfolding allTrue tests premiseTests noBurst endsIdle same offersNone frontMs backMs accepts modelSteps
     baudot45 callsA45 line45 callsB45
     chars waiters heardIn offered mayBegin mayEnd begun codeBegins nextCode load levelOn oneGone ended closed did
-    msAfter modelAfter does takenIn allAtMost sends reads signal signals normalForm synchronizes untilSynchronized
-    wanted sendBaudot readBaudot printedAt leftRows rightRows rows bits bitsFrom a1 a2 digits held baudotSignal
+    msAfter modelAfter does takenIn allAtMost sends signal signals synchronizes untilSynchronized
+    wanted sendBaudot printedAt leftRows rightRows rows bits bitsFrom a2 digits held baudotSignal
 passes-45 = refl
 
-passes-50 : Passes baudot50
+passes-50 : Passes baudot50 10_950
 unfolding allTrue tests premiseTests noBurst endsIdle same offersNone frontMs backMs accepts modelSteps
     baudot50 callsA50 line50 laterLine50 lastLine50 callsB50
     chars waiters heardIn offered mayBegin mayEnd begun codeBegins nextCode load levelOn oneGone ended closed did
-    msAfter modelAfter does takenIn allAtMost sends reads signal signals normalForm synchronizes untilSynchronized
-    wanted sendBaudot readBaudot printedAt leftRows rightRows rows bits bitsFrom a1 a2 digits held baudotSignal
+    msAfter modelAfter does takenIn allAtMost sends signal signals synchronizes untilSynchronized
+    wanted sendBaudot printedAt leftRows rightRows rows bits bitsFrom a2 digits held baudotSignal
 passes-50 = refl
 
-passes-dtmf : Passes dtmf
+passes-dtmf : Passes dtmf 120
 unfolding allTrue tests premiseTests noBurst endsIdle same offersNone frontMs backMs accepts modelSteps
     dtmf callsAKeys callsBKeys
     chars waiters heardIn offered mayBegin mayEnd begun codeBegins nextCode load levelOn oneGone ended closed did
-    msAfter modelAfter does takenIn allAtMost sends reads signal signals normalForm synchronizes untilSynchronized
+    msAfter modelAfter does takenIn allAtMost sends signal signals synchronizes untilSynchronized
     keys prefixes keysOf heldKeys withMark codeFrom marksThenDigit among notStruck remaining names firstSign named
-    readIn readDtmf sendIn hasRow sendFrom sendDtmf leftRows rightRows rows b1 b2 printedAt
+    sendIn hasRow sendFrom sendDtmf leftRows rightRows rows b1 b2 printedAt
 passes-dtmf = refl
 
-passes-edt : Passes edt
+passes-edt : Passes edt 0
 unfolding allTrue tests premiseTests noBurst endsIdle same offersNone frontMs backMs accepts modelSteps
     edt callsAEdt callsBEdt
     chars waiters heardIn offered mayBegin mayEnd begun codeBegins nextCode load levelOn oneGone ended closed did
-    msAfter modelAfter does takenIn allAtMost sends reads signal signals normalForm synchronizes untilSynchronized
+    msAfter modelAfter does takenIn allAtMost sends signal signals synchronizes untilSynchronized
     edtSignal edtElements digits sum tabulate
 passes-edt = refl
 
--- ---- what B makes of TOO
+-- ---- B's inhibition in the third
 
--- B's words after its steps, before the ms after the synchronizing code's last
-abbrev wordsTo : Lists → List Did → List Step → List ℕ
-wordsTo d ds steps =
-    let t = 1_780 + synchronizedAfter (theMode d) (follows d ds) in
-    wordsOf (take (t - d .openB) (toldEvents (theMode d) freshModel fresh (toldOf (theMode d) freshModel steps)))
+inhibited-model : modelAfter Dtmf freshModel (modelSteps Dtmf freshModel (take 5 callsBKeys)) .inhibitedMs ≡ 20
+unfolding accepts modelSteps callsBKeys
+    chars waiters offered mayBegin mayEnd begun codeBegins nextCode load levelOn oneGone ended closed did
+    msAfter modelAfter allAtMost sends signal
+    keys prefixes keysOf heldKeys withMark codeFrom marksThenDigit among notStruck remaining names firstSign named
+    sendIn hasRow sendFrom sendDtmf leftRows rightRows rows b1 b2 printedAt
+inhibited-model = refl
 
-mistaken-model : let d = baudot45 .lists in wordsTo d (didsOf d) (modelB d) ≡ faultWord ∷ chars "599"
-unfolding accepts modelSteps baudot45 callsA45 line45 callsB45
-    chars waiters hasDel heardIn offered mayBegin mayEnd begun codeBegins nextCode load levelOn oneGone ended closed did
-    msAfter modelAfter does takenIn allAtMost sends reads signal signals normalForm synchronizes untilSynchronized
+dtmf-inhibited : Inhibited
+dtmf-inhibited =
+    ap (λ (l : List Step). modelAfter Dtmf freshModel l .inhibitedMs) (steps-are 3 (take 5 callsBKeys))
+    ∙ inhibited-model
+
+-- ---- the words of the longest instance: what B's reader makes of each ms beside B's model is computed
+
+abbrev eventsIn50 : List Step → List Event
+eventsIn50 steps = toldEvents Baudot50 freshModel fresh (toldOf Baudot50 freshModel steps)
+
+reads50 : List Event → Bool
+reads50 es =
+    same (wordsOf (take 11_500 es)) (baudot50 .earlier)
+    && same (wordsOf (take 12_251 es)) (baudot50 .earlier ++ baudot50 .words)
+
+reads-50 : reads50 (eventsIn50 (modelSteps Baudot50 freshModel callsB50)) ≡ true
+unfolding reads50 same accepts modelSteps baudot50 line50 laterLine50 lastLine50 callsB50
+    chars waiters hasDel offered mayBegin mayEnd begun codeBegins nextCode load levelOn oneGone ended closed did
+    msAfter modelAfter allAtMost sends reads signal signals
     wanted sendBaudot readBaudot printedAt leftRows rightRows rows bits bitsFrom a1 a2 digits held baudotSignal
-    toldOf toldEvents msBy inhibitedBy hear inhibited wordsOf lastMs placed sampleAt samplesOf sampled frameStep
-    baudotKinds
-mistaken-model = refl
+    toldOf toldEvents msBy inhibitedBy hear inhibited wordsOf placed sampleAt samplesOf sampled frameStep baudotKinds
+reads-50 = refl
 
-mistaken : Mistaken
-mistaken =
-    let d = baudot45 .lists in
-    let a = steps-are (d .mode) (d .callsA) in
-    let b = steps-are (d .mode) (d .callsB) in
-    words-are d (1_780 + synchronized d) ∙ (λ i. wordsTo d (does (theMode d) freshModel (a i)) (b i)) ∙ mistaken-model
+words-50 : HandsOut baudot50 10_950
+unfolding reads50 baudot50
+words-50 =
+    let d = baudot50 .lists in
+    let es = eventsIn50 (stepsB d) in
+    let c : reads50 es ≡ true = ap (λ (l : List Step). reads50 (eventsIn50 l)) (steps-are 2 callsB50) ∙ reads-50 in
+    let earlier = same (wordsOf (take 11_500 es)) (baudot50 .earlier) in
+    let all = same (wordsOf (take 12_251 es)) (baudot50 .earlier ++ baudot50 .words) in
+    record {
+      earlier = words-are d 11_700 ∙ same-by _ _ (and-left earlier all c);
+      all = words-are d 12_451 ∙ same-by _ _ (and-right earlier all c);
+    }
 
 pub all-hold : AllHold
 all-hold = record {
-  baudot45-holds = holds baudot45 passes-45;
-  baudot50-holds = holds baudot50 passes-50;
-  dtmf-holds = holds dtmf passes-dtmf;
-  edt-holds = holds edt passes-edt;
-  mistaken = mistaken;
+  baudot45-holds = holds baudot45 810 passes-45 words-45;
+  baudot50-holds = holds baudot50 10_950 passes-50 words-50;
+  dtmf-holds = holds dtmf 120 passes-dtmf words-dtmf;
+  edt-holds = holds edt 0 passes-edt words-edt;
+  dtmf-inhibited = dtmf-inhibited;
 }

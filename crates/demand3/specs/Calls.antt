@@ -1,5 +1,5 @@
--- Document 01, "Demand 3 is a single claim": lists of offers and runs. Each call is played by the definitions that the contracts
--- of the station's entries cite, on the station that the last call returned or left.
+-- Document 01, "Demand 3 is a single claim": lists of offers and runs. Each call is played by the definitions that the
+-- contracts of the station's entries cite, on the station that the last call returned or left.
 use Prim.Native.Nat.{ℕ, zero, suc, _-_}
 use mathlib.Core.Bool.{Bool, cond}
 use mathlib.Core.List.{List, [], _∷_, map}
@@ -10,7 +10,8 @@ use Rattle.station.specs.declared.Station.{Station}
 use Rattle.station.specs.Entries.{openOf, offerOf, ranOf, sentAfter, wordsAfter}
 use Rattle.demand3.specs.Model.{Step, Offer, Ms, msIn}
 
--- An offer of some bytes. A run on some heard ms, with a sent slice and a word slice. Each is of any length and content.
+-- An offer of some bytes. A run on some heard ms, with a sent slice and a word slice. Each is of any length and
+-- content.
 pub data Call : Type 0 where
   OfferCall : List ℕ → Call
   RunCall : List ℕ → List ℕ → List ℕ → Call
@@ -31,8 +32,8 @@ left s (RunCall heard sent words) = ranOf s heard (length sent) (length words) .
 abbrev pub succeeds : Station → Call → Bool
 succeeds s c = eqb (answer s c) 0
 
--- What a call hands out if it succeeds: the front of its sent slice, one ms for each heard; the front of its word slice, as many
--- words as the run counts.
+-- What a call hands out if it succeeds: the front of its sent slice, one ms for each heard; the front of its word
+-- slice, as many words as the run counts.
 abbrev pub sentIf : Station → Call → List ℕ
 sentIf s (OfferCall text) = []
 sentIf s (RunCall heard sent words) = take (length heard) (sentAfter s heard (length words) sent)

@@ -1,4 +1,5 @@
--- DEMAND 3, over whole lists of calls. Each line names the words of the demand (D3) or of document 01 (01) that it is.
+-- DEMAND 3, over whole lists of calls: its premises, its conclusion, and what it says besides.
+-- Each line names the words of the demand (D3) or of document 01 (01) that it is.
 -- A rest is called idle period here, the settling code synchronizing code, a station's book send model, a lead
 -- preamble, a case shift.
 use Prim.Native.Nat.{ℕ, _+_, _-_, _≤_, _<_}
@@ -114,14 +115,20 @@ synchronized d = synchronizedAfter (theMode d) (followsA d)
 abbrev pub wordsDue : Lists → List ℕ
 wordsDue d = map characterWord (normalForm (theAlphabet d) (takenIn (drop (synchronized d) (followsA d))))
 
+-- D3: "the words B has handed out after the settling code", up to the ms asked about.
+abbrev pub handedOut : Lists → List ℕ
+handedOut d = drop (length (wordsBefore d (d .start + 300 + synchronized d))) (wordsBefore d (d .asked + 1))
+
 -- D3: "Then".
 pub record Conclusion (d : Lists) : Type 0 where
   -- D3: "At most 72 characters in Baudot, one in DTMF and none in EDT precede that point"; in a burst, too.
   pub before : length (takenIn (take (synchronized d) (followsA d))) ≤ mostBefore (theAlphabet d)
   -- D3: "at which A is in no burst, the words B has handed out after the settling code are exactly" these.
-  pub text : EndsIdle (followsA d) → wordsBefore d (d .asked + 1) ≡ wordsBefore d (d .start + 300 + synchronized d) ++ wordsDue d
-  -- D3: "with no fault". Each of them is a character.
-  pub no-fault : EndsIdle (followsA d) → allChars (wordsDue d) ≡ true
+  pub text : EndsIdle (followsA d)
+      → wordsBefore d (d .asked + 1) ≡ wordsBefore d (d .start + 300 + synchronized d) ++ wordsDue d
+  -- D3: "with no fault". Each word that is due is a character, of kind 0; and so is each that B has handed out.
+  pub no-fault-due : EndsIdle (followsA d) → allChars (wordsDue d) ≡ true
+  pub no-fault : EndsIdle (followsA d) → allChars (handedOut d) ≡ true
 
 -- 01: "each sent ms is the line signal of the book's lead or code, and quiet outside a burst". For each station by
 -- itself.
@@ -149,9 +156,3 @@ CutInTwo = (mode : ℕ) (past next : List Call) (xs ys sent words sent1 words1 s
 abbrev pub NormalTwice : Type 0
 NormalTwice = (mode : Mode) (text : List ℕ) → allChars text ≡ true
     → normalForm (alphabetOf mode) (normalForm (alphabetOf mode) text) ≡ normalForm (alphabetOf mode) text
-
-pub record Demand3 : Type 0 where
-  pub sends : SendsAsModel
-  pub reads : (d : Lists) → Premises d → Conclusion d
-  pub cut-in-two : CutInTwo
-  pub normal-twice : NormalTwice

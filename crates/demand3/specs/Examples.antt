@@ -1,29 +1,32 @@
--- Demand 3, computed: for each mode two lists of calls for which the premises hold, refused calls among them, and what B reads.
+-- Demand 3, computed: for each mode two lists of calls for which the premises hold, refused calls among them, and what
+-- B reads.
 use Prim.Native.Nat.{ℕ, _+_}
 use mathlib.Core.Path.{_≡_}
 use mathlib.Core.List.{List, [], _∷_, _++_}
 use lib.ListN.{length, take, drop, replicate}
-use Rattle.alphabet.specs.declared.Mode.the-variants.{Baudot45, Baudot50, Edt}
+use Rattle.alphabet.specs.declared.Mode.the-variants.{Baudot45, Baudot50, Dtmf, Edt}
 use Rattle.signal.specs.Signal.{signals, preamble}
 use Rattle.reader.specs.Words.{faultWord}
 use Rattle.line_theorems.specs.Examples.{chars}
-use Rattle.demand3.specs.Model.{takenIn}
+use Rattle.demand3.specs.Model.{freshModel, modelAfter, takenIn}
 use Rattle.demand3.specs.Reading.{EndsIdle}
-use Rattle.demand3.specs.Calls.{Call, OfferCall, RunCall}
+use Rattle.demand3.specs.Calls.{Call, OfferCall, RunCall, opened, stepsBy}
 use Rattle.demand3.specs.Demand3.{Lists, Premises, followsA, synchronized, wordsBefore}
 
--- The lists; the characters that A takes after the idle period up to the synchronizing code's last ms; the words of B after it.
+-- The lists; the characters that A takes after the idle period up to the synchronizing code's last ms; the words that
+-- B hands out up to there, of whatever it heard; its words after that.
 pub record Example : Type 0 where
   pub lists : Lists
   pub before : List ℕ
+  pub earlier : List ℕ
   pub words : List ℕ
 
 pub record Holds (e : Example) : Type 0 where
   pub premises : Premises (e .lists)
   pub ends-idle : EndsIdle (followsA (e .lists))
   pub before-is : takenIn (take (synchronized (e .lists)) (followsA (e .lists))) ≡ e .before
-  pub words-are : wordsBefore (e .lists) (e .lists .asked + 1)
-      ≡ wordsBefore (e .lists) (e .lists .start + 300 + synchronized (e .lists)) ++ e .words
+  pub earlier-is : wordsBefore (e .lists) (e .lists .start + 300 + synchronized (e .lists)) ≡ e .earlier
+  pub words-are : wordsBefore (e .lists) (e .lists .asked + 1) ≡ e .earlier ++ e .words
 
 -- n ms, heard as x; a run on some ms, with slices that are just long enough
 abbrev pub ms : ℕ → ℕ → List ℕ
@@ -32,9 +35,10 @@ ms n x = replicate n x
 abbrev pub run : List ℕ → Call
 run heard = RunCall heard (ms (length heard) 0) (ms (length heard) 0)
 
--- Baudot 45.45. A's burst of e ends with ms 1479. A byte above 127, a level that is none and a sent slice that is too short are
--- refused. B has sent b, has heard 11011 and then space, so that it is in figures and waits: it takes TOO for 599, and is right
--- from the shift code ahead of 1 on. Offers to it are refused or empty.
+-- Baudot 45.45. A's burst of e ends with ms 1479. A byte above 127, a level that is none and a sent slice that is too
+-- short are refused. B is opened in the idle period and hears 11011, then space: it is in figures, and in a frame when
+-- the line falls quiet. It gives a fault, takes TOO for 599, and is right from the shift code ahead of 1 on. Offers to
+-- it are refused or empty.
 unfoldable pub callsA45 : List Call
 callsA45 =
     OfferCall (chars "e") ∷
@@ -57,10 +61,8 @@ line45 =
 
 unfoldable pub callsB45 : List Call
 callsB45 =
-    OfferCall (chars "b") ∷
-    run (ms 800 0 ++ signals Baudot45 (0b11011 ∷ []) ++ ms 515 1) ∷
     OfferCall (0x41 ∷ 0x80 ∷ []) ∷
-    run (ms 260 2) ∷
+    run (signals Baudot45 (0b11011 ∷ []) ++ ms 75 2) ∷
     OfferCall [] ∷
     run (take 500 line45) ∷
     RunCall (ms 50 0) (ms 50 0) [] ∷
@@ -69,14 +71,23 @@ callsB45 =
 
 unfoldable pub baudot45 : Example
 baudot45 = record {
-  lists = record { mode = 1; callsA = callsA45; callsB = callsB45; openA = 1_000; openB = 0; start = 1_480; asked = 3_085 };
+  lists = record {
+    mode = 1;
+    callsA = callsA45;
+    callsB = callsB45;
+    openA = 1_000;
+    openB = 1_500;
+    start = 1_480;
+    asked = 3_085;
+  };
   before = chars "too";
+  earlier = faultWord ∷ chars "599";
   words = chars "1A";
 }
 
--- Baudot 50. More characters than there is space for are refused, and so are more than 4,096 ms. After e and 71 more, the shift
--- code is repeated ahead of the 73rd: B, in figures, is wrong about the 71 and right from there on. DEL has put it in letters
--- before it heard 11011.
+-- Baudot 50. More characters than there is space for are refused, and so are more than 4,096 ms. After e and 71 more,
+-- the shift code is repeated ahead of the 73rd: B, in figures, takes the 71 for 3 and is right from there on. DEL has
+-- put it in letters before it heard 11011.
 unfoldable pub callsA50 : List Call
 callsA50 =
     OfferCall (chars "e") ∷
@@ -97,7 +108,8 @@ unfoldable pub laterLine50 : List ℕ
 laterLine50 = signals Baudot50 (ms 26 0b00001)
 
 unfoldable pub lastLine50 : List ℕ
-lastLine50 = signals Baudot50 (ms 21 0b00001 ++ 0b11111 ∷ 0b10000 ∷ 0b11000 ∷ 0b11000 ∷ 0b11011 ∷ 0b10111 ∷ []) ++ 0 ∷ []
+lastLine50 =
+    signals Baudot50 (ms 21 0b00001 ++ 0b11111 ∷ 0b10000 ∷ 0b11000 ∷ 0b11000 ∷ 0b11011 ∷ 0b10111 ∷ []) ++ 0 ∷ []
 
 unfoldable pub callsB50 : List Call
 callsB50 =
@@ -112,12 +124,22 @@ callsB50 =
 
 unfoldable pub baudot50 : Example
 baudot50 = record {
-  lists = record { mode = 2; callsA = callsA50; callsB = callsB50; openA = 0; openB = 200; start = 450; asked = 12_450 };
+  lists = record {
+    mode = 2;
+    callsA = callsA50;
+    callsB = callsB50;
+    openA = 0;
+    openB = 200;
+    start = 450;
+    asked = 12_450;
+  };
   before = ms 71 0x65;
+  earlier = faultWord ∷ ms 71 0x33;
   words = chars "TOO1";
 }
 
--- DTMF. B is opened in the idle period and hears ** in it, so that it takes b for +. Key 17 is refused.
+-- DTMF. Key 17 is refused. B has heard **; its own burst of b ends with ms 779, so that it is inhibited up to ms 1079,
+-- inside the last 40 ms of the idle period. The prefix stays, and it takes b for +.
 unfoldable pub callsAKeys : List Call
 callsAKeys =
     run (ms 300 5) ∷
@@ -133,22 +155,36 @@ key k = ms 70 k ++ ms 50 0
 
 unfoldable pub callsBKeys : List Call
 callsBKeys =
-    run (ms 70 11 ++ ms 40 0 ++ ms 50 11) ∷
+    run (key 11 ++ key 11 ++ ms 250 0) ∷
+    OfferCall (chars "b") ∷
+    run (ms 140 5) ∷
     OfferCall (0x62 ∷ 0xff ∷ []) ∷
+    run (ms 260 11) ∷
     run (ms 40 0 ++ key 1 ++ key 11 ++ key 11 ++ key 4 ++ key 1 ++ 0 ∷ []) ∷
     []
 
 unfoldable pub dtmf : Example
 dtmf = record {
-  lists = record { mode = 3; callsA = callsAKeys; callsB = callsBKeys; openA = 500; openB = 900; start = 800; asked = 1_700 };
+  lists = record {
+    mode = 3;
+    callsA = callsAKeys;
+    callsB = callsBKeys;
+    openA = 500;
+    openB = 170;
+    start = 800;
+    asked = 1_700;
+  };
   before = chars "b";
+  earlier = chars "+";
   words = chars ":b";
 }
 
--- EDT. B is in a frame when the line falls quiet; it reads from the first character on.
+-- EDT. A's burst of e ends with ms 399. B hears the first 60 ms of that code and then space: it gives a fault, and
+-- waits when the line falls quiet; it reads from the first character on.
 unfoldable pub callsAEdt : List Call
 callsAEdt =
-    run (ms 300 0) ∷
+    OfferCall (chars "e") ∷
+    run (ms 700 2) ∷
     OfferCall (chars "Ab") ∷
     run (ms 300 2) ∷
     run (ms 300 3) ∷
@@ -158,7 +194,7 @@ callsAEdt =
 
 unfoldable pub callsBEdt : List Call
 callsBEdt =
-    run (ms 200 1 ++ ms 60 2) ∷
+    run (ms 100 1 ++ take 60 (signals Edt (chars "e")) ++ ms 300 2) ∷
     run (ms 40 0 ++ preamble Edt) ∷
     RunCall (ms 10 0) [] [] ∷
     run (signals Edt (chars "Ab1") ++ 0 ∷ []) ∷
@@ -166,18 +202,27 @@ callsBEdt =
 
 unfoldable pub edt : Example
 edt = record {
-  lists = record { mode = 4; callsA = callsAEdt; callsB = callsBEdt; openA = 0; openB = 0; start = 0; asked = 900 };
+  lists = record {
+    mode = 4;
+    callsA = callsAEdt;
+    callsB = callsBEdt;
+    openA = 0;
+    openB = 200;
+    start = 400;
+    asked = 1_300;
+  };
   before = [];
+  earlier = faultWord ∷ [];
   words = chars "Ab1";
 }
 
--- The first: what B makes of TOO, and of the space before.
-abbrev pub Mistaken : Type 0
-Mistaken = wordsBefore (baudot45 .lists) (1_780 + synchronized (baudot45 .lists)) ≡ faultWord ∷ chars "599"
+-- In the third, B has 20 inhibited ms to come at the first of the last 40 ms of the idle period.
+abbrev pub Inhibited : Type 0
+Inhibited = modelAfter Dtmf freshModel (stepsBy (opened 3) (take 5 callsBKeys)) .inhibitedMs ≡ 20
 
 pub record AllHold : Type 0 where
   pub baudot45-holds : Holds baudot45
   pub baudot50-holds : Holds baudot50
   pub dtmf-holds : Holds dtmf
   pub edt-holds : Holds edt
-  pub mistaken : Mistaken
+  pub dtmf-inhibited : Inhibited

@@ -4,3 +4,4 @@ pub mod Calls
 pub mod Accepts
 pub mod Demand3
 pub mod Examples
+pub mod Claim

@@ -1,0 +1,18 @@
+-- Demand 3, the whole claim.
+use Rattle.alphabet.specs.Modes.{alphabetOf}
+use Rattle.alphabet_theorems.proofs.Normal.{normal-form-twice}
+use Rattle.demand3.specs.Claim.{Demand3}
+use Rattle.demand3.proofs.Accepts.{succeeds-as-model}
+use Rattle.demand3.proofs.CutInTwo.{cut-in-two}
+use Rattle.demand3.proofs.Demand3.{sends-as-model, concludes}
+use Rattle.demand3.proofs.Examples.{all-hold}
+
+pub demand-3 : Demand3
+demand-3 = record {
+  succeeds = succeeds-as-model;
+  sends = sends-as-model;
+  reads = concludes;
+  cut-in-two = cut-in-two;
+  normal-twice = λ mode. normal-form-twice (alphabetOf mode);
+  examples = all-hold;
+}
