@@ -32,22 +32,22 @@ use Rattle.line_theorems.specs.Examples.{chars}
 use Rattle.queue.specs.Queue.{waiters}
 use Rattle.burst.specs.Rules.{mayBegin, mayEnd}
 use Rattle.station.specs.Station.{hasDel}
 use Rattle.demand3.specs.Model.{Step, Offer, Ms, Did, freshModel, offered, begun, codeBegins, nextCode, load}
 use Rattle.demand3.specs.Model.{levelOn, oneGone, ended, closed, did, msAfter, modelAfter, does, sentIn, takenIn}
 use Rattle.demand3.specs.Model.{heardIn, msIn, OffersNone}
 use Rattle.demand3.specs.Reading.{synchronizes, untilSynchronized, synchronizedAfter, NoBurst, EndsIdle}
 use Rattle.demand3.specs.Demand3.{Lists, theMode, stepsA, stepsB, didsA, between, Premises, followsA}
 use Rattle.demand3.specs.Demand3.{synchronized, wordsBefore}
-use Rattle.demand3.specs.Examples.{Example, Holds, Inhibited, AllHold, callsA45, line45, callsB45, baudot45}
-use Rattle.demand3.specs.Examples.{callsA50, line50, laterLine50, lastLine50, callsB50, baudot50}
-use Rattle.demand3.specs.Examples.{callsAKeys, callsBKeys, dtmf, callsAEdt, callsBEdt, edt}
+use Rattle.demand3_claim.specs.Examples.{Example, Holds, Inhibited, AllHold, callsA45, line45, callsB45, baudot45}
+use Rattle.demand3_claim.specs.Examples.{callsA50, line50, laterLine50, lastLine50, callsB50, baudot50}
+use Rattle.demand3_claim.specs.Examples.{callsAKeys, callsBKeys, dtmf, callsAEdt, callsBEdt, edt}
 use Rattle.demand3.proofs.Told.{inhibitedBy, msBy, toldEvents}
 use Rattle.demand3.proofs.Cuts.{behind, does-length}
 use Rattle.demand3.proofs.OwnRules.{toldOf, own-does, own-heard}
 use Rattle.demand3.specs.Accepts.{accepts}
 use Rattle.demand3.proofs.Accepts.{modelSteps, steps-are}
 use Rattle.demand3.proofs.Demand3.{sends-as-model, words-are}
-use Rattle.demand3.proofs.ExampleWords.{HandsOut, words-45, words-dtmf, words-edt}
+use Rattle.demand3_claim.proofs.ExampleWords.{HandsOut, words-45, words-dtmf, words-edt}
 
 -- ---- tests
 

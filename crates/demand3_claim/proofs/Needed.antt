@@ -30,21 +30,21 @@ use Rattle.line_theorems.specs.Examples.{chars}
 use Rattle.queue.specs.Queue.{waiters}
 use Rattle.burst.specs.Rules.{mayBegin, mayEnd}
 use Rattle.station.specs.Station.{hasDel}
 use Rattle.demand3.specs.Model.{Step, Did, freshModel, offered, begun, codeBegins, nextCode, load}
 use Rattle.demand3.specs.Model.{levelOn, oneGone, ended, closed, did, msAfter, modelAfter, does, sentIn, takenIn}
 use Rattle.demand3.specs.Model.{heardIn}
 use Rattle.demand3.specs.Reading.{synchronizes, untilSynchronized, synchronizedAfter}
 use Rattle.demand3.specs.Calls.{OfferCall}
 use Rattle.demand3.specs.Accepts.{accepts}
 use Rattle.demand3.specs.Demand3.{Lists, theMode, theAlphabet, stepsB, didsA, between, followsA}
 use Rattle.demand3.specs.Demand3.{synchronized, Conclusion}
-use Rattle.demand3.specs.Examples.{ms, run, key}
+use Rattle.demand3_claim.specs.Examples.{ms, run, key}
 use Rattle.demand3.proofs.Told.{inhibitedBy, msBy, toldEvents}
 use Rattle.demand3.proofs.OwnRules.{toldOf}
 use Rattle.demand3.proofs.Accepts.{modelSteps, steps-are}
 use Rattle.demand3.proofs.Demand3.{same-words, words-are}
-use Rattle.demand3.proofs.Examples.{noBurst, endsIdle, ends-by, same, offersNone, frontMs, backMs, pastOf}
-use Rattle.demand3.proofs.Examples.{sinceOf, follows, premiseTests, modelB, didsOf}
+use Rattle.demand3_claim.proofs.Examples.{noBurst, endsIdle, ends-by, same, offersNone, frontMs, backMs, pastOf}
+use Rattle.demand3_claim.proofs.Examples.{sinceOf, follows, premiseTests, modelB, didsOf}
 
 -- ---- what is computed of two lists: A does ds, and B has these steps
 

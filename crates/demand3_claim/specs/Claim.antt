@@ -1,7 +1,7 @@
 -- DEMAND 3, "a single claim over whole lists": all its parts.
 use Rattle.demand3.specs.Accepts.{SucceedsAsModel}
 use Rattle.demand3.specs.Demand3.{Lists, Premises, Conclusion, SendsAsModel, CutInTwo, NormalTwice}
-use Rattle.demand3.specs.Examples.{AllHold}
+use Rattle.demand3_claim.specs.Examples.{AllHold}
 
 pub record Demand3 : Type 0 where
   -- No call is refused without a reason, and each sent ms is the send model's.

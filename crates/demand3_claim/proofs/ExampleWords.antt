@@ -32,10 +32,10 @@ use Rattle.queue.specs.Queue.{waiters, allWait, room, offered, inRange as queue
 use Rattle.station.specs.Station.{freshStation, hasDel, offeredTo, stationMs, eventOf}
 use Rattle.station.specs.Range.{inRange}
 use Rattle.station.specs.Entries.{openOf, offerAnswer, offerOf, runAnswer, ranOf, wordsAfter}
 use Rattle.demand3.specs.Model.{heardIn}
 use Rattle.demand3.specs.Calls.{upTo}
 use Rattle.demand3.specs.Demand3.{wordsBefore}
-use Rattle.demand3.specs.Examples.{Example, line45, callsB45, baudot45, callsBKeys, dtmf, callsBEdt, edt}
+use Rattle.demand3_claim.specs.Examples.{Example, line45, callsB45, baudot45, callsBKeys, dtmf, callsBEdt, edt}
 
 -- up to k ms after the idle period, and up to the ms asked about
 pub record HandsOut (e : Example) (k : ℕ) : Type 0 where

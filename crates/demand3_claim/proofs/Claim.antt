@@ -1,11 +1,11 @@
 -- Demand 3, the whole claim.
 use Rattle.alphabet.specs.Modes.{alphabetOf}
 use Rattle.alphabet_theorems.proofs.Normal.{normal-form-twice}
-use Rattle.demand3.specs.Claim.{Demand3}
+use Rattle.demand3_claim.specs.Claim.{Demand3}
 use Rattle.demand3.proofs.Accepts.{succeeds-as-model}
 use Rattle.demand3.proofs.CutInTwo.{cut-in-two}
 use Rattle.demand3.proofs.Demand3.{sends-as-model, concludes}
-use Rattle.demand3.proofs.Examples.{all-hold}
+use Rattle.demand3_claim.proofs.Examples.{all-hold}
 
 pub demand-3 : Demand3
 demand-3 = record {

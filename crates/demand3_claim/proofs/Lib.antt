@@ -1,0 +1,4 @@
+pub mod ExampleWords
+pub mod Examples
+pub mod Claim
+pub mod Needed
