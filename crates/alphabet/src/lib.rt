@@ -1,7 +1,7 @@
 // T.50 characters, line codes and modes: what a character sends, what a code reads as.
 ghost use mathlib.Core.Path.{_≡_};
 ghost use Prim.Native.Nat.{_≤_, _<_};
-ghost use Rattle.alphabet.specs.Modes.{modeNumber, modeOf, preambleOf, alphabetOf, codes, frameCodes, highestLevel};
+ghost use Rattle.alphabet.specs.Modes.{modeNumber, modeOf, preambleOf, alphabetOf, frameCodes, highestLevel};
 ghost use Rattle.alphabet.specs.code.Numbers.{longest, lastSample};
 
 pub mod dtmf;
@@ -54,14 +54,14 @@ impl Mode {
     pub const BAUDOT_50_CODE: u16 = 15 * Self::BAUDOT_50_ELEMENT / 2;
 
     // It is sampled in the middle of each element; the stop's sample is the last.
-    pub const BAUDOT_45_LAST: u16 = 13 * Self::BAUDOT_45_ELEMENT / 2;
+    pub const BAUDOT_45_LAST: u8 = (13 * Self::BAUDOT_45_ELEMENT / 2) as u8;
 
-    pub const BAUDOT_50_LAST: u16 = 13 * Self::BAUDOT_50_ELEMENT / 2;
+    pub const BAUDOT_50_LAST: u8 = (13 * Self::BAUDOT_50_ELEMENT / 2) as u8;
 
     pub const BAUDOT_PREAMBLE: u16 = 150;
 
     // Five bits.
-    pub const BAUDOT_CODES: u16 = 32;
+    pub const BAUDOT_CODES: u8 = 32;
 
     // A DTMF key, and the quiet after it.
     pub const KEY_ON: u16 = 70;
@@ -73,9 +73,6 @@ impl Mode {
     // A DTMF code has at most three marks and a digit.
     pub const DTMF_CODE: u16 = 4 * Self::KEY;
 
-    // 16 times the prefix plus the digit's key.
-    pub const DTMF_CODES: u16 = 256;
-
     pub const LAST_KEY: u8 = 16;
 
     // An EDT code has eleven elements, which are no whole ms.
@@ -83,12 +80,12 @@ impl Mode {
 
     pub const EDT_ELEMENTS: u16 = 11;
 
-    pub const EDT_LAST: u16 = (21 * Self::EDT_CODE / 2) / Self::EDT_ELEMENTS;
+    pub const EDT_LAST: u8 = ((21 * Self::EDT_CODE / 2) / Self::EDT_ELEMENTS) as u8;
 
     pub const EDT_PREAMBLE: u16 = 300;
 
     // Seven bits.
-    pub const EDT_CODES: u16 = 128;
+    pub const EDT_CODES: u8 = 128;
 
     // The levels of Baudot and EDT; 0 is quiet.
     pub const MARK: u8 = 1;
@@ -141,20 +138,8 @@ impl Mode {
         }
     }
 
-    // A mode's codes are below this.
-    pub fn codes(self) -> u16
-        ensures { λ r. ⌜ r ≡ codes (alphabetOf self) ⌝ }
-    {
-        match self {
-            Mode::Baudot45 => Self::BAUDOT_CODES,
-            Mode::Baudot50 => Self::BAUDOT_CODES,
-            Mode::Dtmf => Self::DTMF_CODES,
-            Mode::Edt => Self::EDT_CODES,
-        }
-    }
-
     // The digits of a frame are below this; DTMF has no frames.
-    pub fn frame_codes(self) -> u16
+    pub fn frame_codes(self) -> u8
         ensures { λ r. ⌜ r ≡ frameCodes self ⌝ }
     {
         match self {
@@ -178,7 +163,7 @@ impl Mode {
     }
 
     // The ms of a frame's last sample; 0 in DTMF, which has no frames.
-    pub fn last_sample(self) -> u16
+    pub fn last_sample(self) -> u8
         ensures { λ r. ⌜ r ≡ lastSample self ⌝ }
     {
         match self {

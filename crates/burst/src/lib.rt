@@ -262,9 +262,9 @@ fn is_code(a: Alphabet, code: LineCode) -> bool
     ensures { λ r. ⌜ r ≡ isCodeOf a (code .0) ⌝ }
 {
     match a {
-        Alphabet::Baudot => (code.0 as u16) < Mode::BAUDOT_CODES,
+        Alphabet::Baudot => code.0 < Mode::BAUDOT_CODES,
         Alphabet::Dtmf => is_dtmf_code(code),
-        Alphabet::Edt => (code.0 as u16) < Mode::EDT_CODES,
+        Alphabet::Edt => code.0 < Mode::EDT_CODES,
     }
 }
 

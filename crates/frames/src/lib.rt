@@ -46,9 +46,9 @@ const HUNTING: u8 = 0;
 const WAITING: u8 = 1;
 
 // The weight of a frame's last digit.
-pub const BAUDOT_TOP: u8 = (Mode::BAUDOT_CODES / 2) as u8;
+pub const BAUDOT_TOP: u8 = Mode::BAUDOT_CODES / 2;
 
-pub const EDT_TOP: u8 = (Mode::EDT_CODES / 2) as u8;
+pub const EDT_TOP: u8 = Mode::EDT_CODES / 2;
 
 // EDT's sample j falls at ms (100 j + 50) / 11: 11 times that ms is 100 j + 50, less a rest of at most 10.
 const EDT_REST: u16 = Mode::EDT_ELEMENTS - 1;
@@ -252,8 +252,8 @@ pub fn frame_step(mode: Mode, f: Frame, heard: u8) -> FrameRead
 pub fn in_range(mode: Mode, f: Frame) -> bool
     ensures { λ r. ⌜ r ≡ frameIn mode f ⌝ }
 {
-    if mode.last_sample() + 1 < f.place as u16 {
+    if mode.last_sample() + 1 < f.place {
         return false;
     }
-    (f.digits as u16) < mode.frame_codes()
+    f.digits < mode.frame_codes()
 }

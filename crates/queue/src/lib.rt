@@ -180,6 +180,9 @@ pub fn clear(chars: &mut [u8; 256])
 pub fn in_range(a: Alphabet, waiting: u16, chars: &[u8; 256]) -> bool
     ensures { λ r. ⌜ r ≡ inRange a (queue waiting (now (chars .entry))) ⌝ }
 {
+    if waiting == 0 {
+        return true;
+    }
     if MOST < waiting {
         return false;
     }

@@ -108,11 +108,11 @@ fn print_mode(mode: Mode) {
 
 fn main() {
     print_mode(Mode::Baudot45);
-    print_below(Mode::Baudot45, Mode::BAUDOT_CODES as u8);
+    print_below(Mode::Baudot45, Mode::BAUDOT_CODES);
     print_mode(Mode::Baudot50);
-    print_below(Mode::Baudot50, Mode::BAUDOT_CODES as u8);
+    print_below(Mode::Baudot50, Mode::BAUDOT_CODES);
     print_mode(Mode::Dtmf);
     print_prefixes();
     print_mode(Mode::Edt);
-    print_below(Mode::Edt, Mode::EDT_CODES as u8)
+    print_below(Mode::Edt, Mode::EDT_CODES)
 }

@@ -12,17 +12,11 @@ enum-told c = search needs
 is-dtmf-code-requires : tie.Need-is-dtmf-code-requires
 is-dtmf-code-requires c κs = search needs
 
-cast-result : tie.Need-cast-result
-cast-result c = search needs
-
 enum-told-2 : tie.Need-enum-told-2
 enum-told-2 c = search needs
 
 enum-told-3 : tie.Need-enum-told-3
 enum-told-3 c = search needs
-
-cast-result-2 : tie.Need-cast-result-2
-cast-result-2 c = search needs
 
 returns : tie.Need-returns
 unfolding isCodeOf
@@ -39,13 +33,4 @@ returns-3 c = simp (c .before .enum-told3 .given .1)
 pub is-code-spec : {M : Type 1} → statement M
 is-code-spec =
     tie.close
-    (tie.spec
-    enum-told
-    cast-result
-    enum-told-2
-    is-dtmf-code-requires
-    enum-told-3
-    cast-result-2
-    returns
-    returns-2
-    returns-3)
+    (tie.spec enum-told enum-told-2 is-dtmf-code-requires enum-told-3 returns returns-2 returns-3)

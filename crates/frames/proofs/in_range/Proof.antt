@@ -22,17 +22,11 @@ add-if1 c =
     let n = last-few mode in
     omega arith
 
-cast-if1 : tie.Need-cast-if1
-cast-if1 c = search needs
-
 returns : tie.Need-returns
 returns c =
     let s = c .before .before .before .args in
     let l = c .before .before .last-sample .ensures ∙ last-is (s .mode) in
     simp (lt-leb (s .f .place) (lastMs (samplesOf (s .mode)) + 1) (omega (arith, c .if1 .taken)))
-
-cast-result : tie.Need-cast-result
-cast-result c = search needs
 
 frame-codes-requires : tie.Need-frame-codes-requires
 frame-codes-requires c κs = search needs
@@ -43,17 +37,8 @@ returns-2 c =
     let l = c .before .before .before .before .last-sample .ensures ∙ last-is (s .mode) in
     simp (
       le-leb (s .f .place) (lastMs (samplesOf (s .mode)) + 1) (omega (arith, c .before .before .if1 .left)),
-      c .frame-codes .ensures,
+      c .before .frame-codes .ensures,
     )
 
 pub in-range-spec : {M : Type 1} → statement M
-in-range-spec =
-    tie.close
-    (tie.spec
-    last-sample-requires
-    add-if1
-    cast-if1
-    returns
-    cast-result
-    frame-codes-requires
-    returns-2)
+in-range-spec = tie.close (tie.spec last-sample-requires add-if1 returns frame-codes-requires returns-2)
