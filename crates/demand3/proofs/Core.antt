@@ -28,8 +28,8 @@ use Rattle.reader.specs.declared.Reader.{Reader}
 use Rattle.reader.specs.Reader.{hear, inhibited}
 use Rattle.reader.specs.code.Bounds.{ReaderIn}
 use Rattle.reader.specs.Words.{wordsOf, events, words}
-use Rattle.line_theorems.specs.Resting.{restsAll, Settled}
-use Rattle.line_theorems.proofs.Resting.{settles}
+use Rattle.line_theorems.specs.Silence.{silentAll, Settled}
+use Rattle.line_theorems.proofs.Silence.{settles}
 use Rattle.demand3.specs.Model.{OnLine, Idle, Sending, Model, Loaded, Did, freshModel, offered, loadBy}
 use Rattle.demand3.specs.Model.{levelOn, inBurst, oneGone, closed, sentIn, takenIn}
 use Rattle.demand3.specs.Reading.{atOnce, mostBefore, untilSynchronized, synchronizedAfter, NoBurst, EndsIdle}
@@ -133,17 +133,17 @@ module _ (mode : Mode) where
   none-inhibited (x ∷ xs) r = behind (none-inhibited xs (hear mode r x .reader))
 
   -- quiet ms, the first n of them inhibited, and then others
-  quiet-rests : (k n : ℕ) (r : Reader) (xs : List ℕ) → n ≤ k
+  quiet-silent : (k n : ℕ) (r : Reader) (xs : List ℕ) → n ≤ k
       → (bs : List Bool) × (length bs ≡ k)
-      × (drop k (eventsInhibited mode n r (replicate k 0 ++ xs)) ≡ events mode (restsAll mode r bs) xs)
-  unfolding eventsInhibited restsAll
-  quiet-rests zero zero r xs h = ([], refl, none-inhibited xs r)
-  quiet-rests zero (suc n) r xs h = absurd (omega arith)
-  quiet-rests (suc k) zero r xs h =
-      let i = quiet-rests k zero (hear mode r 0 .reader) xs (omega arith) in
+      × (drop k (eventsInhibited mode n r (replicate k 0 ++ xs)) ≡ events mode (silentAll mode r bs) xs)
+  unfolding eventsInhibited silentAll
+  quiet-silent zero zero r xs h = ([], refl, none-inhibited xs r)
+  quiet-silent zero (suc n) r xs h = absurd (omega arith)
+  quiet-silent (suc k) zero r xs h =
+      let i = quiet-silent k zero (hear mode r 0 .reader) xs (omega arith) in
       (false ∷ i .0, ap suc (i .1), i .2)
-  quiet-rests (suc k) (suc n) r xs h =
-      let i = quiet-rests k n (inhibited r) xs (omega arith) in
+  quiet-silent (suc k) (suc n) r xs h =
+      let i = quiet-silent k n (inhibited r) xs (omega arith) in
       (true ∷ i .0, ap suc (i .1), i .2)
 
 -- ---- what is taken are characters, and so are their normal forms
@@ -272,11 +272,11 @@ module _ (mode : Mode) (past on : List Told) (r : Reader) (n : ℕ) (p : AfterId
   reads-cut =
       let L = laws mode in
       let f = fine-after mode L (c .front) m (fine-after mode L past freshModel (fresh-fine mode)) in
-      let b = quiet-rests mode 40 n r (sentIn next) (p .inhibited-in) in
+      let b = quiet-silent mode 40 n r (sentIn next) (p .inhibited-in) in
       let next-is = ap (drop 40) on-is ∙ drop-at forty next 40 forty-length in
       let heard-is = ap (λ (l : List ℕ). drop 40 (eventsInhibited mode n r l)) sent-is ∙ b .2 in
       rw (next-is, heard-is)
-      (reads mode L (c .back) m′ (restsAll mode r (b .0)) f idle-then (settles mode r (p .reader-in) (b .0) (b .1)))
+      (reads mode L (c .back) m′ (silentAll mode r (b .0)) f idle-then (settles mode r (p .reader-in) (b .0) (b .1)))
 
 pub reads-after-idle : (mode : Mode) → ReadsAfterIdle mode
 reads-after-idle mode past on r n p = reads-cut mode past on r n p (cut-after 40 on (p .forty-ms))

@@ -15,7 +15,7 @@ use Rattle.reader.specs.declared.Event.{Event}
 use Rattle.reader.specs.declared.Reader.{Reader}
 use Rattle.reader.specs.Reader.{hear}
 use Rattle.reader.specs.Words.{wordOf, wordsOf, readerAfter, events, words}
-use Rattle.line_theorems.specs.Resting.{Settled}
+use Rattle.line_theorems.specs.Silence.{Settled}
 use Rattle.demand3.specs.Model.{OnLine, Idle, Sending, Model, Loaded, Did, offered, loadBy}
 use Rattle.demand3.specs.Model.{levelOn, oneGone, ended, sentIn, takenIn}
 use Rattle.demand3.specs.Reading.{synchronizes, endsSynchronizing, untilSynchronized}

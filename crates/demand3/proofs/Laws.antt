@@ -39,7 +39,7 @@ use Rattle.reader.specs.declared.Reading.{Reading}
 use Rattle.reader.specs.Reader.{reader, eventOf, hearFrame, hear, keyEvent, prefixAfter}
 use Rattle.reader.specs.Words.{wordOf, wordsOf, readerAfter, words}
 use Rattle.signal.specs.Signal.{signal, signals, preamble, held, heldKeys, baudotSignal, edtSignal}
-use Rattle.line_theorems.specs.Resting.{Settled}
+use Rattle.line_theorems.specs.Silence.{Settled}
 use Rattle.line_theorems.proofs.Chain.{Gives, none, marks-pass}
 use Rattle.line_theorems.proofs.BaudotChain.{codes-read, code-45, code-50, code-edt}
 use Rattle.line_theorems.proofs.DtmfChain.{keys-given, shape-keys, row-shape, row-read}

@@ -40,13 +40,13 @@ no-burst own-2 = refl
 
 -- the numbers stand for what the model has on the line
 pub data Stands (mode : Mode) : Line → OnLine → Type 0 where
-  rests : Stands mode idle Idle
+  no-burst : Stands mode idle Idle
   sending : {part : Part} {n : ℕ} → PartNo part n → (code at : ℕ)
       → Stands mode (onLine n code at) (Sending part (drop at (partMs mode (onLine n code at))))
 
 module _ (mode : Mode) where
   pub burst-same : {l : Line} {on : OnLine} → Stands mode l on → line.inBurst l ≡ inBurst on
-  burst-same rests = refl
+  burst-same no-burst = refl
   burst-same (sending p code at) = no-burst p
 
   -- the level
@@ -59,7 +59,7 @@ module _ (mode : Mode) where
 
   pub level-same : {l : Line} {on : OnLine} → Stands mode l on → line.levelOn mode l ≡ levelOn on
   unfolding line.levelOn levelOn partMs
-  level-same rests = refl
+  level-same no-burst = refl
   level-same (sending {part} {n} p code at) = level-any part (partMs mode (onLine n code at)) at
 
   -- one ms has gone
@@ -70,7 +70,7 @@ module _ (mode : Mode) where
 
   pub gone-stands : {l : Line} {on : OnLine} → Stands mode l on → Stands mode (line.oneGone mode l) (oneGone on)
   unfolding line.oneGone oneGone partMs
-  gone-stands rests = rests
+  gone-stands no-burst = no-burst
   gone-stands (sending {part} {n} p code at) = go (ltb at (length ms)) refl
     where
       ms : List ℕ
@@ -100,7 +100,7 @@ module _ (mode : Mode) where
   pub closed-stands : {l : Line} {on : OnLine} (ends : Bool) → Stands mode l on
       → Stands mode (line.closed mode ends l) (closed ends on)
   unfolding line.closed line.isOver closed
-  closed-stands ends rests = rests
+  closed-stands ends no-burst = no-burst
   closed-stands ends (sending {part} {n} p code at) =
       rw (no-burst p) (go (leb (length ms) at) refl ends refl)
     where
@@ -109,7 +109,7 @@ module _ (mode : Mode) where
 
       go : (b : Bool) → leb (length ms) at ≡ b → (c : Bool) → ends ≡ c
           → Stands mode (cond (b && c) idle (onLine n code at)) (closed ends (Sending part (drop at ms)))
-      go true e true f = rw (over-closed ends part ms at (leb-true (length ms) at e), f) rests
+      go true e true f = rw (over-closed ends part ms at (leb-true (length ms) at e), f) no-burst
       go true e false f = rw (over-closed ends part ms at (leb-true (length ms) at e), f) (sending p code at)
       go false e c f = rw (stays-closed ends part ms at (leb-false (length ms) at e)) (sending p code at)
 
@@ -121,8 +121,8 @@ module _ (mode : Mode) where
   pub begun-stands : {l : Line} {on : OnLine} (begins : Bool) → Stands mode l on
       → Stands mode (line.begun begins l) (begun mode begins on)
   unfolding line.begun begun
-  begun-stands true rests = preamble-stands
-  begun-stands false rests = rests
+  begun-stands true no-burst = preamble-stands
+  begun-stands false no-burst = no-burst
   begun-stands true (sending p code at) = rw (no-burst p) (sending p code at)
   begun-stands false (sending p code at) = sending p code at
 
@@ -177,7 +177,7 @@ module _ (mode : Mode) where
   pub next-like : {l : Line} {on : OnLine} {waiting front : ℕ} {ws : List ℕ} (s : Sender) → Heads waiting front ws
       → Stands mode l on → LoadedLike ws (line.nextCode mode waiting front l s) (nextCode mode ws on s)
   unfolding line.nextCode line.isOver nextCode
-  next-like s h rests = record { line-is = rests; sender-is = refl; waiting-is = refl }
+  next-like s h no-burst = record { line-is = no-burst; sender-is = refl; waiting-is = refl }
   next-like s h (sending {part} {n} p code at) = rw (no-burst p) (go h (leb (length ms) at) refl)
     where
       ms : List ℕ

@@ -36,7 +36,7 @@ use Rattle.demand3.specs.Model.{Model, Loaded, freshModel, offered, begu
 use Rattle.demand3.specs.Model.{closed, silenceAfter, beginsIn, load, endsIn}
 use Rattle.demand3.specs.Calls.{opened}
 use Rattle.demand3.proofs.Told.{didBy, inhibitedBy, msBy, readerBy}
-use Rattle.demand3.proofs.Stands.{Stands, rests, LoadedLike, Heads, none, some, burst-same, level-same}
+use Rattle.demand3.proofs.Stands.{Stands, no-burst, LoadedLike, Heads, none, some, burst-same, level-same}
 use Rattle.demand3.proofs.Stands.{gone-stands, closed-stands, begun-stands, next-like}
 
 -- the station's silence stops at 300: it is the model's, or both are at least 300
@@ -272,7 +272,7 @@ fresh-like mode = record {
   full = fresh-full (modeNumber mode);
   mode-is = refl;
   waiting-is = refl;
-  line-is = rests;
+  line-is = no-burst;
   sender-is = refl;
   silence-is = same 300 (omega arith);
   inhibited-is = refl;

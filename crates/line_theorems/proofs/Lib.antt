@@ -2,7 +2,7 @@ pub mod FrameRules
 pub mod AnyElement
 pub mod EdtReading
 pub mod KeyRules
-pub mod Resting
+pub mod Silence
 pub mod Chain
 pub mod BaudotChain
 pub mod DtmfChain

@@ -1,3 +1,3 @@
 pub mod Text
-pub mod Resting
+pub mod Silence
 pub mod Examples

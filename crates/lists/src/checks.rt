@@ -1,4 +1,5 @@
-// Tests over slices of bytes, and the most ms of one call. Every byte is looked at, so that the loops are compiled to vector instructions.
+// Tests over slices of bytes, and the most ms of one call. No loop stops early, so that it is compiled to vector
+// instructions.
 ghost use mathlib.Core.Path.{_≡_};
 ghost use Prim.Native.Nat.{ℕ, _≤_};
 ghost use lib.Dec.{leb};

@@ -1,4 +1,4 @@
--- Ms that are quiet or inhibited.
+-- Ms of silence: quiet or inhibited.
 use Prim.Native.Nat.{ℕ}
 use mathlib.Core.Bool.{Bool, cond}
 use mathlib.Core.List.{List, [], _∷_}
@@ -12,12 +12,12 @@ use Rattle.reader.specs.Reader.{hear, inhibited}
 use mathlib.Core.Path.{_≡_}
 
 -- One such ms: inhibited, or heard as quiet.
-abbrev pub rests : Mode → Reader → Bool → Reader
-rests mode r b = cond b (inhibited r) (hear mode r quiet .reader)
+abbrev pub silentMs : Mode → Reader → Bool → Reader
+silentMs mode r b = cond b (inhibited r) (hear mode r quiet .reader)
 
-unfoldable pub restsAll : Mode → Reader → List Bool → Reader
-restsAll mode r [] = r
-restsAll mode r (b ∷ bs) = restsAll mode (rests mode r b) bs
+unfoldable pub silentAll : Mode → Reader → List Bool → Reader
+silentAll mode r [] = r
+silentAll mode r (b ∷ bs) = silentAll mode (silentMs mode r b) bs
 
 -- The reader hunts (Baudot, EDT) or needs no more quiet (DTMF).
 abbrev pub Settled : Mode → Reader → Type 0

@@ -23,29 +23,29 @@ use Rattle.frames.specs.Range.{lastMs}
 use Rattle.frames.specs.code.Bounds.{FrameOf}
 use Rattle.keys.specs.code.Bounds.{KeysIn}
 use Rattle.reader.specs.code.Bounds.{ReaderIn}
-use Rattle.line_theorems.specs.Resting.{rests, restsAll, Settled}
+use Rattle.line_theorems.specs.Silence.{silentMs, silentAll, Settled}
 use Rattle.line_theorems.proofs.EdtReading.{isHunting, is-hunting}
 
--- the frame of a reader that rests
-abbrev frameRests : List Placed → Frame → Bool → Frame
-frameRests samples f b = cond b hunting (frameNext samples f 0)
+-- the frame of a reader over silent ms
+abbrev frameSilent : List Placed → Frame → Bool → Frame
+frameSilent samples f b = cond b hunting (frameNext samples f 0)
 
-framesRest : List Placed → Frame → List Bool → Frame
-framesRest samples f [] = f
-framesRest samples f (b ∷ bs) = framesRest samples (frameRests samples f b) bs
+framesSilent : List Placed → Frame → List Bool → Frame
+framesSilent samples f [] = f
+framesSilent samples f (b ∷ bs) = framesSilent samples (frameSilent samples f b) bs
 
 module _ (samples : List Placed) where
   -- hunting stays
-  stays : (bs : List Bool) → framesRest samples hunting bs ≡ hunting
-  unfolding framesRest frameStep
+  stays : (bs : List Bool) → framesSilent samples hunting bs ≡ hunting
+  unfolding framesSilent frameStep
   stays [] = refl
   stays (true ∷ bs) = stays bs
   stays (false ∷ bs) = stays bs
 
   -- a mixture hunts already, or all of it was quiet
   mixture : (f : Frame) (bs : List Bool)
-      → (framesRest samples f bs ≡ hunting) ⊎ (framesRest samples f bs ≡ frameAfter samples f (replicate (length bs) 0))
-  unfolding framesRest stateAfter
+      → (framesSilent samples f bs ≡ hunting) ⊎ (framesSilent samples f bs ≡ frameAfter samples f (replicate (length bs) 0))
+  unfolding framesSilent stateAfter
   mixture f [] = inr refl
   mixture f (true ∷ bs) = inl (stays bs)
   mixture f (false ∷ bs) = mixture (frameNext samples f 0) bs
@@ -54,7 +54,7 @@ module _ (samples : List Placed) where
   quietTest d p = isHunting (frameAfter samples (record { place = p; digits = d }) (replicate 40 0))
 
   frames-settle : (n : ℕ) → ((d : ℕ) → T (passes (quietTest d) n 0)) → (f : Frame) → f .place < n → (bs : List Bool)
-      → length bs ≡ 40 → framesRest samples f bs ≡ hunting
+      → length bs ≡ 40 → framesSilent samples f bs ≡ hunting
   frames-settle n all f h bs e =
       ⊎-elim (λ p. p)
       (λ p.
@@ -76,7 +76,7 @@ test-edt : (d : ℕ) → T (passes (quietTest (samplesOf Edt) d) 97 0)
 unfolding passes stateAfter frameStep sampled sampleAt placed samplesOf edtKinds
 test-edt d = tt
 
--- the keys of a reader that rests: inhibited is quiet
+-- the keys of a reader over silent ms: inhibited is quiet
 abbrev isReady : Keys → Bool
 isReady k = eqb (k .key) 0 && (eqb (k .ms) 0 && eqb (k .needed) 0)
 
@@ -102,32 +102,32 @@ unfolding keyTest
 keys-settle k h = is-ready _ (passes-at (keyTest (k .key) (k .ms)) 41 (test-keys (k .key) (k .ms)) (k .needed) h)
 
 -- the frame of a reader, in a mode that reads frames
-frame-rests : (mode : Mode) → ((r : Reader) → hear mode r 0 .reader .frame ≡ frameNext (samplesOf mode) (r .frame) 0)
-    → (r : Reader) (bs : List Bool) → restsAll mode r bs .frame ≡ framesRest (samplesOf mode) (r .frame) bs
-unfolding restsAll framesRest inhibited
-frame-rests mode law r [] = refl
-frame-rests mode law r (true ∷ bs) = frame-rests mode law (inhibited r) bs
-frame-rests mode law r (false ∷ bs) =
-    frame-rests mode law (hear mode r 0 .reader) bs ∙ ap (λ (f : Frame). framesRest (samplesOf mode) f bs) (law r)
+frame-silent : (mode : Mode) → ((r : Reader) → hear mode r 0 .reader .frame ≡ frameNext (samplesOf mode) (r .frame) 0)
+    → (r : Reader) (bs : List Bool) → silentAll mode r bs .frame ≡ framesSilent (samplesOf mode) (r .frame) bs
+unfolding silentAll framesSilent inhibited
+frame-silent mode law r [] = refl
+frame-silent mode law r (true ∷ bs) = frame-silent mode law (inhibited r) bs
+frame-silent mode law r (false ∷ bs) =
+    frame-silent mode law (hear mode r 0 .reader) bs ∙ ap (λ (f : Frame). framesSilent (samplesOf mode) f bs) (law r)
 
-keys-rest : (r : Reader) (bs : List Bool) → restsAll Dtmf r bs .keys ≡ keysAfter (r .keys) (replicate (length bs) 0)
-unfolding restsAll inhibited hear stateAfter
-keys-rest r [] = refl
-keys-rest r (true ∷ bs) = keys-rest (inhibited r) bs
-keys-rest r (false ∷ bs) = keys-rest (hear Dtmf r 0 .reader) bs
+keys-silent : (r : Reader) (bs : List Bool) → silentAll Dtmf r bs .keys ≡ keysAfter (r .keys) (replicate (length bs) 0)
+unfolding silentAll inhibited hear stateAfter
+keys-silent r [] = refl
+keys-silent r (true ∷ bs) = keys-silent (inhibited r) bs
+keys-silent r (false ∷ bs) = keys-silent (hear Dtmf r 0 .reader) bs
 
 pub settles : (mode : Mode) (r : Reader) → ReaderIn mode r → (bs : List Bool) → length bs ≡ 40
-    → Settled mode (restsAll mode r bs)
+    → Settled mode (silentAll mode r bs)
 unfolding hear lastMs samplesOf placed baudotKinds edtKinds
 settles Baudot45 r h bs e =
     let p = h .frame-in .place-in in
-    frame-rests Baudot45 (λ q. refl) r bs ∙ frames-settle (samplesOf Baudot45) 145 test-45 (r .frame) (omega arith) bs e
+    frame-silent Baudot45 (λ q. refl) r bs ∙ frames-settle (samplesOf Baudot45) 145 test-45 (r .frame) (omega arith) bs e
 settles Baudot50 r h bs e =
     let p = h .frame-in .place-in in
-    frame-rests Baudot50 (λ q. refl) r bs ∙ frames-settle (samplesOf Baudot50) 132 test-50 (r .frame) (omega arith) bs e
+    frame-silent Baudot50 (λ q. refl) r bs ∙ frames-settle (samplesOf Baudot50) 132 test-50 (r .frame) (omega arith) bs e
 settles Dtmf r h bs e =
     let p = h .keys-in .needed-in in
-    keys-rest r bs ∙ ap (λ (n : ℕ). keysAfter (r .keys) (replicate n 0)) e ∙ keys-settle (r .keys) (omega arith)
+    keys-silent r bs ∙ ap (λ (n : ℕ). keysAfter (r .keys) (replicate n 0)) e ∙ keys-settle (r .keys) (omega arith)
 settles Edt r h bs e =
     let p = h .frame-in .place-in in
-    frame-rests Edt (λ q. refl) r bs ∙ frames-settle (samplesOf Edt) 97 test-edt (r .frame) (omega arith) bs e
+    frame-silent Edt (λ q. refl) r bs ∙ frames-settle (samplesOf Edt) 97 test-edt (r .frame) (omega arith) bs e
