@@ -1,6 +1,6 @@
 //! The calling set of V.18, clause 5.1, as document 01 fixes it, ms by ms.
 
-use crate::answer::{DURATION, SENT_SLICE, SUCCESS, TONE};
+use crate::answer::{CALLING_STATE, DURATION, SENT_SLICE, SUCCESS, TONE};
 
 /// The most ms of a run.
 pub const MOST: usize = 4096;
@@ -122,7 +122,24 @@ pub struct State {
     pub choice: u8,
 }
 
+/// What asking for the choice gives.
+#[repr(C)]
+#[derive(Clone, Copy, Debug, PartialEq, Eq)]
+pub struct Chosen {
+    pub answer: u8,
+    pub choice: u8,
+}
+
 impl State {
+    /// The choice of a state in range; any other is refused, with choice 0.
+    pub fn chosen(self) -> Chosen {
+        if self.in_range() {
+            Chosen { answer: SUCCESS, choice: self.choice }
+        } else {
+            Chosen { answer: CALLING_STATE, choice: 0 }
+        }
+    }
+
     /// The published ranges.
     pub fn in_range(self) -> bool {
         self.tone <= LAST_TONE

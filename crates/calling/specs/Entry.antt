@@ -8,6 +8,7 @@ use lib.ListN.{length, drop}
 use Rattle.lists.specs.Lists.{mostMs}
 use Rattle.calling.specs.declared.Calling.{Calling}
 use Rattle.calling.specs.declared.Ran.{Ran}
+use Rattle.calling.specs.declared.CallingChosen.{CallingChosen}
 use Rattle.calling.specs.Tones.{allTones}
 use Rattle.calling.specs.Set.{inRange, after, sentOf}
 
@@ -33,3 +34,10 @@ ranOf s tones room =
 unfoldable pub sentAfter : Calling → List ℕ → List ℕ → List ℕ
 sentAfter s tones slice =
     cond (eqb (answerTo s tones (length slice)) 0) (sentOf s tones ++ drop (length tones) slice) slice
+
+abbrev pub choice : ℕ → ℕ → CallingChosen
+choice answer tone = record { answer = answer; choice = tone }
+
+-- The choice of a state. 12: is the state in range? It reads 0 until a choice is made, and beside a refusal.
+unfoldable pub choiceOf : Calling → CallingChosen
+choiceOf s = cond (inRange s) (choice 0 (s .choice)) (choice 12 0)
