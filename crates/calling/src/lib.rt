@@ -190,17 +190,17 @@ pub fn run(s: Calling, tones: &[u8], sent: &mut [u8]) -> Ran
 }
 
 // The choice, 0 until one is made.
-pub fn choice(s: Calling) -> CallingChosen
-    ensures { λ r. ⌜ r ≡ choiceOf s ⌝ }
+pub fn choice(state: Calling) -> CallingChosen
+    ensures { λ r. ⌜ r ≡ choiceOf state ⌝ }
 {
-    if !in_range(s) {
+    if !in_range(state) {
         return CallingChosen {
             answer: 12,
-            choice: 0,
+            choice: tones::NONE,
         };
     }
     CallingChosen {
         answer: 0,
-        choice: s.choice,
+        choice: state.choice,
     }
 }

@@ -29,7 +29,8 @@ pub extern "C" fn cq_calling_run(state: &mut Calling, tones: &[u8], sent: &mut [
         × ((now (state .exit) ≡ ranOf (now (state .entry)) (now (tones .entry)) (length (now (sent .entry))) .state)
         × (now (sent .exit) ≡ sentAfter (now (state .entry)) (now (tones .entry)) (now (sent .entry)))) ⌝ }
 {
-    let r = calling::run(*state, tones, sent);
+    let s = *state;
+    let r = calling::run(s, tones, sent);
     *state = r.state;
     r.answer
 }
