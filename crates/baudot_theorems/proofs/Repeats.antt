@@ -119,4 +119,5 @@ repeats-fresh (c ∷ cs) count t =
         ≡ lettersFirst (withRepeats letters 0 (ownCode x ++ ownCodes cs))
     go Nothing o tail later = later
     go (Code own k) o tail later =
-        simp (not-true (differs own letters) o, repeats-exactly cs letters 1 (omega arith) (omega arith) (omega arith) tail)
+        let i = repeats-exactly cs letters 1 (omega arith) (omega arith) (omega arith) tail in
+        simp (not-true (differs own letters) o, i)

@@ -44,7 +44,8 @@ use Rattle.calling.proofs.choice as g
 use Rattle.calling.proofs.choice.Symbol as g-def
 use Rattle.calling.proofs.choice.Symbol.{name as #calling·choice}
 use Rattle.calling.proofs.choice.Met as g-thm
-use Rattle.cuyrapaq.proofs.Steps.{reads, lands-struct, frees-at}
+use Rattle.cuyrapaq.proofs.Operands.{reads}
+use Rattle.cuyrapaq.proofs.Steps.{lands-struct, frees-at}
 use Rattle.cuyrapaq.proofs.calling_set.cq_calling_choice.Key.{name as #cuyrapaq·calling-set·cq-calling-choice}
 use Rattle.cuyrapaq.proofs.calling_set.cq_calling_choice as f
 use Rattle.cuyrapaq.proofs.calling_set.cq_calling_choice.Statement as stated
@@ -133,7 +134,7 @@ module _ {M : Type 1} (𝓤 : URA M) (H : Heap 𝓤) (A : Atoms 𝓤) (W : Given
         (init ! 7 refl (LL.lawful T.the-type T′.the-laws 𝓤 H A W .typed h _ was .0)) $
         shuts ! tt T.the-row q′ h (vals h) b o $
         -- what the callee asks
-        nothing ! $ owned ! T.the-row (Is T.the-row) ((LL.makes T.the-type T′.the-plain) 𝓤 H A) h (vals h) was $ fjoin ! $
+        nothing ! $ owned ! T.the-row (Is T.the-row) (LL.makes T.the-type T′.the-plain 𝓤 H A) h (vals h) was $ fjoin ! $
         nothing ! $ use2 W (raw (G 𝓤 H A at-mem run .pre to)) asked $
         calls-at ! fm (G 𝓤 H A at-mem run) known to (and-then ! (reads ! 10 locals refl tt refl) (no-more !)) (λ v.
         -- what it gives
@@ -149,8 +150,8 @@ module _ {M : Type 1} (𝓤 : URA M) (H : Heap 𝓤) (A : Atoms 𝓤) (W : Given
         -- [the result; the token; the fractured borrow; true; res; true; _2; …; _1; …; room for _0; …]
         lands-struct ! 10 R.the-type R′.the-laws r is refl refl $
         -- the locals are freed
-        returns ! (look ! 10 refl) $ frees-at ! 10 refl refl $ frees-at ! 8 refl refl $ frees-at ! 6 refl refl $ free0 ! $
-        keep ! (1 ∷ 4 ∷ 2 ∷ []) $
+        returns ! (look ! 10 refl) $ frees-at ! 10 refl refl $ frees-at ! 8 refl refl $ frees-at ! 6 refl refl $
+        free0 ! $ keep ! (1 ∷ 4 ∷ 2 ∷ []) $
         by ! (exits r e (LL.owes R.the-type R′.the-laws r (LL.owed R.the-type R′.the-laws r (v ∷ []) is)))))))))))))
 
 module _ {M : Type 1} (𝓤 : URA M) (H : Heap 𝓤) (A : Atoms 𝓤) (W : Given 𝓤 H A) (at-mem : Memory → SProp 𝓤)

@@ -51,7 +51,8 @@ use Rattle.calling.proofs.run as g
 use Rattle.calling.proofs.run.Symbol as g-def
 use Rattle.calling.proofs.run.Symbol.{name as #calling·run}
 use Rattle.calling.proofs.run.Met as g-thm
-use Rattle.cuyrapaq.proofs.Steps.{reads, lands-struct, frees-at}
+use Rattle.cuyrapaq.proofs.Operands.{reads}
+use Rattle.cuyrapaq.proofs.Steps.{lands-struct, frees-at}
 use Rattle.cuyrapaq.proofs.calling_set.cq_calling_run.Key.{name as #cuyrapaq·calling-set·cq-calling-run}
 use Rattle.cuyrapaq.proofs.calling_set.cq_calling_run as f
 use Rattle.cuyrapaq.proofs.calling_set.cq_calling_run.Statement as stated
@@ -214,7 +215,8 @@ module _ {M : Type 1} (𝓤 : URA M) (H : Heap 𝓤) (A : Atoms 𝓤) (W : Given
         let parts = LL.owed R.the-type R′.the-laws r (v ∷ []) is in
         lands-struct ! 12 R.the-type R′.the-laws r is refl refl $
         -- the state is stored, the answer is the result, and the state is shut
-        assigns ! (of-opd ! (reads ! 22 (after r) {v = LL.val T.the-type T′.the-laws (r .state)} refl tt refl)) (from ! (hop ! (look ! 20 refl) (stop !)))
+        assigns ! (of-opd ! (reads ! 22 (after r) {v = LL.val T.the-type T′.the-laws (r .state)} refl tt refl))
+        (from ! (hop ! (look ! 20 refl) (stop !)))
         (store-raw ! 4 refl (LL.lawful T.the-type T′.the-laws 𝓤 H A W .typed (r .state) _ (parts .0) .0)) $
         assigns ! (of-opd ! (reads ! 22 (after r) {v = vint w8 (r .answer)} refl tt refl)) (from ! (stop !))
         (init ! 22 refl (tt, record { fits = parts .1 .0 .1 })) $

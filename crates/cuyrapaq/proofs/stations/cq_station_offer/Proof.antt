@@ -54,7 +54,8 @@ use Rattle.station.proofs.offer.Symbol as g-def
 use Rattle.station.proofs.offer.Symbol.{name as #station·offer}
 use Rattle.station.proofs.offer.Met as g-thm
 use Rattle.cuyrapaq.proofs.Lent.{Chars, core-vals, past, lent-ref, lends-on, takes-back, loads-core, points-chars, stores-core}
-use Rattle.cuyrapaq.proofs.Steps.{reads, lands-struct, frees-at}
+use Rattle.cuyrapaq.proofs.Operands.{reads}
+use Rattle.cuyrapaq.proofs.Steps.{lands-struct, frees-at}
 use Rattle.cuyrapaq.proofs.stations.cq_station_offer.Key.{name as #cuyrapaq·stations·cq-station-offer}
 use Rattle.cuyrapaq.proofs.stations.cq_station_offer as f
 use Rattle.cuyrapaq.proofs.stations.cq_station_offer.Statement as stated

@@ -50,7 +50,8 @@ use Rattle.station.proofs.open.Symbol as g-def
 use Rattle.station.proofs.open.Symbol.{name as #station·open}
 use Rattle.station.proofs.open.Met as g-thm
 use Rattle.cuyrapaq.proofs.Lent.{Chars, past, lent-ref, lends-on, takes-back, points-chars, stores-core}
-use Rattle.cuyrapaq.proofs.Steps.{reads, lands-struct, frees-at}
+use Rattle.cuyrapaq.proofs.Operands.{reads}
+use Rattle.cuyrapaq.proofs.Steps.{lands-struct, frees-at}
 use Rattle.cuyrapaq.proofs.stations.cq_station_open.Key.{name as #cuyrapaq·stations·cq-station-open}
 use Rattle.cuyrapaq.proofs.stations.cq_station_open as f
 use Rattle.cuyrapaq.proofs.stations.cq_station_open.Statement as stated

@@ -58,7 +58,8 @@ use Rattle.cuyrapaq.proofs.Lent.{Chars, core-vals, past, lent-ref, lend
 use Rattle.cuyrapaq.specs.declared.stations.StationRan.{StationRan}
 use Rattle.cuyrapaq.proofs.stations.StationRan as S
 use Rattle.cuyrapaq.proofs.stations.StationRan.Laws as S′
-use Rattle.cuyrapaq.proofs.Steps.{reads, lands-struct, frees-at}
+use Rattle.cuyrapaq.proofs.Operands.{reads}
+use Rattle.cuyrapaq.proofs.Steps.{lands-struct, frees-at}
 use Rattle.cuyrapaq.proofs.stations.cq_station_run.Key.{name as #cuyrapaq·stations·cq-station-run}
 use Rattle.cuyrapaq.proofs.stations.cq_station_run as f
 use Rattle.cuyrapaq.proofs.stations.cq_station_run.Statement as stated
