@@ -24,7 +24,7 @@ extern "C" {
  * The version of the interface. MAJOR: a struct, an entry's contract or a refusal's meaning changed;
  * MINOR: entries were added; PATCH: the contracts are the same.
  */
-#define CQ_VERSION_MAJOR 2
+#define CQ_VERSION_MAJOR 3
 #define CQ_VERSION_MINOR 0
 #define CQ_VERSION_PATCH 0
 #define CQ_VERSION (CQ_VERSION_MAJOR * 10000L + CQ_VERSION_MINOR * 100L + CQ_VERSION_PATCH)
@@ -183,8 +183,20 @@ typedef struct cq_calling {
 /* A set that starts: the timetable stands at its first ms, and no choice is made. */
 cq_calling cq_calling_fresh(void);
 
-/* The tone that was chosen; CQ_TONE_NONE until one is. May be asked at any time. */
-uint8_t cq_calling_choice(const cq_calling *state);
+/* What cq_calling_choice gives back. */
+typedef struct cq_calling_chosen {
+    uint8_t answer; /* CQ_OK or a refusal */
+    uint8_t choice; /* the tone that was chosen; CQ_TONE_NONE until one is, and after a refusal */
+} cq_calling_chosen;
+
+/*
+ * The tone that was chosen. May be asked at any time; the state is not written.
+ *
+ * CQ_OK: `choice` is the tone that was chosen, CQ_TONE_NONE until one is.
+ *
+ * CQ_REFUSED_CALLING_STATE (12): a number of the state is out of range. `choice` is then CQ_TONE_NONE.
+ */
+cq_calling_chosen cq_calling_choice(const cq_calling *state);
 
 /*
  * Runs a calling set for some ms.
@@ -396,6 +408,8 @@ static_assert(sizeof(cq_baudot_text) == 16, "cq_baudot_text has 16 bytes");
 static_assert(offsetof(cq_baudot_text, length) == 8, "length stands at byte 8");
 static_assert(sizeof(cq_calling) == 6, "cq_calling has 6 bytes");
 static_assert(offsetof(cq_calling, choice) == 5, "choice stands at byte 5");
+static_assert(sizeof(cq_calling_chosen) == 2, "cq_calling_chosen has 2 bytes");
+static_assert(offsetof(cq_calling_chosen, choice) == 1, "choice stands at byte 1");
 static_assert(sizeof(cq_core) == 20, "cq_core has 20 bytes");
 static_assert(offsetof(cq_core, mode) == 19, "mode stands at byte 19");
 static_assert(sizeof(cq_station) == 276, "cq_station has 276 bytes");
@@ -410,6 +424,8 @@ typedef char cq_check_baudot_text[sizeof(cq_baudot_text) == 16 ? 1 : -1];
 typedef char cq_check_baudot_text_length[offsetof(cq_baudot_text, length) == 8 ? 1 : -1];
 typedef char cq_check_calling[sizeof(cq_calling) == 6 ? 1 : -1];
 typedef char cq_check_calling_choice[offsetof(cq_calling, choice) == 5 ? 1 : -1];
+typedef char cq_check_calling_chosen[sizeof(cq_calling_chosen) == 2 ? 1 : -1];
+typedef char cq_check_calling_chosen_choice[offsetof(cq_calling_chosen, choice) == 1 ? 1 : -1];
 typedef char cq_check_core[sizeof(cq_core) == 20 ? 1 : -1];
 typedef char cq_check_core_mode[offsetof(cq_core, mode) == 19 ? 1 : -1];
 typedef char cq_check_station[sizeof(cq_station) == 276 ? 1 : -1];

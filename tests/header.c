@@ -124,6 +124,9 @@ static void layout(void)
     check(offsetof(cq_calling, place) == 2, "place", "cq_calling");
     check(offsetof(cq_calling, tone) == 4, "tone", "cq_calling");
     check(offsetof(cq_calling, choice) == 5, "choice", "cq_calling");
+    check(sizeof(cq_calling_chosen) == 2, "size", "cq_calling_chosen");
+    check(offsetof(cq_calling_chosen, answer) == 0, "answer", "cq_calling_chosen");
+    check(offsetof(cq_calling_chosen, choice) == 1, "choice", "cq_calling_chosen");
     check(sizeof(cq_on_line) == 4 && sizeof(cq_sender) == 2 && sizeof(cq_frame) == 2 && sizeof(cq_keys) == 3 &&
               sizeof(cq_reader) == 7,
           "sizes", "parts of cq_core");
@@ -400,6 +403,14 @@ static void period(cq_calling *set, size_t cut)
     check(hears(set, CQ_TONE_NONE, 3000, cut, CQ_SENT_XCI), "XCI", "timetable");
 }
 
+/* Whether a set is asked for its choice with success, and has this one. */
+static int chose(const cq_calling *set, uint8_t choice)
+{
+    cq_calling before = *set;
+    cq_calling_chosen r = cq_calling_choice(set);
+    return r.answer == CQ_OK && r.choice == choice && same_state(set, &before);
+}
+
 static void run_refused(const char *which, cq_calling set, const uint8_t *tones, size_t length, size_t room,
                         uint8_t answer)
 {
@@ -410,6 +421,17 @@ static void run_refused(const char *which, cq_calling set, const uint8_t *tones,
     check(same_state(&set, &before), "a refusal leaves the state", which);
 }
 
+/* A state out of range: no run, and no choice. */
+static void state_refused(const char *which, cq_calling set)
+{
+    static const uint8_t none[1] = {CQ_TONE_NONE};
+    cq_calling before = set;
+    cq_calling_chosen r = cq_calling_choice(&set);
+    check(r.answer == CQ_REFUSED_CALLING_STATE && r.choice == CQ_TONE_NONE, "refusal of a choice", which);
+    check(same_state(&set, &before), "asking leaves the state", which);
+    run_refused(which, set, none, 1, 1, CQ_REFUSED_CALLING_STATE);
+}
+
 static void calling(void)
 {
     static const size_t lengths[12] = {0, 1, 1, 500, 500, 1700, 700, 1500, 1, 1, 1, 1};
@@ -417,25 +439,25 @@ static void calling(void)
     cq_calling set = cq_calling_fresh(), fresh = cq_calling_fresh(), bad;
     uint8_t tone;
 
-    check(cq_calling_choice(&set) == CQ_TONE_NONE, "a fresh set has no choice", "calling set");
+    check(chose(&set, CQ_TONE_NONE), "a fresh set has no choice", "calling set");
     period(&set, CQ_CALLING_MS_MAX);
     period(&set, 7);
     check(hears(&set, CQ_TONE_1650, 499, 100, CQ_SENT_NOTHING), "a tone silences", "calling set");
     check(hears(&set, CQ_TONE_NONE, 399, 4000, CQ_SENT_NOTHING), "399 ms of none", "calling set");
     check(hears(&set, CQ_TONE_2225, 1, 1, CQ_SENT_NOTHING), "another tone", "calling set");
     check(hears(&set, CQ_TONE_NONE, 400, 4000, CQ_SENT_NOTHING), "400 ms of none", "calling set");
-    check(cq_calling_choice(&set) == CQ_TONE_NONE, "no choice yet", "calling set");
+    check(chose(&set, CQ_TONE_NONE), "no choice yet", "calling set");
     period(&set, 4000);
 
     for (tone = CQ_TONE_ANSAM; tone <= CQ_TONE_EDT; tone++) {
         set = cq_calling_fresh();
         check(hears(&set, tone, lengths[tone] - 1, 1000, CQ_SENT_NOTHING), "one ms short", "tones");
-        check(cq_calling_choice(&set) == CQ_TONE_NONE, "one ms short is no choice", "tones");
+        check(chose(&set, CQ_TONE_NONE), "one ms short is no choice", "tones");
         check(hears(&set, tone, 1, 1, CQ_SENT_NOTHING), "the ms of the choice", "tones");
-        check(cq_calling_choice(&set) == tone, "the choice", "tones");
+        check(chose(&set, tone), "the choice", "tones");
         check(hears(&set, CQ_TONE_NONE, 12000, 4096, CQ_SENT_NOTHING), "nothing after the choice", "tones");
         check(hears(&set, (uint8_t)(12 - tone), 2000, 4096, CQ_SENT_NOTHING), "tones after the choice", "tones");
-        check(cq_calling_choice(&set) == tone, "the choice is for good", "tones");
+        check(chose(&set, tone), "the choice is for good", "tones");
     }
 
     memset(tones, CQ_TONE_NONE, sizeof tones);
@@ -448,17 +470,18 @@ static void calling(void)
     bad = fresh;
     bad.choice = 12;
     run_refused("12, choice", bad, tones, CQ_CALLING_MS_MAX + 1, 0, CQ_REFUSED_CALLING_STATE);
+    state_refused("12, choice", bad);
     bad = fresh;
     bad.place = 11200;
-    run_refused("12, place", bad, tones, 1, 1, CQ_REFUSED_CALLING_STATE);
+    state_refused("12, place", bad);
     bad = fresh;
     bad.tone = 12;
-    run_refused("12, tone", bad, tones, 1, 1, CQ_REFUSED_CALLING_STATE);
+    state_refused("12, tone", bad);
     bad = fresh;
     bad.ms = 1701;
-    run_refused("12, ms", bad, tones, 1, 1, CQ_REFUSED_CALLING_STATE);
+    state_refused("12, ms", bad);
     memset(&bad, 0, sizeof bad);
-    run_refused("12, zeros", bad, tones, 0, 0, CQ_REFUSED_CALLING_STATE);
+    state_refused("12, zeros", bad);
 }
 
 /* A slice for words with the pattern around it. */

@@ -197,6 +197,7 @@ static void calling(void)
         size_t ms = any_ms();
         uint8_t *tones = lend_values(ms, one_in(2) ? 12 : 1), answer;
         struct slice sent = lend_slice(room_for(ms));
+        cq_calling_chosen chosen;
         if (one_in(10)) {
             damage(state, sizeof *state);
         }
@@ -205,11 +206,14 @@ static void calling(void)
         check(stays(&sent, answer == CQ_OK ? ms : 0), "sent ms behind the result");
         if (succeeds(answer)) {
             check(ms <= sent.bytes && all_below(sent.memory, ms, 3), "sent ms of the calling set");
-            check(cq_calling_choice(state) <= 11, "choice");
         } else {
-                check(memcmp(state, &before, sizeof before) == 0, "refusal of cq_calling_run");
-            (void)cq_calling_choice(state);
+            check(memcmp(state, &before, sizeof before) == 0, "refusal of cq_calling_run");
         }
+        before = *state;
+        chosen = cq_calling_choice(state);
+        check(memcmp(state, &before, sizeof before) == 0, "the state behind cq_calling_choice");
+        check((chosen.answer == CQ_REFUSED_CALLING_STATE) == (answer == CQ_REFUSED_CALLING_STATE), "answer of a choice");
+        check(succeeds(chosen.answer) ? chosen.choice == state->choice : chosen.choice == CQ_TONE_NONE, "choice");
         free(tones);
         free(sent.memory);
     }

@@ -1,6 +1,6 @@
 //! The calling set of V.18, clause 5.1, as document 01 fixes it, ms by ms.
 
-use crate::answer::{DURATION, SENT_SLICE, SUCCESS, TONE};
+use crate::answer::{CALLING_STATE, DURATION, SENT_SLICE, SUCCESS, TONE};
 
 /// The most ms of a run.
 pub const MOST: usize = 4096;
@@ -127,7 +127,24 @@ pub fn most_in_a_row() -> u64 {
     (1..=LAST_TONE).map(length).fold(SILENCE, u64::max)
 }
 
+/// What asking for the choice gives.
+#[repr(C)]
+#[derive(Clone, Copy, Debug, PartialEq, Eq)]
+pub struct Chosen {
+    pub answer: u8,
+    pub choice: u8,
+}
+
 impl State {
+    /// The choice of a state in range; any other is refused, with choice 0.
+    pub fn chosen(self) -> Chosen {
+        if self.in_range() {
+            Chosen { answer: SUCCESS, choice: self.choice }
+        } else {
+            Chosen { answer: CALLING_STATE, choice: 0 }
+        }
+    }
+
     /// Question 12. What each number stands for is the header's; how far it goes follows from document
     /// 01, "The calling set (5.1)": what is heard, and the choice among it, is 0 to 11; the place is
     /// one of the period's ms; ms in a row are at least the one heard last, and are counted no further

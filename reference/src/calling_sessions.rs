@@ -3,7 +3,9 @@
 
 use crate::engine;
 use reference::answer::{CALLING_STATE, DURATION, SENT_SLICE, SUCCESS, TONE};
-use reference::calling::{length, most_in_a_row, Set, State, LAST_TONE, MOST, NONE, PERIOD};
+use reference::calling::{
+    length, most_in_a_row, Chosen, Set, State, LAST_TONE, MOST, NONE, PERIOD,
+};
 use reference::random::Random;
 use std::process::exit;
 
@@ -21,6 +23,7 @@ struct Met {
     answers: [u64; 13],
     sent: [u64; 3],
     choices: [u64; LAST_TONE as usize + 1],
+    forged: [u64; 13],
 }
 
 /// A calling set on both sides.
@@ -48,6 +51,10 @@ pub fn compare(random: &mut Random, ms: u64) -> String {
         met.sessions += 1;
         met.choices[usize::from(session.reference.choice())] += 1;
     }
+    for _ in 0..ms / 100 {
+        let answer = forged(random);
+        met.forged[usize::from(answer)] += 1;
+    }
     let all = |name: &str, counts: &[(usize, u64)]| {
         let counts: Vec<_> = counts
             .iter()
@@ -64,13 +71,16 @@ pub fn compare(random: &mut Random, ms: u64) -> String {
     let numbered = |counts: &[u64]| counts.iter().copied().enumerate().collect::<Vec<_>>();
     let answers = [SUCCESS, DURATION, SENT_SLICE, TONE, CALLING_STATE]
         .map(|answer| (usize::from(answer), met.answers[usize::from(answer)]));
+    let forged = [SUCCESS, CALLING_STATE]
+        .map(|answer| (usize::from(answer), met.forged[usize::from(answer)]));
     format!(
-        "calling set: no difference; sessions {}, ms {}; {}; {}; {}",
+        "calling set: no difference; sessions {}, ms {}; {}; {}; {}; {}",
         met.sessions,
         met.ms,
         all("answer", &answers),
         all("sent", &numbered(&met.sent)),
         all("choice", &numbered(&met.choices)),
+        all("forged state asked for its choice", &forged),
     )
 }
 
@@ -90,16 +100,18 @@ impl Session {
         let engine = engine::calling_run(&mut self.engine, tones, &mut found[slice]);
         let good = reference == engine
             && wanted == found
-            && if engine == SUCCESS {
-                self.engine.in_range()
-                    && engine::calling_choice(&self.engine) == self.reference.choice()
-            } else {
-                self.engine == before
-            };
+            && if engine == SUCCESS { self.engine.in_range() } else { self.engine == before };
+        let wanted_choice = if engine == CALLING_STATE {
+            Chosen { answer: CALLING_STATE, choice: 0 }
+        } else {
+            Chosen { answer: SUCCESS, choice: self.reference.choice() }
+        };
+        let choice = engine::calling_choice(&self.engine);
+        let good = good && choice == wanted_choice;
         if !good {
             println!("difference: calling set, tones {tones:?}, sent slice of {space}");
-            println!("reference: answer {reference}, choice {}", self.reference.choice());
-            println!("engine: answer {engine}, {before:?}, then {:?}", self.engine);
+            println!("reference: answer {reference}, {wanted_choice:?}");
+            println!("engine: answer {engine}, {choice:?}, {before:?}, then {:?}", self.engine);
             if let Some(i) = (0..found.len()).find(|&i| wanted[i] != found[i]) {
                 let place = i as isize - MARGIN as isize;
                 println!("sent[{place}]: reference {}, engine {}", wanted[i], found[i]);
@@ -147,6 +159,23 @@ impl Session {
         }
         self.engine = state;
     }
+}
+
+/// A state of any numbers, each likely to be at an end of its range, is asked for its choice; gives
+/// back the answer.
+fn forged(random: &mut Random) -> u8 {
+    let state = State {
+        tone: random.pick(&[0, 1, 5, 10, 11, 11, 12, 255]),
+        ms: random.pick(&[0, 1, 2, 400, 1699, 1700, 1701, 65_535]),
+        place: random.pick(&[0, 1, 5000, 11_198, 11_199, 11_199, 11_200, 65_535]),
+        choice: random.pick(&[0, 1, 2, 7, 10, 11, 12, 255]),
+    };
+    let (wanted, found) = (state.chosen(), engine::calling_choice(&state));
+    if wanted != found {
+        println!("difference: the choice of {state:?}: reference {wanted:?}, engine {found:?}");
+        exit(1);
+    }
+    found.answer
 }
 
 /// Tones and none in turn, each for a number of ms that is likely to matter.

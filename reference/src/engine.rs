@@ -2,7 +2,7 @@
 //! take this file in, and with it the engine's static library.
 
 use reference::baudot::{Sent, Text};
-use reference::calling::State;
+use reference::calling::{Chosen, State};
 use reference::demand3::Entries;
 use reference::mode::Mode;
 use reference::station::{Ran, MOST_WAITING};
@@ -115,7 +115,7 @@ extern "C" {
 
     fn cq_calling_fresh() -> State;
 
-    fn cq_calling_choice(state: *const State) -> u8;
+    fn cq_calling_choice(state: *const State) -> Chosen;
 
     fn cq_calling_run(
         state: *mut State,
@@ -143,7 +143,7 @@ pub fn calling_fresh() -> State {
     unsafe { cq_calling_fresh() }
 }
 
-pub fn calling_choice(state: &State) -> u8 {
+pub fn calling_choice(state: &State) -> Chosen {
     // Safety: the pointer leads to a state.
     unsafe { cq_calling_choice(state) }
 }

@@ -1,4 +1,5 @@
 pub mod RoundTrip
 pub mod Runs
+pub mod Repeats
 pub mod Cuts
 pub mod BothShifts

@@ -1,5 +1,5 @@
--- Document 01, "The calling set (5.1)": what is heard. Each heard ms is one of: 0 none, 1 ANSam, 2 ANS, 3 2225 Hz, 4 1650,
--- 5 1300, 6 1270, 7 980, 8 Baudot 45.45, 9 Baudot 50, 10 DTMF, 11 EDT.
+-- Document 01, "The calling set (5.1)": what is heard. Each heard ms is one of: 0 none, 1 ANSam, 2 ANS, 3 2225 Hz,
+-- 4 1650, 5 1300, 6 1270, 7 980, 8 Baudot 45.45, 9 Baudot 50, 10 DTMF, 11 EDT.
 use Prim.Native.Nat.{ℕ}
 use mathlib.Core.Bool.{Bool, cond}
 use mathlib.Core.List.{List, [], _∷_}

@@ -4,7 +4,7 @@ ghost use Prim.Native.Nat.{_≤_};
 ghost use lib.ListN.{length};
 ghost use lib.Seq.{sets};
 ghost use Rattle.calling.specs.Set.{fresh, inRange, pauseOver, reached, callingMs, sentMs, after, sentOf};
-ghost use Rattle.calling.specs.Entry.{ranOf, sentAfter};
+ghost use Rattle.calling.specs.Entry.{ranOf, sentAfter, choiceOf};
 
 pub mod counting;
 pub mod timetable;
@@ -33,6 +33,13 @@ pub struct Stepped {
 pub struct Ran {
     pub state: Calling,
     pub answer: u8,
+}
+
+// 0 and the choice, or the number of the refusal and 0.
+#[repr(C)]
+pub struct CallingChosen {
+    pub answer: u8,
+    pub choice: u8,
 }
 
 impl Calling {
@@ -179,5 +186,21 @@ pub fn run(s: Calling, tones: &[u8], sent: &mut [u8]) -> Ran
     Ran {
         state: run_all(s, tones, sent),
         answer: 0,
+    }
+}
+
+// The choice, 0 until one is made.
+pub fn choice(state: Calling) -> CallingChosen
+    ensures { λ r. ⌜ r ≡ choiceOf state ⌝ }
+{
+    if !in_range(state) {
+        return CallingChosen {
+            answer: 12,
+            choice: tones::NONE,
+        };
+    }
+    CallingChosen {
+        answer: 0,
+        choice: state.choice,
     }
 }

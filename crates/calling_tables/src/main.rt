@@ -91,7 +91,8 @@ fn hear(s: Calling, tone: u8, ms: usize) -> Calling {
     print_sent(row);
     print(b"choice");
     let after = x.state;
-    print_number(after.choice as u64);
+    let c = calling::choice(after);
+    print_number(c.choice as u64);
     print_end();
     after
 }
@@ -134,7 +135,7 @@ fn print_answer(answer: u8) {
     print_number(answer as u64);
 }
 
-// Is a state taken?
+// Is a state taken, and what does asking for its choice give?
 fn state(tone: u8, ms: u16, place: u16, choice: u8) {
     let s = Calling {
         ms,
@@ -151,6 +152,11 @@ fn state(tone: u8, ms: u16, place: u16, choice: u8) {
     let mut sent = [PATTERN; 1];
     let r = calling::run(s, &tones, &mut sent);
     print_answer(r.answer);
+    let c = calling::choice(s);
+    print(b" asked");
+    print_number(c.answer as u64);
+    print(b" choice");
+    print_number(c.choice as u64);
     print_end();
 }
 

@@ -1,2 +1,3 @@
-pub mod Lent
 pub mod Steps
+pub mod Operands
+pub mod Lent

@@ -33,10 +33,10 @@ pub data PartNo : Part → ℕ → Type 0 where
   shift-2 : PartNo ShiftCode 2
   own-2 : PartNo OwnCode 2
 
-no-burst : {part : Part} {n : ℕ} → PartNo part n → not (eqb n 0) ≡ true
-no-burst preamble-1 = refl
-no-burst shift-2 = refl
-no-burst own-2 = refl
+part-some : {part : Part} {n : ℕ} → PartNo part n → not (eqb n 0) ≡ true
+part-some preamble-1 = refl
+part-some shift-2 = refl
+part-some own-2 = refl
 
 -- the numbers stand for what the model has on the line
 pub data Stands (mode : Mode) : Line → OnLine → Type 0 where
@@ -47,7 +47,7 @@ pub data Stands (mode : Mode) : Line → OnLine → Type 0 where
 module _ (mode : Mode) where
   pub burst-same : {l : Line} {on : OnLine} → Stands mode l on → line.inBurst l ≡ inBurst on
   burst-same no-burst = refl
-  burst-same (sending p code at) = no-burst p
+  burst-same (sending p code at) = part-some p
 
   -- the level
   level-any : (part : Part) (ms : List ℕ) (p : ℕ) → getD ms p 0 ≡ levelOn (Sending part (drop p ms))
@@ -102,7 +102,7 @@ module _ (mode : Mode) where
   unfolding line.closed line.isOver closed
   closed-stands ends no-burst = no-burst
   closed-stands ends (sending {part} {n} p code at) =
-      rw (no-burst p) (go (leb (length ms) at) refl ends refl)
+      rw (part-some p) (go (leb (length ms) at) refl ends refl)
     where
       ms : List ℕ
       ms = partMs mode (onLine n code at)
@@ -123,7 +123,7 @@ module _ (mode : Mode) where
   unfolding line.begun begun
   begun-stands true no-burst = preamble-stands
   begun-stands false no-burst = no-burst
-  begun-stands true (sending p code at) = rw (no-burst p) (sending p code at)
+  begun-stands true (sending p code at) = rw (part-some p) (sending p code at)
   begun-stands false (sending p code at) = sending p code at
 
   -- what a ms starts with; ws wait before it
@@ -178,7 +178,7 @@ module _ (mode : Mode) where
       → Stands mode l on → LoadedLike ws (line.nextCode mode waiting front l s) (nextCode mode ws on s)
   unfolding line.nextCode line.isOver nextCode
   next-like s h no-burst = record { line-is = no-burst; sender-is = refl; waiting-is = refl }
-  next-like s h (sending {part} {n} p code at) = rw (no-burst p) (go h (leb (length ms) at) refl)
+  next-like s h (sending {part} {n} p code at) = rw (part-some p) (go h (leb (length ms) at) refl)
     where
       ms : List ℕ
       ms = partMs mode (onLine n code at)

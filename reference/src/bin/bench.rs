@@ -119,7 +119,7 @@ fn calling_row(name: &str, tones: &[u8]) {
             let calls = black_box(tones).chunks(MOST).zip(black_box(&mut sent).chunks_mut(MOST));
             let answers = calls.map(|(tones, sent)| engine::calling_run(&mut state, tones, sent));
             let worst = answers.max().unwrap();
-            choice = engine::calling_choice(&state);
+            choice = engine::calling_choice(&state).choice;
             worst
         },
         || {

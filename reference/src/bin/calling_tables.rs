@@ -66,11 +66,15 @@ fn session(parts: &[(u8, usize)]) {
     }
 }
 
-/// Whether a state is taken.
+/// Whether a state is taken, and what asking for its choice gives.
 fn state(state: State) {
     let answer = if state.in_range() { SUCCESS } else { CALLING_STATE };
     let State { tone, ms, place, choice } = state;
-    println!("state {tone} {ms} {place} {choice} answer {answer}");
+    let asked = state.chosen();
+    println!(
+        "state {tone} {ms} {place} {choice} answer {answer} asked {} choice {}",
+        asked.answer, asked.choice
+    );
 }
 
 /// One call with `ms` times the same tone and the front of an area as its slice: the answer, and

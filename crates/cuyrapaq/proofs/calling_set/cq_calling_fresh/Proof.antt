@@ -9,7 +9,7 @@ fresh-requires c κs = search needs
 
 returns : tie.Need-returns
 unfolding fresh
-returns c = c .fresh .ensures
+returns c = simp (c .fresh .ensures)
 
 pub cq-calling-fresh-spec : {M : Type 1} → statement M
 cq-calling-fresh-spec = tie.close (tie.spec fresh-requires returns)
