@@ -44,6 +44,13 @@ codes baudot = 32
 codes dtmf = 256
 codes edt = 128
 
+-- The ms of its longest code, by the laws of `signal`: seven and a half elements; four keys; 100.
+abbrev pub longest : Mode → ℕ
+longest Baudot45 = 165
+longest Baudot50 = 150
+longest Dtmf = 480
+longest Edt = 100
+
 -- The digits of a frame are below this; DTMF has no frames.
 abbrev pub frameCodes : Mode → ℕ
 frameCodes Baudot45 = 32

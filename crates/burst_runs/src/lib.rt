@@ -11,7 +11,7 @@ ghost use mathlib.Core.List.{List};
 ghost use Prim.Native.Nat.{ℕ, _+_, _≤_};
 ghost use lib.Dec.{leb, ltb};
 ghost use lib.ListN.{length};
-ghost use Rattle.alphabet.specs.code.Numbers.{longest};
+ghost use Rattle.alphabet.specs.Modes.{longest};
 ghost use Rattle.burst.specs.Line.{isOver};
 ghost use Rattle.half_duplex.specs.Core.{modeIn};
 ghost use Rattle.queue.specs.Queue.{movedBy};

@@ -138,13 +138,12 @@ baudot50 = record {
   words = chars "TOO1";
 }
 
--- DTMF. Key 17 is refused. B has heard **; its own burst of b ends with ms 779, so that it is inhibited up to ms 1079,
--- inside the last 40 ms of the idle period. The prefix stays, and it takes b for +.
+-- DTMF. A is opened in the idle period. Key 17 is refused. B has heard **; its own burst of b ends with ms 779, so that
+-- it is inhibited up to ms 1079, inside the last 40 ms of the idle period. The prefix stays, and it takes b for +.
 unfoldable pub callsAKeys : List Call
 callsAKeys =
-    run (ms 300 5) ∷
     run (ms 9 17) ∷
-    run (ms 300 0) ∷
+    run (ms 50 0) ∷
     OfferCall (chars "b:") ∷
     OfferCall (chars "b") ∷
     run (ms 601 5) ∷
@@ -169,7 +168,7 @@ dtmf = record {
     mode = 3;
     callsA = callsAKeys;
     callsB = callsBKeys;
-    openA = 500;
+    openA = 1_050;
     openB = 170;
     start = 800;
     asked = 1_700;

@@ -13,7 +13,7 @@ ghost use Prim.Native.Nat.{_+_, _-_, _≤_};
 ghost use lib.Dec.{eqb};
 ghost use Rattle.lists.specs.Lists.{allAtMost};
 ghost use Rattle.alphabet.specs.declared.Mode.the-variants as mode;
-ghost use Rattle.alphabet.specs.code.Numbers.{longest};
+ghost use Rattle.alphabet.specs.Modes.{longest};
 ghost use Rattle.burst.specs.Rules.{freeMs};
 ghost use Rattle.burst.specs.Line.{further, isOver};
 ghost use Rattle.half_duplex.specs.Core.{modeIn};

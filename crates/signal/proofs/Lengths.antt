@@ -14,7 +14,7 @@ use Rattle.alphabet.specs.Print.{keys}
 use Rattle.alphabet.specs.declared.Mode.{Mode}
 use Rattle.alphabet.specs.declared.Mode.the-variants.{Baudot45, Baudot50, Dtmf, Edt}
 use Rattle.alphabet.specs.Dtmf.{prefixes, keysOf}
-use Rattle.alphabet.specs.code.Numbers.{longest}
+use Rattle.alphabet.specs.Modes.{longest}
 use Rattle.signal.specs.Signal.{levelOf, digits, held, baudotSignal, edtElements, edtSignal, heldKeys, keysSignal, signal}
 
 pub digits-length : (n k : ℕ) → length (digits n k) ≡ n

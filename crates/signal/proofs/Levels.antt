@@ -11,11 +11,10 @@ use borrow.Author.Tests.{ltb-true, ltb-false}
 use Rattle.lists.specs.Tables.{tabulate, passes}
 use Rattle.lists.proofs.Tables.{both-left, both-right, tabulate-at, passes-at}
 use Rattle.signal.specs.Signal.{levelOf, digits, held, baudotSignal, sum, parityOf, edtElements, edtSignal, heldKeys, keysSignal, signal}
-use Rattle.alphabet.specs.code.Numbers.{longest}
 use Rattle.signal.specs.code.Packing.{edtFrame}
 use Rattle.alphabet.specs.declared.Mode.{Mode}
 use Rattle.alphabet.specs.declared.Mode.the-variants.{Baudot45, Baudot50, Dtmf, Edt}
-use Rattle.alphabet.specs.Modes.{alphabetOf, codes}
+use Rattle.alphabet.specs.Modes.{alphabetOf, codes, longest}
 use Rattle.alphabet.specs.Dtmf.{keysOf}
 
 -- two lists that a test finds equal

@@ -7,8 +7,7 @@ ghost use lib.ListN.{length, getD};
 ghost use Rattle.signal.specs.Signal.{levelOf, parityOf, keysSignal, signal};
 ghost use Rattle.alphabet.specs.declared.Mode.the-variants.{Dtmf};
 ghost use Rattle.alphabet.specs.Dtmf.{keysOf};
-ghost use Rattle.alphabet.specs.Modes.{alphabetOf, codes};
-ghost use Rattle.alphabet.specs.code.Numbers.{longest};
+ghost use Rattle.alphabet.specs.Modes.{alphabetOf, codes, longest};
 ghost use Rattle.signal.specs.code.Packing.{edtFrame};
 
 // The level of an element of a frame, whose digits stand in a number, the first element lowest: 1 is mark, 0 space.

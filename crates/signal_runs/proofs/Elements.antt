@@ -13,9 +13,8 @@ use Rattle.lists.specs.Tables.{tabulate}
 use Rattle.alphabet.specs.declared.Mode.{Mode}
 use Rattle.alphabet.specs.declared.Mode.the-variants.{Baudot45, Baudot50, Dtmf, Edt}
 use Rattle.alphabet.specs.Dtmf.{keysOf}
-use Rattle.alphabet.specs.Modes.{alphabetOf, codes}
+use Rattle.alphabet.specs.Modes.{alphabetOf, codes, longest}
 use Rattle.signal.specs.Signal.{levelOf, signal}
-use Rattle.alphabet.specs.code.Numbers.{longest}
 use Rattle.signal.proofs.Levels.{test-22, test-20, baudot-at, edt-at, keys-on, keys-off}
 use Rattle.signal.proofs.Lengths.{baudot-165, baudot-150, edt-100, within-longest}
 use Rattle.burst.specs.declared.OnLine.{OnLine}

@@ -6,9 +6,8 @@ use native.Mathlib.Omega.{arith}
 use lib.ListN.{length, length-replicate}
 use Rattle.alphabet.specs.declared.Mode.{Mode}
 use Rattle.alphabet.specs.declared.Mode.the-variants.{Baudot45, Baudot50, Dtmf, Edt}
-use Rattle.alphabet.specs.Modes.{alphabetOf, preambleOf}
+use Rattle.alphabet.specs.Modes.{alphabetOf, preambleOf, longest}
 use Rattle.signal.specs.Signal.{signal, preamble}
-use Rattle.alphabet.specs.code.Numbers.{longest}
 use Rattle.burst.specs.declared.OnLine.{OnLine}
 use Rattle.burst.specs.Line.{isCode, inBurst, partMs}
 use Rattle.burst.specs.code.Bounds.{LineIn}

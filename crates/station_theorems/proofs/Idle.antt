@@ -16,9 +16,8 @@ use Rattle.alphabet.specs.declared.Mode.{Mode}
 use Rattle.alphabet.specs.declared.Mode.the-variants.{Baudot45, Baudot50, Dtmf, Edt}
 use Rattle.alphabet.specs.declared.Sends.{Sends}
 use Rattle.alphabet.specs.declared.Sends.the-variants.{Nothing, Code}
-use Rattle.alphabet.specs.Modes.{alphabetOf, codes, preambleOf}
+use Rattle.alphabet.specs.Modes.{alphabetOf, codes, preambleOf, longest}
 use Rattle.alphabet.specs.Normal.{sends, isCode}
-use Rattle.alphabet.specs.code.Numbers.{longest}
 use Rattle.alphabet.proofs.Ranges.{few-codes}
 use Rattle.baudot.specs.declared.Sender.{Sender}
 use Rattle.baudot.specs.Sending.{sender, shiftCode, shifted}

@@ -5,8 +5,7 @@ use mathlib.Core.List.{List}
 use mathlib.Core.Path.{_≡_}
 use lib.Dec.{eqb}
 use lib.ListN.{length, replicate}
-use Rattle.alphabet.specs.Modes.{preambleOf}
-use Rattle.alphabet.specs.code.Numbers.{longest}
+use Rattle.alphabet.specs.Modes.{preambleOf, longest}
 use Rattle.signal.specs.Signal.{quiet}
 use Rattle.burst.specs.Rules.{freeMs}
 use Rattle.burst.specs.Line.{inBurst}

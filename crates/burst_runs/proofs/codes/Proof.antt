@@ -12,10 +12,9 @@ use Rattle.lists.proofs.Lists.{either}
 use Rattle.alphabet.specs.declared.Alphabet.{Alphabet}
 use Rattle.alphabet.specs.declared.Mode.{Mode}
 use Rattle.alphabet.specs.declared.Sends.{Sends}
-use Rattle.alphabet.specs.Modes.{alphabetOf, codes}
+use Rattle.alphabet.specs.Modes.{alphabetOf, codes, longest}
 use Rattle.alphabet.specs.Normal.{sends}
 use Rattle.signal.specs.Signal.{signal}
-use Rattle.alphabet.specs.code.Numbers.{longest}
 use Rattle.burst.specs.Line.{onLine, codeBegins, ended}
 use Rattle.half_duplex.specs.Core.{modeIn}
 use Rattle.burst.specs.code.Bounds.{SendsIn}

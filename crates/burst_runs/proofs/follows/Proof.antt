@@ -5,7 +5,7 @@ use Prim.Native.Nat.{ℕ}
 use lib.Dec.{leb, ltb}
 use borrow.Author.Tests.{not-true, not-false}
 use Rattle.alphabet.specs.declared.Mode.{Mode}
-use Rattle.alphabet.specs.code.Numbers.{longest}
+use Rattle.alphabet.specs.Modes.{longest}
 use Rattle.burst.specs.Line.{isOver}
 use Rattle.half_duplex.specs.Core.{modeIn}
 use borrow.Author.Needs.{needs}

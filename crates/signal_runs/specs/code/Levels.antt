@@ -6,9 +6,8 @@ use lib.Dec.{ltb}
 use lib.ListN.{length, getD}
 use Rattle.alphabet.specs.declared.Mode.{Mode}
 use Rattle.alphabet.specs.declared.Mode.the-variants.{Baudot45, Baudot50, Dtmf, Edt}
-use Rattle.alphabet.specs.Modes.{alphabetOf, codes}
+use Rattle.alphabet.specs.Modes.{alphabetOf, codes, longest}
 use Rattle.signal.specs.Signal.{quiet, levelOf, signal}
-use Rattle.alphabet.specs.code.Numbers.{longest}
 use Rattle.signal.specs.code.Packing.{edtFrame}
 use Rattle.burst.specs.declared.OnLine.{OnLine}
 use Rattle.burst.specs.Line.{further, levelOn}

@@ -8,7 +8,7 @@ use lib.ListN.{length}
 use borrow.Author.Needs.{needs}
 use borrow.Author.Tests.{leb-true, ltb-true}
 use Rattle.lists.proofs.Lists.{and-left, and-right}
-use Rattle.alphabet.specs.code.Numbers.{longest}
+use Rattle.alphabet.specs.Modes.{longest}
 use Rattle.burst.specs.Line.{isOver}
 use Rattle.half_duplex.specs.Core.{modeIn}
 use Rattle.half_duplex.specs.code.Bounds.{CoreIn}
