@@ -18,7 +18,8 @@ pub record Line : Type 0 where
   pub right : Row
 
 abbrev pub line : String → String → String → String → String → String → Line
-line a b c d e f = record { left = record { from = a; sign = b; to = c }; right = record { from = d; sign = e; to = f } }
+line a b c d e f =
+    record { left = record { from = a; sign = b; to = c }; right = record { from = d; sign = e; to = f } }
 
 unfoldable pub leftRows : List Line → List Row
 leftRows [] = []

@@ -1,5 +1,5 @@
--- Document 01, "Questions in order": the bare Baudot conversions. The first no decides; a refusal gives back what it was
--- given and leaves the slice; success writes the result from the front, and the rest of the slice stays.
+-- Document 01, "Questions in order": the bare Baudot conversions. The first no decides; a refusal gives back what it
+-- was given and leaves the slice; success writes the result from the front, and the rest of the slice stays.
 use Prim.Native.Nat.{ℕ}
 use mathlib.Core.Bool.{cond, _||_}
 use mathlib.Core.List.{List}
@@ -50,4 +50,5 @@ readOf codes shift room =
     cond (eqb answer 0) (read 0 (shiftAfter shift codes) (length (textOf shift codes))) (read answer shift 0)
 
 unfoldable pub textAfter : List ℕ → ℕ → List ℕ → List ℕ
-textAfter codes shift text = cond (eqb (readAnswer codes shift (length text)) 0) (written (textOf shift codes) text) text
+textAfter codes shift text =
+    cond (eqb (readAnswer codes shift (length text)) 0) (written (textOf shift codes) text) text

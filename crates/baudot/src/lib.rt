@@ -8,7 +8,8 @@ pub struct Sender {
     pub count: u8,
 }
 
-// What a conversion to codes gives back: 0 or the number of the refusal, the shift and count reached, the codes written.
+// What a conversion to codes gives back: 0 or the number of the refusal, the shift and count reached, the codes
+// written.
 #[repr(C)]
 pub struct BaudotSent {
     pub answer: u8,

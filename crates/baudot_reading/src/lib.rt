@@ -27,7 +27,10 @@ fn put_code(table: &[u8; 64], text: &mut [u8], at: usize, shift: u8, code: LineC
     requires { ⌜ (1 ≤ shift) × (shift ≤ 2) ⌝ }
     requires { ⌜ code .0 < 32 ⌝ }
     requires { ⌜ at + length (charsOf (readBaudot shift (code .0))) ≤ length (now text) ⌝ }
-    ensures { λ r. ⌜ r ≡ record { at = at + length (charsOf (readBaudot shift (code .0))); shift = shiftBy shift (readBaudot shift (code .0)) } ⌝ }
+    ensures { λ r. ⌜ r ≡ record {
+      at = at + length (charsOf (readBaudot shift (code .0)));
+      shift = shiftBy shift (readBaudot shift (code .0));
+    } ⌝ }
     ensures { λ r. ⌜ now (text .exit) ≡ sets (now (text .entry)) at (charsOf (readBaudot shift (code .0))) ⌝ }
 {
     if code.0 == alphabet::table::LETTERS.0 {
@@ -47,7 +50,10 @@ fn put_codes(table: &[u8; 64], codes: &[u8], shift: u8, text: &mut [u8]) -> Take
     requires { ⌜ (1 ≤ shift) × (shift ≤ 2) ⌝ }
     requires { ⌜ allCodes (now codes) ≡ true ⌝ }
     requires { ⌜ length (textOf shift (now codes)) ≤ length (now text) ⌝ }
-    ensures { λ r. ⌜ r ≡ record { at = length (textOf shift (now (codes .entry))); shift = shiftAfter shift (now (codes .entry)) } ⌝ }
+    ensures { λ r. ⌜ r ≡ record {
+      at = length (textOf shift (now (codes .entry)));
+      shift = shiftAfter shift (now (codes .entry));
+    } ⌝ }
     ensures { λ r. ⌜ now (text .exit) ≡ sets (now (text .entry)) 0 (textOf shift (now (codes .entry))) ⌝ }
 {
     let mut t = Taken { at: 0, shift };

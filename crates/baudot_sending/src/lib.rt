@@ -47,7 +47,10 @@ fn put_char(table: &[u16; 384], codes: &mut [u8], at: usize, s: Sender, c: Char)
     requires { ⌜ c .0 < 128 ⌝ }
     requires { ⌜ Running s ⌝ }
     requires { ⌜ at + length (codesFor s (sends Baudot (c .0))) ≤ length (now codes) ⌝ }
-    ensures { λ r. ⌜ r ≡ record { at = at + length (codesFor s (sends Baudot (c .0))); sender = senderFor s (sends Baudot (c .0)) } ⌝ }
+    ensures { λ r. ⌜ r ≡ record {
+      at = at + length (codesFor s (sends Baudot (c .0)));
+      sender = senderFor s (sends Baudot (c .0));
+    } ⌝ }
     ensures { λ r. ⌜ now (codes .exit) ≡ sets (now (codes .entry)) at (codesFor s (sends Baudot (c .0))) ⌝ }
 {
     let e = alphabet::table::lookup_in(table, Alphabet::Baudot, c);
@@ -86,7 +89,10 @@ fn put_from(
     requires { ⌜ allChars (now text) ≡ true ⌝ }
     requires { ⌜ (from < length (now text) → Running s) ⌝ }
     requires { ⌜ at + length (codesOf s (drop from (now text))) ≤ length (now codes) ⌝ }
-    ensures { λ r. ⌜ r ≡ record { at = at + length (codesOf s (drop from (now (text .entry)))); sender = senderAfter s (drop from (now (text .entry))) } ⌝ }
+    ensures { λ r. ⌜ r ≡ record {
+      at = at + length (codesOf s (drop from (now (text .entry))));
+      sender = senderAfter s (drop from (now (text .entry)));
+    } ⌝ }
     ensures { λ r. ⌜ now (codes .exit) ≡ sets (now (codes .entry)) at (codesOf s (drop from (now (text .entry)))) ⌝ }
 {
     let mut p = Placed { at, sender: s };
@@ -115,7 +121,10 @@ fn count_char(table: &[u16; 384], at: usize, s: Sender, c: Char) -> Placed
     requires { ⌜ c .0 < 128 ⌝ }
     requires { ⌜ Running s ⌝ }
     requires { ⌜ at + length (codesFor s (sends Baudot (c .0))) < 2 ^ 64 ⌝ }
-    ensures { λ r. ⌜ r ≡ record { at = at + length (codesFor s (sends Baudot (c .0))); sender = senderFor s (sends Baudot (c .0)) } ⌝ }
+    ensures { λ r. ⌜ r ≡ record {
+      at = at + length (codesFor s (sends Baudot (c .0)));
+      sender = senderFor s (sends Baudot (c .0));
+    } ⌝ }
 {
     let e = alphabet::table::lookup_in(table, Alphabet::Baudot, c);
     let Sends::Code {
@@ -240,9 +249,14 @@ fn put_opened(table: &[u16; 384], text: &[u8], o: Opening, codes: &mut [u8]) -> 
     requires { ⌜ allChars (now text) ≡ true ⌝ }
     requires { ⌜ (o .from < length (now text) → Running (o .sender)) ⌝ }
     requires { ⌜ o .at ≤ 1 ⌝ }
-    requires { ⌜ length (openingCodes (o .at) ++ codesOf (o .sender) (drop (o .from) (now text))) ≤ length (now codes) ⌝ }
-    ensures { λ r. ⌜ r ≡ record { at = length (openingCodes (o .at) ++ codesOf (o .sender) (drop (o .from) (now (text .entry)))); sender = senderAfter (o .sender) (drop (o .from) (now (text .entry))) } ⌝ }
-    ensures { λ r. ⌜ now (codes .exit) ≡ sets (now (codes .entry)) 0 (openingCodes (o .at) ++ codesOf (o .sender) (drop (o .from) (now (text .entry)))) ⌝ }
+    requires { ⌜ length (openingCodes (o .at) ++ codesOf (o .sender) (drop (o .from) (now text)))
+        ≤ length (now codes) ⌝ }
+    ensures { λ r. ⌜ r ≡ record {
+      at = length (openingCodes (o .at) ++ codesOf (o .sender) (drop (o .from) (now (text .entry))));
+      sender = senderAfter (o .sender) (drop (o .from) (now (text .entry)));
+    } ⌝ }
+    ensures { λ r. ⌜ now (codes .exit) ≡ sets (now (codes .entry)) 0
+        (openingCodes (o .at) ++ codesOf (o .sender) (drop (o .from) (now (text .entry)))) ⌝ }
 {
     if o.at == 1 {
         codes[0] = baudot::sending::shift_code(1).0;

@@ -69,7 +69,8 @@ pub fn codes(
     requires { ⌜ 1 ≤ c .waiting ⌝ }
     requires { ⌜ i + longest (modeIn c) ≤ length (now heard) ⌝ }
     requires { ⌜ length (now heard) ≤ length (now sent) ⌝ }
-    ensures { λ x. ⌜ ((words : List ℕ) → Stretches (now (heard .entry)) c (movedBy from (now (chars .entry))) (now (sent .entry)) words i n x (now (sent .exit)) words) ⌝ }
+    ensures { λ x. ⌜ ((words : List ℕ) → Stretches (now (heard .entry)) c (movedBy from (now (chars .entry)))
+        (now (sent .entry)) words i n x (now (sent .exit)) words) ⌝ }
 {
     let mode = Mode::of(c.mode);
     let a = mode.alphabet();

@@ -13,8 +13,8 @@ pub mod tones;
 // The ms of none in a row after a tone that make the next ms the timetable's first.
 pub const PAUSE: u16 = 400;
 
-// A calling set's state: the ms in a row of what was heard last, the place in the timetable, what was heard last, and the
-// choice, 0 until one is made.
+// A calling set's state: the ms in a row of what was heard last, the place in the timetable, what was heard last, and
+// the choice, 0 until one is made.
 #[repr(C)]
 pub struct Calling {
     pub ms: u16,

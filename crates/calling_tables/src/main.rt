@@ -1,5 +1,5 @@
-// Prints what a calling set sends and chooses: the timetable, each tone around its length, tones that are interrupted, the
-// pause after a tone, and the refusals. The expected output is what the reference prints.
+// Prints what a calling set sends and chooses: the timetable, each tone around its length, tones that are interrupted,
+// the pause after a tone, and the refusals. The expected output is what the reference prints.
 use calling::Calling;
 use test_io::Row;
 use test_io::print;
@@ -172,7 +172,8 @@ fn run_on(s: Calling, tones: &[u8], ms: usize, area: &mut [u8], room: usize) -> 
     r.answer
 }
 
-// One call with a number of ms of one tone, and the front of an area as its slice: the answer, and how much of the area stays.
+// One call with a number of ms of one tone, and the front of an area as its slice: the answer, and how much of the area
+// stays.
 fn call(s: Calling, tone: u8, ms: usize, room: usize) {
     print(b"call");
     print_number(tone as u64);

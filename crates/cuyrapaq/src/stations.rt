@@ -42,12 +42,17 @@ pub extern "C" fn cq_station_run(
     words: &mut [u32],
 ) -> StationRan
     ensures { λ r. ⌜ (r ≡ record {
-      answer = ranOf (now (station .entry)) (now (heard .entry)) (length (now (sent .entry))) (length (now (words .entry))) .answer;
-      words = ranOf (now (station .entry)) (now (heard .entry)) (length (now (sent .entry))) (length (now (words .entry))) .words;
+      answer = ranOf (now (station .entry)) (now (heard .entry)) (length (now (sent .entry)))
+          (length (now (words .entry))) .answer;
+      words = ranOf (now (station .entry)) (now (heard .entry)) (length (now (sent .entry)))
+          (length (now (words .entry))) .words;
     })
-        × ((now (station .exit) ≡ ranOf (now (station .entry)) (now (heard .entry)) (length (now (sent .entry))) (length (now (words .entry))) .station)
-        × ((now (sent .exit) ≡ sentAfter (now (station .entry)) (now (heard .entry)) (length (now (words .entry))) (now (sent .entry)))
-        × (now (words .exit) ≡ wordsAfter (now (station .entry)) (now (heard .entry)) (length (now (sent .entry))) (now (words .entry))))) ⌝ }
+        × ((now (station .exit) ≡ ranOf (now (station .entry)) (now (heard .entry)) (length (now (sent .entry)))
+        (length (now (words .entry))) .station)
+        × ((now (sent .exit) ≡ sentAfter (now (station .entry)) (now (heard .entry)) (length (now (words .entry)))
+        (now (sent .entry)))
+        × (now (words .exit) ≡ wordsAfter (now (station .entry)) (now (heard .entry)) (length (now (sent .entry)))
+        (now (words .entry))))) ⌝ }
 {
     let c = station.core;
     let ran = station_entry::run(c, &mut station.chars, heard, sent, words);

@@ -13,8 +13,8 @@ use Rattle.lists.specs.Steps.{stateAfter, outputs}
 use Rattle.signal.specs.Signal.{quiet, mark, space, parityOf}
 use Rattle.frames.specs.Samples.{Placed, sampleAt}
 
--- A reader of frames is hunting (place 0), waiting after a fault (place 1), or in a frame with the digits so far: place m + 1
--- if ms m of it is to come.
+-- A reader of frames is hunting (place 0), waiting after a fault (place 1), or in a frame with the digits so far: place
+-- m + 1 if ms m of it is to come.
 abbrev pub inFrame : ℕ → ℕ → Frame
 inFrame m digits = record { place = m + 1; digits = digits }
 
@@ -44,8 +44,8 @@ withDigit top digits heard = digits / 2 + cond (eqb heard mark) top 0
 abbrev pub parityHeard : ℕ → ℕ
 parityHeard heard = cond (eqb heard mark) 1 0
 
--- What a sample at ms m does. A start that is not space ends the frame without a word; quiet at a later sample, a stop that
--- is not mark, or odd parity gives a fault; after the last good sample the reader hunts again.
+-- What a sample at ms m does. A start that is not space ends the frame without a word; quiet at a later sample, a stop
+-- that is not mark, or odd parity gives a fault; after the last good sample the reader hunts again.
 unfoldable pub sampled : Sample → ℕ → ℕ → ℕ → FrameRead
 sampled None m digits heard = goesOn m digits
 sampled Start m digits heard = cond (eqb heard space) (goesOn m digits) (gives hunting Nothing)

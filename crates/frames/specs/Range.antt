@@ -1,4 +1,5 @@
--- Document 01, question 1, as far as it asks about a frame: its numbers are within the values that document 01 gives them.
+-- Document 01, question 1, as far as it asks about a frame: its numbers are within the values that document 01 gives
+-- them.
 use Prim.Native.Nat.{ℕ, _+_}
 use mathlib.Core.Bool.{Bool, _&&_}
 use mathlib.Core.List.{List, [], _∷_}

@@ -21,8 +21,8 @@ pub enum Sample {
     Last,
 }
 
-// A reader of frames. Place 0: hunting; 1: waiting after a fault; m + 1: in a frame whose ms m is to come. The digits so far,
-// the latest one at the top.
+// A reader of frames. Place 0: hunting; 1: waiting after a fault; m + 1: in a frame whose ms m is to come. The digits
+// so far, the latest one at the top.
 #[repr(C)]
 pub struct Frame {
     pub place: u8,

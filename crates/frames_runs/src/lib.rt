@@ -24,7 +24,8 @@ fn pass_samples(mode: Mode, heard: &[u8], place: usize, digits: usize, i: usize)
     requires { ⌜ FrameOf mode (frameAt place digits) ⌝ }
     requires { ⌜ 2 ≤ place ⌝ }
     requires { ⌜ i < length (now heard) ⌝ }
-    ensures { λ p. ⌜ FramePasses mode (now (heard .entry)) (frameAt place digits) i (frameAt (p .place) (p .digits)) (p .to) ⌝ }
+    ensures { λ p. ⌜ FramePasses mode (now (heard .entry)) (frameAt place digits) i (frameAt (p .place) (p .digits))
+        (p .to) ⌝ }
     ensures { λ p. ⌜ (p .on ≡ true → i < p .to) ⌝ }
 {
     let m = place - 1;
@@ -94,7 +95,8 @@ pub fn pass(mode: Mode, heard: &[u8], place: usize, digits: usize, i: usize) -> 
     requires { ⌜ Framed mode ⌝ }
     requires { ⌜ FrameOf mode (frameAt place digits) ⌝ }
     requires { ⌜ i < length (now heard) ⌝ }
-    ensures { λ p. ⌜ FramePasses mode (now (heard .entry)) (frameAt place digits) i (frameAt (p .place) (p .digits)) (p .to) ⌝ }
+    ensures { λ p. ⌜ FramePasses mode (now (heard .entry)) (frameAt place digits) i (frameAt (p .place) (p .digits))
+        (p .to) ⌝ }
     ensures { λ p. ⌜ (p .on ≡ true → i < p .to) ⌝ }
 {
     if 1 < place {

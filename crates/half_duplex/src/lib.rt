@@ -18,8 +18,8 @@ ghost use Rattle.half_duplex.specs.Core.{silenceAfter, readerMs, eventMs
 ghost use Rattle.half_duplex.specs.Range.{timersIn, partsIn, coreIn};
 ghost use Rattle.half_duplex.specs.code.Bounds.{CoreIn};
 
-// A station beside its queue: how many wait, the ms of silence up to 300, the inhibited ms to come, what is on the line, the
-// sender, the reader, the mode's number.
+// A station beside its queue: how many wait, the ms of silence up to 300, the inhibited ms to come, what is on the
+// line, the sender, the reader, the mode's number.
 #[repr(C)]
 pub struct Core {
     pub waiting: u16,

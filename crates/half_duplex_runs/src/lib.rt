@@ -30,8 +30,8 @@ pub fn silence_for(silence: u16, n: usize) -> u16
     silence + n as u16
 }
 
-// The silence after some ms that the receiver hears: the quiet ms at their end, and the silence before if all are quiet.
-// None is above the bound.
+// The silence after some ms that the receiver hears: the quiet ms at their end, and the silence before if all are
+// quiet. None is above the bound.
 pub fn silence_over(silence: u16, heard: &[u8], bound: u8) -> u16
     requires { ⌜ silence ≤ freeMs ⌝ }
     requires { ⌜ allAtMost bound (now heard) ≡ true ⌝ }

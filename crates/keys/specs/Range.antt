@@ -1,4 +1,5 @@
--- Document 01, question 1, as far as it asks about keys: their numbers are within the values that document 01 gives them.
+-- Document 01, question 1, as far as it asks about keys: their numbers are within the values that document 01 gives
+-- them.
 use mathlib.Core.Bool.{Bool, _&&_}
 use lib.Dec.{leb, ltb}
 use Rattle.alphabet.specs.declared.Mode.the-variants.{Dtmf}

@@ -44,7 +44,8 @@ module _ (samples : List Placed) where
 
   -- a mixture hunts already, or all of it was quiet
   mixture : (f : Frame) (bs : List Bool)
-      → (framesSilent samples f bs ≡ hunting) ⊎ (framesSilent samples f bs ≡ frameAfter samples f (replicate (length bs) 0))
+      → (framesSilent samples f bs ≡ hunting)
+      ⊎ (framesSilent samples f bs ≡ frameAfter samples f (replicate (length bs) 0))
   unfolding framesSilent stateAfter
   mixture f [] = inr refl
   mixture f (true ∷ bs) = inl (stays bs)
@@ -121,10 +122,12 @@ pub settles : (mode : Mode) (r : Reader) → ReaderIn mode r → (bs : List Bool
 unfolding hear lastMs samplesOf placed baudotKinds edtKinds
 settles Baudot45 r h bs e =
     let p = h .frame-in .place-in in
-    frame-silent Baudot45 (λ q. refl) r bs ∙ frames-settle (samplesOf Baudot45) 145 test-45 (r .frame) (omega arith) bs e
+    frame-silent Baudot45 (λ q. refl) r bs
+    ∙ frames-settle (samplesOf Baudot45) 145 test-45 (r .frame) (omega arith) bs e
 settles Baudot50 r h bs e =
     let p = h .frame-in .place-in in
-    frame-silent Baudot50 (λ q. refl) r bs ∙ frames-settle (samplesOf Baudot50) 132 test-50 (r .frame) (omega arith) bs e
+    frame-silent Baudot50 (λ q. refl) r bs
+    ∙ frames-settle (samplesOf Baudot50) 132 test-50 (r .frame) (omega arith) bs e
 settles Dtmf r h bs e =
     let p = h .keys-in .needed-in in
     keys-silent r bs ∙ ap (λ (n : ℕ). keysAfter (r .keys) (replicate n 0)) e ∙ keys-settle (r .keys) (omega arith)

@@ -1,5 +1,5 @@
--- Document 01, "Desk examples", first group: what a fresh sender sends for a text in Baudot, and what is read from that; the
--- elements of an EDT character.
+-- Document 01, "Desk examples", first group: what a fresh sender sends for a text in Baudot, and what is read from
+-- that; the elements of an EDT character.
 use Prim.Native.Nat.{ℕ}
 use Prim.Native.Char.{code}
 use Prim.Native.String.{String, [] as empty, _∷_ as _then_}

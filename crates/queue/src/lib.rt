@@ -20,8 +20,8 @@ fn between(c: Char, least: u8, most: u8) -> bool
     (least <= c.0) & (c.0 <= most)
 }
 
-// Does a character wait when it is offered? Those that send something do. The test is by ranges and has no branch, so that a
-// loop over characters is compiled to vector instructions.
+// Does a character wait when it is offered? Those that send something do. The test is by ranges and has no branch, so
+// that a loop over characters is compiled to vector instructions.
 fn waits_baudot(c: Char) -> bool
     ensures { λ r. ⌜ r ≡ waits Baudot (c .0) ⌝ }
 {
@@ -200,7 +200,8 @@ pub struct Offered {
 // The characters of a text that wait, put behind those waiting, if there is space for all of them.
 pub fn offer(a: Alphabet, waiting: u16, chars: &mut [u8; 256], text: &[u8]) -> Offered
     ensures { λ r. ⌜ r .accepted ≡ offerOf a (queue waiting (now (chars .entry))) (now (text .entry)) .accepted ⌝ }
-    ensures { λ r. ⌜ queue (r .waiting) (now (chars .exit)) ≡ offerOf a (queue waiting (now (chars .entry))) (now (text .entry)) .queue ⌝ }
+    ensures { λ r. ⌜ queue (r .waiting) (now (chars .exit)) ≡ offerOf a (queue waiting (now (chars .entry)))
+        (now (text .entry)) .queue ⌝ }
 {
     let refused = Offered {
         accepted: false,

@@ -1,4 +1,5 @@
--- Document 01, "Line signal": the reader of a station, in each mode. A reading ms ends in a character, a fault or nothing.
+-- Document 01, "Line signal": the reader of a station, in each mode. A reading ms ends in a character, a fault or
+-- nothing.
 use Prim.Native.Nat.{ℕ}
 use mathlib.Core.Bool.{cond, _||_}
 use lib.Dec.{eqb}
@@ -72,7 +73,8 @@ foundShift a shift (Code k) = shiftBy shift (reads a shift (k .0))
 -- What a key that counts ends in, behind a prefix: a digit closes a code; a key from A to D gives a fault.
 unfoldable pub keyEvent : ℕ → ℕ → Event
 keyEvent prefix key =
-    cond (eqb key 0 || isMark key) Nothing (cond (isDigit key) (eventOf (reads dtmf letters (dtmfCode prefix key))) Fault)
+    cond (eqb key 0 || isMark key) Nothing
+    (cond (isDigit key) (eventOf (reads dtmf letters (dtmfCode prefix key))) Fault)
 
 -- The prefix after it: a digit and a fault empty it.
 unfoldable pub prefixAfter : ℕ → ℕ → ℕ

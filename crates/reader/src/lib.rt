@@ -93,7 +93,8 @@ fn shift_by(shift: u8, reads: Reads) -> u8
 // What was found in a frame, in a shift.
 fn found_outcome(mode: Mode, shift: u8, found: Found) -> Outcome
     requires { ⌜ FoundIn (frameCodes mode) found ⌝ }
-    ensures { λ r. ⌜ r ≡ outcome (foundShift (alphabetOf mode) shift found) (foundEvent (alphabetOf mode) shift found) ⌝ }
+    ensures { λ r. ⌜ r ≡ outcome (foundShift (alphabetOf mode) shift found)
+        (foundEvent (alphabetOf mode) shift found) ⌝ }
 {
     match found {
         Found::Nothing => Outcome {

@@ -1,6 +1,7 @@
 // Prints the words of readers, each with the number of its ms, for up to 65,536 bytes of standard input. These stand in
-// pairs, with LF between them anywhere: m and a digit for a fresh reader of that mode; i and a count for inhibited ms; a
-// level, 0 to @, and a count for heard ms. A count is the byte less 32. The expected output is what the reference prints.
+// pairs, with LF between them anywhere: m and a digit for a fresh reader of that mode; i and a count for inhibited ms;
+// a level, 0 to @, and a count for heard ms. A count is the byte less 32. The expected output is what the reference
+// prints.
 use alphabet::Mode;
 use libc::STDIN_FILENO;
 use libc::STDOUT_FILENO;

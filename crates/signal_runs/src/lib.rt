@@ -126,7 +126,8 @@ fn put_keys(code: LineCode, at: usize, sent: &mut [u8], from: usize, to: usize)
     requires { ⌜ at + (to - from) ≤ length (signal mode.Dtmf (code .0)) ⌝ }
     requires { ⌜ from ≤ to ⌝ }
     requires { ⌜ to ≤ length (now sent) ⌝ }
-    ensures { λ r. ⌜ now (sent .exit) ≡ sets (now (sent .entry)) from (tabulate (codeLevel mode.Dtmf (code .0) at) (to - from) 0) ⌝ }
+    ensures { λ r. ⌜ now (sent .exit) ≡ sets (now (sent .entry)) from
+        (tabulate (codeLevel mode.Dtmf (code .0) at) (to - from) 0) ⌝ }
 {
     let mut i = from;
     while i < to {
@@ -199,7 +200,8 @@ fn put_frame(mode: Mode, frame: u16, at: usize, sent: &mut [u8], from: usize, to
     requires { ⌜ at + (to - from) ≤ longest mode ⌝ }
     requires { ⌜ from < to ⌝ }
     requires { ⌜ to ≤ length (now sent) ⌝ }
-    ensures { λ r. ⌜ now (sent .exit) ≡ sets (now (sent .entry)) from (tabulate (frameLevel mode frame at) (to - from) 0) ⌝ }
+    ensures { λ r. ⌜ now (sent .exit) ≡ sets (now (sent .entry)) from
+        (tabulate (frameLevel mode frame at) (to - from) 0) ⌝ }
 {
     let mut j = element_at(mode, at);
     let mut i = from;
@@ -219,7 +221,8 @@ fn put_code(mode: Mode, code: LineCode, at: usize, sent: &mut [u8], from: usize,
     requires { ⌜ at + (to - from) ≤ length (signal mode (code .0)) ⌝ }
     requires { ⌜ from < to ⌝ }
     requires { ⌜ to ≤ length (now sent) ⌝ }
-    ensures { λ r. ⌜ now (sent .exit) ≡ sets (now (sent .entry)) from (tabulate (codeLevel mode (code .0) at) (to - from) 0) ⌝ }
+    ensures { λ r. ⌜ now (sent .exit) ≡ sets (now (sent .entry)) from
+        (tabulate (codeLevel mode (code .0) at) (to - from) 0) ⌝ }
 {
     let Mode::Dtmf = mode else {
         put_frame(mode, frame_of(mode, code), at, sent, from, to);

@@ -1,5 +1,5 @@
-// Prints the preamble of each mode and the line signal of each of its codes: each level, and for how many ms in a row. The
-// expected output is what the reference prints.
+// Prints the preamble of each mode and the line signal of each of its codes: each level, and for how many ms in a row.
+// The expected output is what the reference prints.
 use alphabet::LineCode;
 use alphabet::Mode;
 use libc::STDOUT_FILENO;

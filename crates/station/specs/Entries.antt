@@ -1,6 +1,6 @@
--- Document 01, "Questions in order": the station's entries. The first no decides; a refusal, except 2, gives back the station
--- as given and leaves the slices; success writes one sent ms for each ms heard and the words from the front, and beyond that
--- the slices stay.
+-- Document 01, "Questions in order": the station's entries. The first no decides; a refusal, except 2, gives back the
+-- station as given and leaves the slices; success writes one sent ms for each ms heard and the words from the front,
+-- and beyond that the slices stay.
 use Prim.Native.Nat.{ℕ}
 use mathlib.Core.Bool.{Bool, cond, _&&_}
 use mathlib.Core.List.{List}
@@ -41,8 +41,8 @@ offerOf s text =
     let answer = offerAnswer s text in
     cond (eqb answer 0) (answered (offeredTo s text) 0) (answered s answer)
 
--- Running. 1: in range? 5: at most 4,096 ms? 6: every heard ms a value of the mode? 7, 8: are the sent slice and the word
--- slice at least as long as the heard one?
+-- Running. 1: in range? 5: at most 4,096 ms? 6: every heard ms a value of the mode? 7, 8: are the sent slice and the
+-- word slice at least as long as the heard one?
 unfoldable pub runAnswer : Station → List ℕ → ℕ → ℕ → ℕ
 runAnswer s heard sentRoom wordRoom =
     cond (inRange s)

@@ -65,7 +65,8 @@ charsAfter takes chars = cond takes (moved chars) chars
 
 -- One ms: the station after it, what is sent in it, what it ends in.
 unfoldable pub stationMs : Station → ℕ → Station
-stationMs s heard = station (coreAfter (s .core) (front s) heard) (charsAfter (settled (s .core) (front s) .takes) (s .chars))
+stationMs s heard =
+    station (coreAfter (s .core) (front s) heard) (charsAfter (settled (s .core) (front s) .takes) (s .chars))
 
 unfoldable pub sentMs : Station → ℕ → ℕ
 sentMs s heard = sentIn (s .core) (front s)

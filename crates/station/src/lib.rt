@@ -123,7 +123,8 @@ fn core_with(c: Core, waiting: u16, reader: Reader) -> Core
 
 // Offering a text: those of its characters that send something wait behind the others.
 pub fn offer(c: Core, chars: &mut [u8; 256], text: &[u8]) -> Answered
-    ensures { λ r. ⌜ station (r .core) (now (chars .exit)) ≡ offerOf (station c (now (chars .entry))) (now (text .entry)) .station ⌝ }
+    ensures { λ r. ⌜ station (r .core) (now (chars .exit)) ≡ offerOf (station c (now (chars .entry)))
+        (now (text .entry)) .station ⌝ }
     ensures { λ r. ⌜ r .answer ≡ offerOf (station c (now (chars .entry))) (now (text .entry)) .answer ⌝ }
 {
     if !in_range(c, chars) {

@@ -1,8 +1,9 @@
-// Plays a list of calls on stations and prints what each gives, for up to 65,536 bytes of standard input. These stand in
-// pairs, with LF between them anywhere: m and a sign opens a station of the mode that many behind 0; a level, 0 to Z, and a
-// count are ms to be heard; u and a sign, then l and a sign, are the high and the low digit of a character to be offered, each
-// that many behind 0; n and a count offer the last one so many times more; o and any byte is the offer; r and a sign is the run, with the slices that the
-// sign says. A count is the byte less 32. The expected output is what the reference prints.
+// Plays a list of calls on stations and prints what each gives, for up to 65,536 bytes of standard input. These stand
+// in pairs, with LF between them anywhere: m and a sign opens a station of the mode that many behind 0; a level, 0 to
+// Z, and a count are ms to be heard; u and a sign, then l and a sign, are the high and the low digit of a character to
+// be offered, each that many behind 0; n and a count offer the last one so many times more; o and any byte is the
+// offer; r and a sign is the run, with the slices that the sign says. A count is the byte less 32. The expected output
+// is what the reference prints.
 use half_duplex::Core;
 use libc::STDIN_FILENO;
 use station::Answered;
@@ -23,8 +24,8 @@ const PATTERN: u8 = 99;
 
 const WORD_PATTERN: u32 = 99_999_999;
 
-// A core; how many ms are to be heard and characters to be offered; 16 times the high digit of the next character; the last
-// character; the first byte of a pair whose second is still to come, or LF.
+// A core; how many ms are to be heard and characters to be offered; 16 times the high digit of the next character; the
+// last character; the first byte of a pair whose second is still to come, or LF.
 struct Play {
     core: Core,
     heard: usize,

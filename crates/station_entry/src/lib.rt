@@ -47,11 +47,16 @@ fn in_range(c: Core, chars: &[u8; 256]) -> bool
 
 // A run: the sent ms and the words of the ms that are heard.
 pub fn run(c: Core, chars: &mut [u8; 256], heard: &[u8], sent: &mut [u8], words: &mut [u32]) -> Ran
-    ensures { λ r. ⌜ station (r .core) (now (chars .exit)) ≡ ranOf (station c (now (chars .entry))) (now (heard .entry)) (length (now (sent .entry))) (length (now (words .entry))) .station ⌝ }
-    ensures { λ r. ⌜ r .answer ≡ ranOf (station c (now (chars .entry))) (now (heard .entry)) (length (now (sent .entry))) (length (now (words .entry))) .answer ⌝ }
-    ensures { λ r. ⌜ r .words ≡ ranOf (station c (now (chars .entry))) (now (heard .entry)) (length (now (sent .entry))) (length (now (words .entry))) .words ⌝ }
-    ensures { λ r. ⌜ now (sent .exit) ≡ sentAfter (station c (now (chars .entry))) (now (heard .entry)) (length (now (words .entry))) (now (sent .entry)) ⌝ }
-    ensures { λ r. ⌜ now (words .exit) ≡ wordsAfter (station c (now (chars .entry))) (now (heard .entry)) (length (now (sent .entry))) (now (words .entry)) ⌝ }
+    ensures { λ r. ⌜ station (r .core) (now (chars .exit)) ≡ ranOf (station c (now (chars .entry)))
+        (now (heard .entry)) (length (now (sent .entry))) (length (now (words .entry))) .station ⌝ }
+    ensures { λ r. ⌜ r .answer ≡ ranOf (station c (now (chars .entry))) (now (heard .entry))
+        (length (now (sent .entry))) (length (now (words .entry))) .answer ⌝ }
+    ensures { λ r. ⌜ r .words ≡ ranOf (station c (now (chars .entry))) (now (heard .entry))
+        (length (now (sent .entry))) (length (now (words .entry))) .words ⌝ }
+    ensures { λ r. ⌜ now (sent .exit) ≡ sentAfter (station c (now (chars .entry))) (now (heard .entry))
+        (length (now (words .entry))) (now (sent .entry)) ⌝ }
+    ensures { λ r. ⌜ now (words .exit) ≡ wordsAfter (station c (now (chars .entry))) (now (heard .entry))
+        (length (now (sent .entry))) (now (words .entry)) ⌝ }
 {
     if !in_range(c, chars) {
         return refused(c, 1);

@@ -32,8 +32,8 @@ fn may_send(c: Core) -> bool
     burst::rules::may_begin(c.waiting, c.silence)
 }
 
-// The next stretch: whole codes; the ms of a part; inhibited ms; ms that the receiver hears. Of the characters so many are
-// taken already.
+// The next stretch: whole codes; the ms of a part; inhibited ms; ms that the receiver hears. Of the characters so many
+// are taken already.
 fn stretch(
     c: Core,
     chars: &[u8],
@@ -53,7 +53,8 @@ fn stretch(
     requires { ⌜ i < length (now heard) ⌝ }
     requires { ⌜ length (now heard) ≤ length (now sent) ⌝ }
     requires { ⌜ n + length (now heard) ≤ length (now words) + i ⌝ }
-    ensures { λ x. ⌜ Stretches (now (heard .entry)) c (movedBy taken (now (chars .entry))) (now (sent .entry)) (now (words .entry)) i n x (now (sent .exit)) (now (words .exit)) ⌝ }
+    ensures { λ x. ⌜ Stretches (now (heard .entry)) c (movedBy taken (now (chars .entry))) (now (sent .entry))
+        (now (words .entry)) i n x (now (sent .exit)) (now (words .exit)) ⌝ }
 {
     if burst_runs::follows(c, heard.len() - i) {
         return burst_runs::codes(c, chars, taken, heard, i, sent, n);
@@ -76,7 +77,8 @@ fn taken_since(first: Core, c: Core) -> usize
     (first.waiting - c.waiting) as usize
 }
 
-// The ms of a run, one after the other, none above the bound. The characters that are taken go from the queue in the end.
+// The ms of a run, one after the other, none above the bound. The characters that are taken go from the queue in the
+// end.
 pub fn run_all(
     c: Core,
     chars: &mut [u8],
@@ -94,8 +96,10 @@ pub fn run_all(
     ensures { λ r. ⌜ r .core ≡ stationAfter (station c (now (chars .entry))) (now (heard .entry)) .core ⌝ }
     ensures { λ r. ⌜ r .words ≡ length (wordsBy (station c (now (chars .entry))) (now (heard .entry))) ⌝ }
     ensures { λ r. ⌜ now (chars .exit) ≡ stationAfter (station c (now (chars .entry))) (now (heard .entry)) .chars ⌝ }
-    ensures { λ r. ⌜ now (sent .exit) ≡ sets (now (sent .entry)) 0 (sentBy (station c (now (chars .entry))) (now (heard .entry))) ⌝ }
-    ensures { λ r. ⌜ now (words .exit) ≡ sets (now (words .entry)) 0 (wordsBy (station c (now (chars .entry))) (now (heard .entry))) ⌝ }
+    ensures { λ r. ⌜ now (sent .exit) ≡ sets (now (sent .entry)) 0
+        (sentBy (station c (now (chars .entry))) (now (heard .entry))) ⌝ }
+    ensures { λ r. ⌜ now (words .exit) ≡ sets (now (words .entry)) 0
+        (wordsBy (station c (now (chars .entry))) (now (heard .entry))) ⌝ }
 {
     let mut core = c;
     let mut i: usize = 0;

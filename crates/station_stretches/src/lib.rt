@@ -51,7 +51,8 @@ fn step(
     requires { ⌜ i < length (now heard) ⌝ }
     requires { ⌜ i < length (now sent) ⌝ }
     requires { ⌜ n < length (now words) ⌝ }
-    ensures { λ x. ⌜ ((chars : List ℕ) → l ≡ settled c (getD chars 0 0) → Stretches (now (heard .entry)) c chars (now (sent .entry)) (now (words .entry)) i n x (now (sent .exit)) (now (words .exit))) ⌝ }
+    ensures { λ x. ⌜ ((chars : List ℕ) → l ≡ settled c (getD chars 0 0) → Stretches (now (heard .entry)) c chars
+        (now (sent .entry)) (now (words .entry)) i n x (now (sent .exit)) (now (words .exit))) ⌝ }
 {
     let x = half_duplex::step(c, l, heard[i]);
     sent[i] = x.sent;
@@ -81,7 +82,8 @@ fn send(
     requires { ⌜ c .line .at + left ≡ length (partMs (modeIn c) (c .line)) ⌝ }
     requires { ⌜ i < length (now heard) ⌝ }
     requires { ⌜ length (now heard) ≤ length (now sent) ⌝ }
-    ensures { λ x. ⌜ ((chars words : List ℕ) → Stretches (now (heard .entry)) c chars (now (sent .entry)) words i n x (now (sent .exit)) words) ⌝ }
+    ensures { λ x. ⌜ ((chars words : List ℕ) → Stretches (now (heard .entry)) c chars
+        (now (sent .entry)) words i n x (now (sent .exit)) words) ⌝ }
 {
     let l = c.line;
     let to = lists::places::up_to(i, left, heard.len());
@@ -109,7 +111,8 @@ pub fn begin(
     requires { ⌜ i < length (now heard) ⌝ }
     requires { ⌜ length (now heard) ≤ length (now sent) ⌝ }
     requires { ⌜ n < length (now words) ⌝ }
-    ensures { λ x. ⌜ ((chars : List ℕ) → getD chars 0 0 ≡ front .0 → Stretches (now (heard .entry)) c chars (now (sent .entry)) (now (words .entry)) i n x (now (sent .exit)) (now (words .exit))) ⌝ }
+    ensures { λ x. ⌜ ((chars : List ℕ) → getD chars 0 0 ≡ front .0 → Stretches (now (heard .entry)) c chars
+        (now (sent .entry)) (now (words .entry)) i n x (now (sent .exit)) (now (words .exit))) ⌝ }
 {
     let l = half_duplex::settle(c, front);
     let line = l.line;
@@ -130,7 +133,8 @@ pub fn wait(c: Core, heard: &[u8], i: usize, sent: &mut [u8], n: usize) -> Stret
     requires { ⌜ 1 ≤ c .inhibited ⌝ }
     requires { ⌜ i < length (now heard) ⌝ }
     requires { ⌜ length (now heard) ≤ length (now sent) ⌝ }
-    ensures { λ x. ⌜ ((chars words : List ℕ) → Stretches (now (heard .entry)) c chars (now (sent .entry)) words i n x (now (sent .exit)) words) ⌝ }
+    ensures { λ x. ⌜ ((chars words : List ℕ) → Stretches (now (heard .entry)) c chars
+        (now (sent .entry)) words i n x (now (sent .exit)) words) ⌝ }
 {
     let free = free_end(c.waiting, c.silence, i, heard.len());
     let to = lists::places::up_to(i, c.inhibited as usize, free);
@@ -161,7 +165,8 @@ pub fn listen(
     requires { ⌜ i < length (now heard) ⌝ }
     requires { ⌜ length (now heard) ≤ length (now sent) ⌝ }
     requires { ⌜ n + length (now heard) ≤ length (now words) + i ⌝ }
-    ensures { λ x. ⌜ ((chars : List ℕ) → Stretches (now (heard .entry)) c chars (now (sent .entry)) (now (words .entry)) i n x (now (sent .exit)) (now (words .exit))) ⌝ }
+    ensures { λ x. ⌜ ((chars : List ℕ) → Stretches (now (heard .entry)) c chars (now (sent .entry))
+        (now (words .entry)) i n x (now (sent .exit)) (now (words .exit))) ⌝ }
 {
     let to = free_end(c.waiting, c.silence, i, heard.len());
     signal_runs::fill(sent, i, to, 0);

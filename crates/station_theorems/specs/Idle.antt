@@ -28,8 +28,8 @@ idleWithin s =
     let mode = modeOfStation s in
     freeMs + preambleOf mode + (2 + 2 * s .core .waiting) * longest mode
 
--- Each station in range (with its 256 places), also one that no list of calls gives, is idle after so many ms of a quiet
--- line, and after any more.
+-- Each station in range (with its 256 places), also one that no list of calls gives, is idle after so many ms of a
+-- quiet line, and after any more.
 abbrev pub BecomesIdle : Type 0
 BecomesIdle =
     (s : Station) → length (s .chars) ≡ 256 → inRange s ≡ true

@@ -22,8 +22,8 @@ partLevel mode l k = levelOn mode (further l k)
 unfoldable pub evenMs : ℕ → ℕ
 evenMs at = cond (ltb (at % 120) 70) (70 - at % 120) (120 - at % 120)
 
--- The element of a frame to which a ms belongs, the ms behind an element, and a frame as a number, the first element lowest.
--- DTMF has no frames.
+-- The element of a frame to which a ms belongs, the ms behind an element, and a frame as a number, the first element
+-- lowest. DTMF has no frames.
 unfoldable pub elementAt : Mode → ℕ → ℕ
 elementAt Baudot45 m = m / 22
 elementAt Baudot50 m = m / 20

@@ -18,9 +18,10 @@ pub record Free (waiting silence i len to : ℕ) : Type 0 where
   pub high : to ≤ len
   pub free : 1 ≤ waiting → silence + (to - i) ≤ 300
 
--- From the place i on, with words from n on: the stretch x, and the sent ms and the words after it. Which characters are
--- taken follows from how many wait (station/proofs/Takings.antt).
-pub record Stretches (heard : List ℕ) (c : Core) (chars sent₀ words₀ : List ℕ) (i n : ℕ) (x : Stretched) (sent₁ words₁ : List ℕ) : Type 0 where
+-- From the place i on, with words from n on: the stretch x, and the sent ms and the words after it. Which characters
+-- are taken follows from how many wait (station/proofs/Takings.antt).
+pub record Stretches (heard : List ℕ) (c : Core) (chars sent₀ words₀ : List ℕ) (i n : ℕ)
+    (x : Stretched) (sent₁ words₁ : List ℕ) : Type 0 where
   pub low : i < x .at
   pub high : x .at ≤ length heard
   pub after : x .core ≡ stationAfter (station c chars) (between i (x .at) heard) .core
