@@ -1,3 +1,4 @@
 pub mod Ranges
 pub mod Packing
 pub mod ReadingBack
+pub mod DtmfCodes

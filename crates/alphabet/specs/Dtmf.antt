@@ -32,6 +32,10 @@ withMark p k = cond (ltb p 7) (2 * p + (k - 10)) 15
 abbrev pub dtmfCode : ℕ → ℕ → ℕ
 dtmfCode p k = 16 * p + k
 
+-- Is a number one of these: of a prefix of at most three marks, and of a digit?
+unfoldable pub isDtmfCode : ℕ → Bool
+isDtmfCode n = ltb (n / 16) 15 && isDigit (n % 16)
+
 unfoldable pub codeFrom : ℕ → List ℕ → ℕ
 codeFrom p [] = 0
 codeFrom p (k ∷ ks) = cond (isMark k) (codeFrom (withMark p k) ks) (dtmfCode p k)

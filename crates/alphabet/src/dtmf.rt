@@ -3,7 +3,7 @@ use crate::LineCode;
 ghost use mathlib.Core.Path.{_≡_};
 ghost use Prim.Native.Nat.{_≤_, _<_};
 ghost use lib.ListN.{getD};
-ghost use Rattle.alphabet.specs.Dtmf.{withMark, dtmfCode, keysOf};
+ghost use Rattle.alphabet.specs.Dtmf.{withMark, dtmfCode, isDtmfCode, keysOf};
 ghost use Rattle.alphabet.specs.code.Packing.{keyAt};
 
 // The keys of a prefix, four to each: its marks, then 255 where the digit stands.
@@ -91,6 +91,20 @@ pub fn code(prefix: u8, digit: u8) -> LineCode
     ensures { λ r. ⌜ r .0 ≡ dtmfCode prefix digit ⌝ }
 {
     LineCode(16 * prefix + digit)
+}
+
+// Is it a code: a prefix of at most three marks, and a digit's key?
+pub fn is_code(code: LineCode) -> bool
+    ensures { λ r. ⌜ r ≡ isDtmfCode (code .0) ⌝ }
+{
+    if 15 <= code.0 / 16 {
+        return false;
+    }
+    let digit = code.0 % 16;
+    if digit < 1 {
+        return false;
+    }
+    digit <= 10
 }
 
 fn entry(at: usize) -> u8

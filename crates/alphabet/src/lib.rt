@@ -1,6 +1,5 @@
 // T.50 characters, line codes and modes: what a character sends, what a code reads as.
 ghost use mathlib.Core.Path.{_≡_};
-ghost use Prim.Native.Nat.{_≤_, _<_};
 ghost use Rattle.alphabet.specs.Modes.{modeNumber, modeOf, preambleOf, alphabetOf, frameCodes, highestLevel, longest};
 ghost use Rattle.alphabet.specs.code.Numbers.{lastSample};
 

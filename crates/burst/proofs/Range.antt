@@ -1,7 +1,7 @@
 -- What a ms starts with is in range, and every ms keeps what is on the line in range.
 use mathlib.Core.Path.{_≡_, refl, sym}
 use mathlib.Core.Bool.{Bool, true, false, cond, not, _&&_, _||_, false≢true}
-use Prim.Native.Nat.{ℕ, _+_, _<_, _≤_}
+use Prim.Native.Nat.{ℕ, _<_, _≤_}
 use native.Mathlib.Omega.{arith}
 use lib.Dec.{eqb, leb, ltb}
 use lib.ListN.{length}
@@ -14,7 +14,7 @@ use Rattle.alphabet.specs.declared.Sends.{Sends}
 use Rattle.alphabet.specs.declared.Sends.the-variants.{Nothing, Code}
 use Rattle.alphabet.specs.Modes.{alphabetOf, codes}
 use Rattle.alphabet.specs.Normal.{sends}
-use Rattle.alphabet.proofs.Ranges.{leastShift, some-shift, range-of}
+use Rattle.alphabet.proofs.Ranges.{some-shift, range-of}
 use Rattle.baudot.specs.declared.Sender.{Sender}
 use Rattle.baudot.specs.Sending.{sender, differs, wanted, shiftCode, shifted}
 use Rattle.burst.specs.declared.OnLine.{OnLine}

@@ -10,7 +10,6 @@ ghost use Prim.Native.Nat.{_+_, _≤_, _<_};
 ghost use mathlib.Core.Bool.{not, _&&_};
 ghost use lib.Dec.{eqb};
 ghost use lib.ListN.{length};
-ghost use Rattle.alphabet.specs.declared.Alphabet.the-variants.{Dtmf as dtmf};
 ghost use Rattle.alphabet.specs.Modes.{alphabetOf};
 ghost use Rattle.baudot.specs.Sending.{wanted};
 ghost use Rattle.burst.specs.Rules.{shiftWanted, senderAfterOwn};
@@ -243,27 +242,13 @@ pub fn line_after(mode: Mode, ends: bool, l: OnLine) -> OnLine
     ended(is_over(mode, gone), ends, gone)
 }
 
-// A prefix of at most three marks, and the key of a digit?
-fn is_dtmf_code(code: LineCode) -> bool
-    ensures { λ r. ⌜ r ≡ isCodeOf dtmf (code .0) ⌝ }
-{
-    if 15 <= code.0 / 16 {
-        return false;
-    }
-    let digit = code.0 % 16;
-    if digit < 1 {
-        return false;
-    }
-    digit <= 10
-}
-
 // A code of the alphabet?
 fn is_code(a: Alphabet, code: LineCode) -> bool
     ensures { λ r. ⌜ r ≡ isCodeOf a (code .0) ⌝ }
 {
     match a {
         Alphabet::Baudot => code.0 < Mode::BAUDOT_CODES,
-        Alphabet::Dtmf => is_dtmf_code(code),
+        Alphabet::Dtmf => alphabet::dtmf::is_code(code),
         Alphabet::Edt => code.0 < Mode::EDT_CODES,
     }
 }

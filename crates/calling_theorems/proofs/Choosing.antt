@@ -7,7 +7,7 @@ use native.Mathlib.Omega.{arith}
 use borrow.Author.Tests.{eq-eqb, ne-eqb, lt-ltb, le-ltb, eqb-true, eqb-false, ltb-true, ltb-false}
 use lib.Dec.{eqb, ltb}
 use lib.ListN.{length, replicate}
-use Rattle.lists.specs.Steps.{stateAfter, outputs}
+use Rattle.lists.specs.Steps.{stateAfter}
 use Rattle.lists.proofs.Lists.{by-test, and-left, and-right}
 use Rattle.lists.proofs.Steps.{Takes, stays}
 use Rattle.calling.specs.declared.Calling.{Calling}

@@ -1,6 +1,6 @@
 -- A frame in range: what question 1 says in facts, and that every step keeps it.
 use mathlib.Core.Path.{_≡_, _∙_, refl, ap}
-use mathlib.Core.Bool.{Bool, true, false, cond, _&&_}
+use mathlib.Core.Bool.{Bool, true, false, cond}
 use mathlib.Core.List.{List}
 use Prim.Native.Nat.{ℕ, _+_, _-_, _*_, _/_, _<_, _≤_}
 use native.Mathlib.Omega.{arith}
@@ -15,7 +15,7 @@ use Rattle.frames.specs.declared.Sample.{Sample}
 use Rattle.frames.specs.declared.Sample.the-variants.{None, Start, Digit, Parity, Stop, Last}
 use Rattle.frames.specs.declared.Frame.{Frame}
 use Rattle.frames.specs.declared.Found.{Found}
-use Rattle.frames.specs.declared.Found.the-variants.{Nothing, Fault, Code}
+use Rattle.frames.specs.declared.Found.the-variants.{Nothing, Code}
 use Rattle.frames.specs.declared.FrameRead.{FrameRead}
 use Rattle.frames.specs.code.Bounds.{FrameIn, FrameOf, Framed, FoundIn}
 use Rattle.frames.specs.Samples.{Placed, placed, sampleAt, samplesOf, baudotKinds, baudotPlace, baudotSamples, edtKinds, edtPlace, edtSamples}

@@ -1,5 +1,5 @@
 -- Where the samples of a frame fall.
-use mathlib.Core.Path.{_≡_, _∙_, refl, sym, ap, subst}
+use mathlib.Core.Path.{_≡_, _∙_, refl, sym, ap}
 use mathlib.Core.Bool.{Bool, true, false, cond, _&&_}
 use mathlib.Core.List.{List, [], _∷_, _++_}
 use Prim.Native.Nat.{ℕ, zero, suc, _+_, _*_, _-_, _/_, _%_, _<_, _≤_}
@@ -17,7 +17,7 @@ use Rattle.alphabet.specs.declared.Mode.the-variants.{Baudot45, Baudot50, Dtmf,
 use Rattle.frames.specs.declared.FrameRead.{FrameRead}
 use Rattle.frames.specs.code.Bounds.{topIn}
 use Rattle.frames.specs.Frames.{sampled}
-use Rattle.frames.specs.Samples.{samplesOf, Placed, placed, sampleAt, baudotKinds, baudotPlace, baudotSamples, edtKinds, edtPlace, edtSamples}
+use Rattle.frames.specs.Samples.{samplesOf, placed, sampleAt, baudotKinds, baudotPlace, baudotSamples, edtKinds, edtPlace, edtSamples}
 
 -- samples at any places
 module _ (place : ℕ → ℕ) where

@@ -19,7 +19,7 @@ use Rattle.burst.specs.Range.{lineIn}
 use Rattle.baudot.proofs.Range.{sender-in, sender-is}
 use Rattle.burst.proofs.Range.{line-in, line-is, LoadedIn, begun-in, next-in, gone-in, closed-in, next-takes}
 use Rattle.half_duplex.specs.declared.Core.{Core}
-use Rattle.half_duplex.specs.Core.{silenceAfter, modeIn, settledBy, settled, beginsIn, endsIn, waitingAfter, coreFromBy, coreFrom, coreAfter}
+use Rattle.half_duplex.specs.Core.{silenceAfter, modeIn, settledBy, settled, beginsIn, endsIn, coreFromBy, coreFrom, coreAfter}
 use Rattle.half_duplex.specs.Range.{timersIn, partsIn, coreIn}
 use Rattle.half_duplex.specs.code.Bounds.{CoreIn}
 

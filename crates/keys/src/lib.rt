@@ -3,7 +3,7 @@ use alphabet::Mode;
 ghost use mathlib.Core.Path.{_≡_};
 ghost use mathlib.Core.Bool.{cond};
 ghost use lib.Dec.{eqb};
-ghost use Prim.Native.Nat.{_+_, _-_, _≤_, _<_};
+ghost use Prim.Native.Nat.{_+_, _-_, _<_};
 ghost use Rattle.keys.specs.Range.{keysIn};
 ghost use Rattle.keys.specs.Keys.{keyMs, quietMs, needs, counts, keyStep};
 

@@ -1,24 +1,21 @@
 -- A Baudot code's signal is read as that code, for every element length from 2 on.
-use mathlib.Core.Path.{_≡_, _∙_, refl, sym, ap, subst}
-use mathlib.Core.Bool.{Bool, true, false, cond}
+use mathlib.Core.Path.{_≡_, _∙_, refl, sym, ap}
 use mathlib.Core.List.{List, [], _∷_, _++_, append-nil, append-assoc}
 use Prim.Native.Nat.{ℕ, zero, suc, _+_, _-_, _*_, _/_, _%_, _<_, _≤_}
 use native.Mathlib.Omega.{arith}
-use native.Mathlib.Nat.{add-zero, zero-add, add-suc, suc-add, mul-add-div, div-eq-of-lt}
+use native.Mathlib.Nat.{add-zero, zero-add, mul-add-div, div-eq-of-lt}
 use lib.Dec.{T, eqb, eqb→eq}
 use lib.ListN.{getD, replicate, replicate-append-replicate}
-use borrow.Author.Tests.{eq-eqb, ne-eqb}
 use Rattle.lists.specs.Tables.{passes}
 use Rattle.lists.proofs.Tables.{passes-at}
 use Rattle.frames.specs.declared.Sample.{Sample}
-use Rattle.frames.specs.declared.Sample.the-variants.{None, Start, Digit, Parity, Stop, Last}
+use Rattle.frames.specs.declared.Sample.the-variants.{None, Digit}
 use Rattle.frames.specs.declared.Frame.{Frame}
 use Rattle.frames.specs.declared.Found.{Found}
-use Rattle.frames.specs.declared.Found.the-variants.{Nothing, Fault, Code}
-use Rattle.frames.specs.declared.FrameRead.{FrameRead}
+use Rattle.frames.specs.declared.Found.the-variants.{Nothing, Code}
 use Rattle.signal.specs.Signal.{levelOf, digits, held, baudotSignal}
-use Rattle.frames.specs.Samples.{Placed, sampleAt, baudotKinds, baudotPlace, baudotSamples}
-use Rattle.frames.specs.Frames.{inFrame, hunting, waiting, gives, goesOn, withDigit, sampled, frameStep}
+use Rattle.frames.specs.Samples.{Placed, baudotKinds, baudotPlace, baudotSamples}
+use Rattle.frames.specs.Frames.{inFrame, hunting, gives, goesOn, sampled, frameStep}
 use Rattle.frames.proofs.Samples.{baudot-on, baudot-off, place-element}
 use Rattle.line_theorems.proofs.FrameRules.{Hears, none, chain, next, hunting-space, hunting-other, in-frame, no-sample}
 

@@ -1,41 +1,35 @@
 -- The whole chain in Baudot and EDT.
-use mathlib.Core.Path.{_≡_, _∙_, refl, sym, ap, subst}
-use mathlib.Core.Bool.{Bool, true, false, cond, _&&_}
-use mathlib.Core.Logic.{_⊎_, inl, inr, ⊎-elim}
-use mathlib.Core.List.{List, [], _∷_, append-nil}
-use Prim.Native.Nat.{ℕ, zero, suc, _+_, _-_, _*_, _/_, _<_, _≤_}
+use mathlib.Core.Path.{_≡_, _∙_, refl, ap}
+use mathlib.Core.Bool.{true}
+use mathlib.Core.List.{List, [], _∷_}
+use Prim.Native.Nat.{ℕ, _-_, _<_}
 use native.Mathlib.Omega.{arith}
 use lib.Dec.{eqb, leb}
-use lib.ListN.{replicate}
 use borrow.Author.Tests.{le-leb}
 use Rattle.lists.specs.Lists.{allAtMost}
 use Rattle.lists.proofs.Lists.{either, at-most-head, at-most-tail, at-most-append}
-use Rattle.alphabet.specs.declared.Alphabet.{Alphabet}
-use Rattle.alphabet.specs.declared.Alphabet.the-variants.{Baudot, Dtmf as dtmf, Edt as edt}
-use Rattle.alphabet.specs.declared.LineCode.{LineCode}
+use Rattle.alphabet.specs.declared.Alphabet.the-variants.{Baudot, Edt as edt}
 use Rattle.alphabet.specs.declared.Mode.{Mode}
-use Rattle.alphabet.specs.declared.Mode.the-variants.{Baudot45, Baudot50, Dtmf, Edt}
+use Rattle.alphabet.specs.declared.Mode.the-variants.{Baudot45, Baudot50, Edt}
 use Rattle.alphabet.specs.declared.Sends.{Sends}
 use Rattle.alphabet.specs.declared.Sends.the-variants.{Nothing, Code}
 use Rattle.alphabet.specs.declared.Reads.{Reads}
-use Rattle.alphabet.specs.declared.Reads.the-variants.{Character, Shift, NoRow}
+use Rattle.alphabet.specs.declared.Reads.the-variants.{Shift}
 use Rattle.alphabet.specs.Baudot.{readBaudot}
-use Rattle.alphabet.specs.Modes.{alphabetOf, elementOf, preambleOf}
-use Rattle.alphabet.specs.Normal.{sends, reads, charsOf, normal, normalForm, allChars}
+use Rattle.alphabet.specs.Normal.{sends, reads, charsOf, allChars}
 use Rattle.alphabet_theorems.proofs.Rule.{rule-of}
 use Rattle.baudot.specs.declared.Sender.{Sender}
-use Rattle.baudot.specs.Sending.{sender, shiftCode, shiftCodes, wanted, opened, codesAhead, codesFor, senderFor, codesOf, Running}
+use Rattle.baudot.specs.Sending.{sender, shiftCode, shiftCodes, wanted, opened, codesAhead, codesFor, senderFor, codesOf}
 use Rattle.baudot.specs.Reading.{shiftBy, textOf, shiftAfter}
 use Rattle.keys.specs.declared.Keys.{Keys}
-use Rattle.reader.specs.declared.Reader.{Reader}
-use Rattle.signal.specs.Signal.{signal, signals, preamble}
+use Rattle.signal.specs.Signal.{signal, signals}
 use Rattle.frames.specs.Samples.{samplesOf}
 use Rattle.frames.specs.Frames.{hunting}
-use Rattle.reader.specs.Reader.{reader, eventOf, hearFrame, hear}
+use Rattle.reader.specs.Reader.{reader, eventOf, hear}
 use Rattle.reader.specs.Words.{wordOf}
 use Rattle.line_theorems.proofs.AnyElement.{reads-code}
 use Rattle.line_theorems.proofs.EdtReading.{reads-edt}
-use Rattle.line_theorems.proofs.Chain.{Gives, none, chain, code-read, marks-pass}
+use Rattle.line_theorems.proofs.Chain.{Gives, none, chain, code-read}
 
 -- reading Baudot gives the characters of a code: every code has a row
 baudot-word : (s k : ℕ) → wordOf (eventOf (reads Baudot s k)) ≡ charsOf (reads Baudot s k)

@@ -1,25 +1,20 @@
 -- The whole chain: a text on the line is read as its normal form.
-use mathlib.Core.Path.{_≡_, _∙_, refl, sym, ap, subst}
-use mathlib.Core.Bool.{Bool, true, false, cond, _&&_, _||_}
-use mathlib.Core.Logic.{_⊎_, inl, inr, ⊎-elim}
+use mathlib.Core.Path.{_≡_, _∙_, refl, sym, ap}
+use mathlib.Core.Bool.{Bool, true, false}
 use mathlib.Core.List.{List, [], _∷_, _++_, append-nil}
-use Prim.Native.Nat.{ℕ, zero, suc, _+_, _-_, _*_, _/_, _%_, _<_, _≤_}
-use native.Mathlib.Omega.{arith}
-use lib.Dec.{T, eqb, leb}
+use Prim.Native.Nat.{ℕ, zero, suc, _+_, _-_}
+use lib.Dec.{T}
 use lib.ListN.{replicate}
 use Rattle.alphabet.specs.declared.Alphabet.{Alphabet}
-use Rattle.alphabet.specs.declared.Alphabet.the-variants.{Baudot, Dtmf as dtmf, Edt as edt}
 use Rattle.alphabet.specs.declared.Mode.{Mode}
-use Rattle.alphabet.specs.declared.Mode.the-variants.{Baudot45, Baudot50, Dtmf, Edt}
 use Rattle.alphabet.specs.Normal.{reads}
 use Rattle.alphabet.specs.Modes.{alphabetOf}
 use Rattle.baudot.specs.Reading.{shiftBy}
 use Rattle.frames.specs.declared.Frame.{Frame}
 use Rattle.frames.specs.declared.Found.{Found}
-use Rattle.frames.specs.declared.Found.the-variants.{Nothing as nothing, Fault as fault, Code}
+use Rattle.frames.specs.declared.Found.the-variants.{Nothing as nothing, Code}
 use Rattle.keys.specs.declared.Keys.{Keys}
 use Rattle.reader.specs.declared.Event.{Event}
-use Rattle.reader.specs.declared.Event.the-variants.{Character, Fault, Nothing}
 use Rattle.reader.specs.declared.Reader.{Reader}
 use Rattle.reader.specs.declared.Reading.{Reading}
 use Rattle.lists.specs.Steps.{stateAfter, outputs}
@@ -30,7 +25,6 @@ use Rattle.frames.specs.code.Bounds.{Framed, isFound}
 use Rattle.reader.specs.Reader.{reader, eventOf, hearFrame, hear}
 use Rattle.reader.specs.Words.{wordOf, wordsOf, readerNext, readerEvent, readerAfter, events, words}
 use Rattle.lists.proofs.Steps as steps
-use Rattle.lists.proofs.Steps.{Takes}
 use Rattle.reader.proofs.Parts.{foundsEvents, foundsShift, frames-after, frames-events, kept-shift, kept-words}
 use Rattle.reader.proofs.WordLists.{words-append}
 use Rattle.line_theorems.proofs.FrameRules.{Hears}

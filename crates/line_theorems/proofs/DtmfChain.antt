@@ -1,16 +1,13 @@
 -- The whole chain in DTMF: every code that has a row is read as its character.
 use mathlib.Core.Path.{_≡_, _∙_, refl, sym, ap, subst}
-use mathlib.Core.Bool.{Bool, true, false, cond, not, _&&_, _||_}
-use mathlib.Core.Logic.{_⊎_, inl, inr, ⊎-elim}
+use mathlib.Core.Bool.{Bool, true, false, cond, not, _&&_}
 use mathlib.Core.List.{List, [], _∷_, _++_, append-nil, append-assoc}
-use Prim.Native.Nat.{ℕ, zero, suc, _+_, _-_, _*_, _/_, _%_, _<_, _≤_}
+use Prim.Native.Nat.{ℕ, _+_, _-_, _/_, _≤_}
 use Prim.Native.String.{String}
 use native.Mathlib.Omega.{arith}
 use lib.Dec.{T, eqb, leb, ltb}
 use lib.ListN.{length, replicate}
-use borrow.Author.Tests.{eqb-true, eqb-false, leb-true, le-leb, lt-ltb, le-ltb, ne-eqb}
-use Rattle.lists.specs.Tables.{passes}
-use Rattle.lists.proofs.Tables.{is-true, passes-at}
+use borrow.Author.Tests.{eqb-true, le-ltb, ne-eqb}
 use Rattle.lists.proofs.Lists.{and-left, and-right}
 use Rattle.alphabet.specs.declared.Alphabet.the-variants.{Dtmf as dtmf}
 use Rattle.alphabet.specs.declared.Char.{Char}
@@ -18,26 +15,25 @@ use Rattle.alphabet.specs.declared.Mode.the-variants.{Dtmf}
 use Rattle.alphabet.specs.declared.Reads.{Reads}
 use Rattle.alphabet.specs.declared.Reads.the-variants.{Character, Shift, NoRow}
 use Rattle.alphabet.specs.Print.{Row, keys, rows}
-use Rattle.alphabet.specs.Dtmf.{isDigit, isMark, withMark, dtmfCode, codeFrom, codeOfKeys, prefixes, keysOf, marksThenDigit, isCode, among, notStruck, remaining, drawn, readIn, readDtmf}
+use Rattle.alphabet.specs.Dtmf.{isDigit, isMark, withMark, dtmfCode, isDtmfCode, codeFrom, codeOfKeys, keysOf, marksThenDigit, isCode, among, notStruck, remaining, drawn, readIn, readDtmf}
 use Rattle.alphabet.specs.TableB1.{b1}
 use Rattle.alphabet.specs.Normal.{reads}
-use Rattle.alphabet_theorems.proofs.Numbering.{keys-number}
+use Rattle.alphabet.proofs.DtmfCodes.{digit-bounds, mark-bounds, not-mark, prefix-few, keys-code}
+use Rattle.alphabet_theorems.proofs.Numbering.{code-keys}
 use Rattle.frames.specs.declared.Frame.{Frame}
 use Rattle.keys.specs.declared.Keys.{Keys}
 use Rattle.reader.specs.declared.Event.{Event}
 use Rattle.reader.specs.declared.Event.the-variants.{Fault, Nothing}
 use Rattle.reader.specs.declared.Outcome.{Outcome}
-use Rattle.reader.specs.declared.Reader.{Reader}
-use Rattle.lists.specs.Steps.{stateAfter, outputs}
 use Rattle.signal.specs.Signal.{heldKeys, keysSignal, signal}
-use Rattle.keys.specs.Keys.{ready, keyStep, keysAfter, keysHeard}
+use Rattle.keys.specs.Keys.{ready}
 use Rattle.keys.specs.code.Bounds.{isKey}
 use Rattle.reader.specs.Reader.{reader, eventOf, keyEvent, prefixAfter, hear}
-use Rattle.reader.specs.Words.{wordOf, wordsOf, readerAfter, events}
+use Rattle.reader.specs.Words.{wordOf, wordsOf, events}
 use Rattle.reader.proofs.Parts.{keysEvents, keysPrefix, keys-after, keys-events, kept-prefix, kept-keys}
 use Rattle.reader.proofs.Outcomes.{digit-outcome, mark-outcome, other-outcome}
 use Rattle.line_theorems.proofs.KeyRules.{KeysTake, key-counts}
-use Rattle.line_theorems.proofs.Chain.{Gives, none, chain, kept-one}
+use Rattle.line_theorems.proofs.Chain.{Gives, chain, kept-one}
 
 -- ms in which one key counts
 key-read : (f : Frame) (s p k : ℕ) (xs : List ℕ) (n m : ℕ) → (k ≡ 0 → ⊥)
@@ -65,20 +61,6 @@ pub key-given : (f : Frame) (s p k : ℕ) → (k ≡ 0 → ⊥)
     → Gives Dtmf (reader f ready s p) (replicate 70 k ++ replicate 50 0) (wordOf (keyEvent p k))
     (reader f ready s (prefixAfter p k))
 key-given f s p k z = key-read f s p k _ 39 80 z (key-counts k 30 10 z)
-
--- the tests on a key, taken apart
-digit-bounds : (k : ℕ) → isDigit k ≡ true → (1 ≤ k) × (k ≤ 10)
-digit-bounds k t = (leb-true 1 k (and-left (leb 1 k) (leb k 10) t), leb-true k 10 (and-right (leb 1 k) (leb k 10) t))
-
-mark-bounds : (k : ℕ) → isMark k ≡ true → (11 ≤ k) × (k ≤ 12)
-mark-bounds k t = go (eqb k 11) refl t
-  where
-    go : (b : Bool) → eqb k 11 ≡ b → (b || eqb k 12) ≡ true → (11 ≤ k) × (k ≤ 12)
-    go true e u = let p = eqb-true k 11 e in (omega arith, omega arith)
-    go false e u = let p = eqb-true k 12 u in (omega arith, omega arith)
-
-not-mark : (k : ℕ) → k ≤ 10 → isMark k ≡ false
-not-mark k h = rw (ne-eqb k 11 (λ e. omega arith), ne-eqb k 12 (λ e. omega arith)) refl
 
 -- a digit closes a code, whatever the prefix, and empties it
 pub digit-event : (p k : ℕ) → isDigit k ≡ true → keyEvent p k ≡ eventOf (readDtmf (dtmfCode p k))
@@ -175,35 +157,18 @@ module _ (f : Frame) (s : ℕ) where
           one-mark p k (j ∷ js) (and-left (isMark k) (marksThenDigit (j ∷ js)) u)
           (i (and-right (isMark k) (marksThenDigit (j ∷ js)) u))
 
--- a code of at most three marks and a digit
-pub record Shape (n : ℕ) : Type 0 where
-  pub in-byte : n < 256
-  pub marks-in : n / 16 < 15
-  pub digit-low : 1 ≤ n % 16
-  pub digit-high : n % 16 ≤ 10
-
-abbrev shaped : ℕ → Bool
-shaped n = cond (ltb (n / 16) 15 && leb 1 (n % 16) && leb (n % 16) 10) (marksThenDigit (keysOf n)) true
-
-shape-test : T (passes shaped 256 0)
-unfolding passes marksThenDigit keysOf keys prefixes
-shape-test = tt
-
-pub shape-keys : (n : ℕ) → Shape n → marksThenDigit (keysOf n) ≡ true
-shape-keys n h =
-    is-true _
-    (simp (lt-ltb (n / 16) 15 (h .marks-in), le-leb 1 (n % 16) (h .digit-low), le-leb (n % 16) 10 (h .digit-high)) at
-    (passes-at shaped 256 shape-test n (h .in-byte)))
+-- the keys of a code
+pub shape-keys : (n : ℕ) → isDtmfCode n ≡ true → marksThenDigit (keysOf n) ≡ true
+shape-keys n e = and-right (leb (length (keysOf n)) 4) (marksThenDigit (keysOf n)) (code-keys n e .0)
 
 -- its signal is read as that code, from ready to ready
-pub code-dtmf : (f : Frame) (s n : ℕ) → Shape n
+pub code-dtmf : (f : Frame) (s n : ℕ) → isDtmfCode n ≡ true
     → Gives Dtmf (reader f ready s 0) (signal Dtmf n) (wordOf (eventOf (readDtmf n))) (reader f ready s 0)
 unfolding signal
 code-dtmf f s n h =
-    rw (keys-number n (h .in-byte) (h .marks-in) (h .digit-low) (h .digit-high)) at
-    (keys-given f s 0 (keysOf n) (shape-keys n h))
+    rw (code-keys n h .1) at (keys-given f s 0 (keysOf n) (shape-keys n h))
 
--- a code that has a row is of that shape
+-- a number that has a row is a code's
 record RowCode (n : ℕ) : Type 0 where
   row : List ℕ
   is-code : isCode row ≡ true
@@ -235,71 +200,13 @@ row-code n (r ∷ rs) earlier t =
     go true e false f u i = i (rw f at u)
     go false e a f u i = i u
 
--- the number of a prefix that leaves room for n marks more
-most : ℕ → ℕ
-most zero = 14
-most (suc zero) = 6
-most (suc (suc zero)) = 2
-most (suc (suc (suc n))) = 0
-
-with-mark-most : (n p k : ℕ) → n < 3 → p ≤ most (suc n) → k ≤ 12 → withMark p k ≤ most n
-unfolding most withMark
-with-mark-most zero p k l h u = rw (lt-ltb p 7 (omega arith)) (omega arith)
-with-mark-most (suc zero) p k l h u = rw (lt-ltb p 7 (omega arith)) (omega arith)
-with-mark-most (suc (suc zero)) p k l h u = rw (lt-ltb p 7 (omega arith)) (omega arith)
-with-mark-most (suc (suc (suc n))) p k l h u = absurd (omega arith)
-
-most-14 : (n : ℕ) → most n ≤ 14
-unfolding most
-most-14 zero = omega arith
-most-14 (suc zero) = omega arith
-most-14 (suc (suc zero)) = omega arith
-most-14 (suc (suc (suc n))) = omega arith
-
-closed : (p k : ℕ) → p ≤ 14 → 1 ≤ k → k ≤ 10 → Shape (dtmfCode p k)
-closed p k h l u = record {
-  in-byte = omega arith;
-  marks-in = omega arith;
-  digit-low = omega arith;
-  digit-high = omega arith;
-}
-
-shape-from : (n p : ℕ) (ks : List ℕ) → n ≤ 3 → p ≤ most n → length ks ≤ n + 1 → marksThenDigit ks ≡ true
-    → Shape (codeFrom p ks)
-unfolding marksThenDigit codeFrom
-shape-from n p [] l h m t = absurd (no-true t)
-shape-from n p (k ∷ []) l h m t = go (isDigit k) refl t
-  where
-    go : (b : Bool) → isDigit k ≡ b → cond b true (isMark k && false) ≡ true
-        → Shape (cond (isMark k) (codeFrom (withMark p k) []) (dtmfCode p k))
-    go true e u =
-        let b = digit-bounds k e in
-        let q = most-14 n in
-        rw (not-mark k (b .1)) (closed p k (omega arith) (b .0) (b .1))
-    go false e u = absurd (no-true (and-right (isMark k) false u))
-shape-from zero p (k ∷ (j ∷ js)) l h m t = absurd (omega arith)
-shape-from (suc n) p (k ∷ (j ∷ js)) l h m t =
-    go (isDigit k) t (λ a u. shape-from n (withMark p k) (j ∷ js) (omega arith) a (omega arith) u)
-  where
-    go : (b : Bool) → cond b false (isMark k && marksThenDigit (j ∷ js)) ≡ true
-        → (withMark p k ≤ most n → marksThenDigit (j ∷ js) ≡ true → Shape (codeFrom (withMark p k) (j ∷ js)))
-        → Shape (cond (isMark k) (codeFrom (withMark p k) (j ∷ js)) (dtmfCode p k))
-    go true u i = absurd (no-true u)
-    go false u i =
-        let e = and-left (isMark k) (marksThenDigit (j ∷ js)) u in
-        let d = and-right (isMark k) (marksThenDigit (j ∷ js)) u in
-        rw e (i (with-mark-most n p k (omega arith) h (mark-bounds k e .1)) d)
-
-row-shaped : (n : ℕ) → isCharacter (readDtmf n) ≡ true → Shape n
-unfolding readDtmf remaining most
+row-shaped : (n : ℕ) → isCharacter (readDtmf n) ≡ true → isDtmfCode n ≡ true
+unfolding readDtmf remaining
 row-shaped n t =
     let r = row-code n (rows b1) [] t in
-    let fits = leb (length (r .row)) 4 in
-    let m = leb-true (length (r .row)) 4 (and-left fits (marksThenDigit (r .row)) (r .is-code)) in
-    subst Shape (r .number-is)
-    (shape-from 3 0 (r .row) (omega arith) (omega arith) m (and-right fits (marksThenDigit (r .row)) (r .is-code)))
+    subst (λ (m : ℕ). isDtmfCode m ≡ true) (r .number-is) (keys-code (r .row) (r .is-code))
 
-pub row-shape : (n : ℕ) (c : Char) → readDtmf n ≡ Character c → Shape n
+pub row-shape : (n : ℕ) (c : Char) → readDtmf n ≡ Character c → isDtmfCode n ≡ true
 unfolding isCharacter
 row-shape n c e = row-shaped n (ap isCharacter e)
 
@@ -327,5 +234,5 @@ unfolding readDtmf remaining
 no-row n h = read-in n (notStruck [] (rows b1)) (go (isCharacter (readIn n (notStruck [] (rows b1)))) refl)
   where
     go : (b : Bool) → isCharacter (readIn n (notStruck [] (rows b1))) ≡ b → b ≡ false
-    go true e = let s = row-shaped n e .marks-in in absurd (omega arith)
+    go true e = let s = prefix-few n (row-shaped n e) in absurd (omega arith)
     go false e = refl

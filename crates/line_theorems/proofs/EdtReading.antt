@@ -2,7 +2,7 @@
 use mathlib.Core.Path.{_≡_, _∙_, refl, sym, ap}
 use mathlib.Core.Bool.{Bool, true, false, cond, _&&_}
 use mathlib.Core.List.{List, [], _∷_, _++_}
-use Prim.Native.Nat.{ℕ, zero, suc, _+_, _-_, _<_}
+use Prim.Native.Nat.{ℕ, _+_, _-_, _<_}
 use native.Mathlib.Omega.{arith}
 use lib.Dec.{T, eqb, eqb→eq}
 use lib.ListN.{replicate}
@@ -14,7 +14,7 @@ use Rattle.frames.specs.declared.Found.{Found}
 use Rattle.frames.specs.declared.Found.the-variants.{Nothing, Fault, Code}
 use Rattle.lists.specs.Steps.{stateAfter, outputs}
 use Rattle.signal.specs.Signal.{digits, sum, edtElements, edtSignal}
-use Rattle.frames.specs.Samples.{Placed, placed, sampleAt, edtKinds, edtSamples}
+use Rattle.frames.specs.Samples.{placed, sampleAt, edtKinds, edtSamples}
 use Rattle.frames.specs.Frames.{hunting, sampled, frameStep, frameAfter, founds}
 use Rattle.line_theorems.proofs.FrameRules.{Hears}
 

@@ -10,7 +10,7 @@ use Rattle.frames.specs.declared.Sample.{Sample}
 use Rattle.frames.specs.declared.Sample.the-variants.{None, Start, Digit, Parity, Stop, Last}
 use Rattle.frames.specs.declared.Frame.{Frame}
 use Rattle.frames.specs.declared.Found.{Found}
-use Rattle.frames.specs.declared.Found.the-variants.{Nothing, Fault, Code}
+use Rattle.frames.specs.declared.Found.the-variants.{Nothing, Code}
 use Rattle.frames.specs.declared.FrameRead.{FrameRead}
 use Rattle.signal.specs.Signal.{parityOf}
 use Rattle.frames.specs.Samples.{Placed, sampleAt}

@@ -1,9 +1,9 @@
 -- 40 ms that are quiet or inhibited, in any mixture, settle any reader that is in range.
-use mathlib.Core.Path.{_≡_, _∙_, refl, sym, ap, subst}
+use mathlib.Core.Path.{_≡_, _∙_, refl, ap}
 use mathlib.Core.Bool.{Bool, true, false, cond, _&&_}
 use mathlib.Core.Logic.{_⊎_, inl, inr, ⊎-elim}
 use mathlib.Core.List.{List, [], _∷_}
-use Prim.Native.Nat.{ℕ, zero, suc, _+_, _-_, _<_, _≤_}
+use Prim.Native.Nat.{ℕ, _-_, _<_}
 use native.Mathlib.Omega.{arith}
 use lib.Dec.{T, eqb, eqb→eq}
 use lib.ListN.{length, replicate}
@@ -17,13 +17,11 @@ use Rattle.reader.specs.declared.Reader.{Reader}
 use Rattle.lists.specs.Steps.{stateAfter}
 use Rattle.frames.specs.Samples.{Placed, placed, sampleAt, samplesOf, baudotKinds, edtKinds}
 use Rattle.frames.specs.Frames.{hunting, sampled, frameStep, frameNext, frameAfter}
-use Rattle.keys.specs.Keys.{ready, keyStep, keyNext, keysAfter}
+use Rattle.keys.specs.Keys.{ready, keyStep, keysAfter}
 use Rattle.reader.specs.Reader.{hear, inhibited}
 use Rattle.frames.specs.Range.{lastMs}
-use Rattle.frames.specs.code.Bounds.{FrameOf}
-use Rattle.keys.specs.code.Bounds.{KeysIn}
 use Rattle.reader.specs.code.Bounds.{ReaderIn}
-use Rattle.line_theorems.specs.Silence.{silentMs, silentAll, Settled}
+use Rattle.line_theorems.specs.Silence.{silentAll, Settled}
 use Rattle.line_theorems.proofs.EdtReading.{isHunting, is-hunting}
 
 -- the frame of a reader over silent ms

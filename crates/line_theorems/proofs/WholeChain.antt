@@ -1,12 +1,11 @@
 -- The whole chain: preamble and codes of a text, heard by a reader that is between codes and in the sender's shift,
 -- give the words of the text's normal form, in order.
-use mathlib.Core.Path.{_≡_, _∙_, refl, sym, ap, subst}
+use mathlib.Core.Path.{_≡_, _∙_, refl, sym, ap}
 use mathlib.Core.Bool.{true}
-use mathlib.Core.Logic.{_⊎_, inl, inr, ⊎-elim}
+use mathlib.Core.Logic.{_⊎_, inl, inr}
 use mathlib.Core.List.{List, [], _∷_, _++_, append-nil, append-assoc}
-use Prim.Native.Nat.{ℕ, _<_, _≤_}
+use Prim.Native.Nat.{ℕ, _<_}
 use native.Mathlib.Omega.{arith}
-use lib.ListN.{replicate}
 use Rattle.lists.proofs.Lists.{at-most-head, at-most-tail}
 use Rattle.alphabet.specs.declared.Alphabet.{Alphabet}
 use Rattle.alphabet.specs.declared.Alphabet.the-variants.{Baudot, Dtmf as dtmf, Edt as edt}
@@ -14,25 +13,22 @@ use Rattle.alphabet.specs.declared.Mode.{Mode}
 use Rattle.alphabet.specs.declared.Mode.the-variants.{Baudot45, Baudot50, Dtmf, Edt}
 use Rattle.alphabet.specs.declared.Sends.{Sends}
 use Rattle.alphabet.specs.declared.Sends.the-variants.{Nothing, Code}
-use Rattle.alphabet.specs.declared.Reads.the-variants.{Character}
-use Rattle.alphabet.specs.Modes.{alphabetOf, preambleOf}
+use Rattle.alphabet.specs.Modes.{alphabetOf}
 use Rattle.alphabet.specs.Normal.{sends, reads, charsOf, readBack, normal, normalForm, allChars}
 use Rattle.alphabet.specs.declared.LineCode.{LineCode}
 use Rattle.alphabet_theorems.proofs.Rule.{ReadBack, rule-of}
 use Rattle.alphabet_theorems.proofs.Normal.{own-shift}
 use Rattle.baudot.specs.declared.Sender.{Sender}
 use Rattle.baudot.specs.Sending.{codesOf, Running}
-use Rattle.baudot.specs.Reading.{textOf, shiftAfter}
+use Rattle.baudot.specs.Reading.{textOf}
 use Rattle.baudot_theorems.proofs.RoundTrip.{round-trip-running, round-trip-fresh}
-use Rattle.frames.specs.declared.Frame.{Frame}
-use Rattle.keys.specs.declared.Keys.{Keys}
 use Rattle.reader.specs.declared.Reader.{Reader}
 use Rattle.signal.specs.Signal.{signal, signals, preamble}
 use Rattle.frames.specs.Frames.{hunting}
 use Rattle.keys.specs.Keys.{ready}
 use Rattle.reader.specs.Reader.{reader, hear}
 use Rattle.reader.specs.Words.{readerAfter, words}
-use Rattle.line_theorems.specs.Text.{ownCode, ownCodes, textCodes, textSignal, Between, InShift}
+use Rattle.line_theorems.specs.Text.{ownCode, ownCodes, textSignal, Between, InShift}
 use Rattle.line_theorems.proofs.Chain.{Gives, none, chain, marks-pass}
 use Rattle.line_theorems.proofs.BaudotChain.{five-bits, codes-read, code-45, code-50, code-edt}
 use Rattle.line_theorems.proofs.DtmfChain.{row-read}

@@ -1,5 +1,4 @@
 -- Ms of silence: quiet or inhibited.
-use Prim.Native.Nat.{ℕ}
 use mathlib.Core.Bool.{Bool, cond}
 use mathlib.Core.List.{List, [], _∷_}
 use Rattle.alphabet.specs.declared.Mode.{Mode}

@@ -176,7 +176,7 @@ pub fn clear(chars: &mut [u8; 256])
     *chars = [0; 256];
 }
 
-// Question 1 of a queue.
+// Question 1 of a queue. With none waiting, as in most runs, nothing is looked up.
 pub fn in_range(a: Alphabet, waiting: u16, chars: &[u8; 256]) -> bool
     ensures { λ r. ⌜ r ≡ inRange a (queue waiting (now (chars .entry))) ⌝ }
 {

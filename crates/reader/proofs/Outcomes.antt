@@ -1,7 +1,7 @@
 -- What a code or a key that counts ends in, as the code's functions find it.
 use mathlib.Core.Path.{_≡_, _∙_, refl, sym, ap, subst}
-use mathlib.Core.Bool.{Bool, true, false, cond, _||_, _&&_}
-use Prim.Native.Nat.{ℕ, zero, suc, _+_, _*_, _<_, _≤_}
+use mathlib.Core.Bool.{Bool, true, false, _||_, _&&_}
+use Prim.Native.Nat.{ℕ, zero, suc, _<_, _≤_}
 use native.Mathlib.Omega.{arith}
 use lib.Dec.{T, eqb, leb}
 use borrow.Author.Tests.{eqb-false, eq-eqb, ne-eqb, le-leb, lt-leb}
@@ -18,7 +18,6 @@ use Rattle.frames.specs.declared.Found.{Found}
 use Rattle.frames.specs.declared.Found.the-variants.{Code}
 use Rattle.reader.specs.declared.Event.{Event}
 use Rattle.reader.specs.declared.Event.the-variants.{Fault, Nothing}
-use Rattle.reader.specs.declared.Outcome.{Outcome}
 use Rattle.frames.specs.code.Bounds.{FoundIn}
 use Rattle.reader.specs.code.Outcomes.{outcome}
 use Rattle.reader.specs.Reader.{eventOf, keyEvent, prefixAfter, hearKey, hear}

@@ -1,13 +1,13 @@
 -- A station in range: what question 1 says in facts, and that every entry keeps it.
 use mathlib.Core.Path.{_≡_, _∙_, refl}
-use mathlib.Core.Bool.{Bool, true, false, cond, _&&_}
+use mathlib.Core.Bool.{Bool, true, false, cond}
 use mathlib.Core.List.{List, [], _∷_}
-use Prim.Native.Nat.{ℕ, zero, suc, _+_, _-_, _<_, _≤_}
+use Prim.Native.Nat.{ℕ, zero, suc, _-_, _<_, _≤_}
 use native.Mathlib.Omega.{arith}
-use lib.Dec.{eqb, leb, ltb}
+use lib.Dec.{eqb, leb}
 use lib.ListN.{length, getD, take, length-append, length-drop}
 use lib.Seq.{length-sets}
-use borrow.Author.Tests.{eqb-true, leb-true, ltb-true, le-leb, lt-ltb}
+use borrow.Author.Tests.{eqb-true, leb-true}
 use Rattle.lists.specs.Lists.{allAtMost}
 use Rattle.lists.specs.Steps.{stateAfter}
 use Rattle.lists.proofs.Lists.{either, and-left, and-right, at-most-head, at-most-tail}
@@ -15,16 +15,15 @@ use Rattle.alphabet.specs.declared.Alphabet.{Alphabet}
 use Rattle.alphabet.specs.declared.Alphabet.the-variants.{Baudot, Dtmf as dtmf, Edt as edt}
 use Rattle.alphabet.specs.declared.Mode.{Mode}
 use Rattle.alphabet.specs.declared.Mode.the-variants.{Baudot45, Baudot50, Dtmf, Edt}
-use Rattle.alphabet.specs.Modes.{alphabetOf, codes, frameCodes, highestLevel}
+use Rattle.alphabet.specs.Modes.{alphabetOf, highestLevel}
 use Rattle.alphabet.specs.Normal.{sends, allChars}
-use Rattle.baudot.specs.declared.Sender.{Sender}
 use Rattle.alphabet.specs.Normal.{isCode}
 use Rattle.reader.specs.declared.Reader.{Reader}
 use Rattle.reader.specs.Reader.{reader}
 use Rattle.reader.specs.code.Bounds.{ReaderIn}
 use Rattle.reader.proofs.Range as reader
 use Rattle.burst.proofs.Range.{blank-in}
-use Rattle.half_duplex.specs.Core.{modeIn, settled, coreFrom}
+use Rattle.half_duplex.specs.Core.{settled, coreFrom}
 use Rattle.half_duplex.specs.Range.{coreIn}
 use Rattle.half_duplex.specs.code.Bounds.{CoreIn}
 use Rattle.half_duplex.proofs.Range as half

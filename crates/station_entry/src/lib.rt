@@ -5,7 +5,6 @@ ghost use mathlib.Core.Path.{_≡_};
 ghost use lib.ListN.{length};
 ghost use Rattle.station.specs.Station.{station};
 ghost use Rattle.station.specs.Range.{inRange};
-ghost use Rattle.alphabet.specs.Modes.{highestLevel};
 ghost use Rattle.station.specs.Entries.{ranOf, sentAfter, wordsAfter};
 
 // A core after a run, 0 or the number of the refusal, and how many words were written.

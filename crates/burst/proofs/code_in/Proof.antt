@@ -1,6 +1,5 @@
 -- `code_in` meets its contract: no code is on the line, or a code of the alphabet.
-use mathlib.Core.Path.{_∙_, sym}
-use borrow.Author.Tests.{not-true, not-false}
+use mathlib.Core.Path.{sym}
 use borrow.Author.Needs.{needs}
 use Rattle.burst.proofs.code_in.Statement.{statement}
 use Rattle.burst.proofs.code_in.Tie as tie

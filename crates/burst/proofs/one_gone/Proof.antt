@@ -1,4 +1,4 @@
-use mathlib.Core.Path.{_∙_, sym}
+use mathlib.Core.Path.{sym}
 use Rattle.burst.proofs.Laws.{gone-none, gone-one}
 -- `one_gone` meets its contract.
 use native.Mathlib.Omega.{arith}

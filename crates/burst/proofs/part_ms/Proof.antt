@@ -1,10 +1,10 @@
 use Rattle.burst.proofs.Laws.{code-ms}
-use mathlib.Core.Path.{_∙_, sym, ap}
+use mathlib.Core.Path.{_∙_, sym}
 use lib.ListN.{length}
 -- `part_ms` meets its contract.
 use Rattle.burst.specs.Line.{partMs}
 use lib.ListN.{length-replicate}
-use borrow.Author.Tests.{eq-eqb, ne-eqb}
+use borrow.Author.Tests.{ne-eqb}
 use borrow.Author.Needs.{needs}
 use Rattle.burst.proofs.part_ms.Statement.{statement}
 use Rattle.burst.proofs.part_ms.Tie as tie

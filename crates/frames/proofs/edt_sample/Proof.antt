@@ -1,5 +1,4 @@
 -- `edt_sample` meets its contract: what it finds is the sample at each ms, by one computed test.
-use mathlib.Core.Path.{_∙_, sym}
 use borrow.Author.Tests.{lt-ltb, le-ltb, ne-eqb}
 use Rattle.frames.proofs.Samples.{edt-found}
 use borrow.Author.Needs.{needs}

@@ -1,5 +1,4 @@
 -- `sampled` meets its contract, by the kind.
-use mathlib.Core.Path.{refl}
 use Rattle.frames.specs.Frames.{sampled}
 use Rattle.frames.proofs.Samples.{kind-of, top-in}
 use borrow.Author.Needs.{needs}

@@ -1,5 +1,5 @@
 -- `core_from` meets its contract.
-use mathlib.Core.Path.{_∙_, sym, subst}
+use mathlib.Core.Path.{sym, subst}
 use Rattle.alphabet.specs.declared.Mode.{Mode}
 use Rattle.burst.specs.code.Bounds.{LineIn}
 use borrow.Author.Needs.{needs}

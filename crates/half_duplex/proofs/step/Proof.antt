@@ -1,6 +1,5 @@
 -- `step` meets its contract.
 use mathlib.Core.Path.{refl}
-use Rattle.half_duplex.specs.Core.{coreFrom}
 use borrow.Author.Needs.{needs}
 use Rattle.half_duplex.proofs.step.Statement.{statement}
 use Rattle.half_duplex.proofs.step.Tie as tie

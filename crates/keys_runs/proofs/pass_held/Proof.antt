@@ -7,7 +7,7 @@ use native.Mathlib.Omega.{arith}
 use lib.ListN.{length}
 use Rattle.lists.specs.Lists.{allAtMost}
 use Rattle.lists.specs.code.Places.{Through}
-use Rattle.keys_runs.specs.code.Passing.{keysOf, rowOf, KeyPasses}
+use Rattle.keys_runs.specs.code.Passing.{keysOf, KeyPasses}
 use Rattle.keys_runs.proofs.Holding.{quiet-left, row-few, held-quiet, held-still, held-row, held-count}
 use borrow.Author.Needs.{needs}
 use Rattle.keys_runs.proofs.pass_held.Statement.{statement}

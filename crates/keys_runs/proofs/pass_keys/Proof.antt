@@ -1,7 +1,6 @@
 -- `pass_keys` meets its contract.
 use native.Mathlib.Omega.{arith}
 use mathlib.Core.Path.{refl}
-use borrow.Author.Needs.{needs}
 use borrow.Author.Tests.{not-false}
 use Rattle.lists.proofs.Alikes.{alike-through}
 use Rattle.keys_runs.proofs.Keying.{pass-none, pass-chain}
