@@ -1,6 +1,6 @@
 -- What the functions of this crate need of the definitions.
 use mathlib.Core.Path.{_≡_, _∙_, refl, sym, ap}
-use mathlib.Core.Bool.{Bool, true, false, _&&_}
+use mathlib.Core.Bool.{Bool, true, false}
 use mathlib.Core.List.{List, [], _∷_}
 use Prim.Native.Nat.{ℕ, zero, suc, _≤_, _<_}
 use native.Mathlib.Omega.{arith}
@@ -16,10 +16,10 @@ use Rattle.alphabet.specs.Modes.{preambleOf, alphabetOf}
 use Rattle.alphabet.specs.Normal.{sends}
 use Rattle.signal.specs.Signal.{signal, preamble}
 use Rattle.baudot.specs.declared.Sender.{Sender}
-use Rattle.baudot.specs.Sending.{sender, shiftCode}
 use Rattle.burst.specs.declared.OnLine.{OnLine}
-use Rattle.burst.specs.Rules.{shiftWanted, senderAfterOwn}
-use Rattle.burst.specs.Line.{onLine, further, idle, partMs, isOver, loaded, codeBegins, nextCode, levelOn, oneGone, closed}
+use Rattle.burst.specs.Rules.{openingShift, shiftWanted, senderAfterOwn}
+use Rattle.burst.specs.Line.{onLine, further, idle, partMs, isOver, loaded, shiftBegins, codeBegins, isOpening, nextCode}
+use Rattle.burst.specs.Line.{levelOn, oneGone, closed}
 
 -- behind the end of a list
 getD-over : (l : List ℕ) (n : ℕ) → length l ≤ n → getD l n 0 ≡ 0
@@ -77,28 +77,30 @@ module _ (a : Alphabet) (l : OnLine) (s : Sender) where
     unfolding codeBegins
     own-code w = rw (e, w) refl
 
-    module _ (w : ℕ) (f : w ≡ shiftWanted a s own) (k′ : LineCode) (g : k′ .0 ≡ shiftCode w) where
-      pub shift-code : (w ≡ 0 → ⊥) → codeBegins a l s x ≡ loaded (onLine 2 (k′ .0) 0) (sender w 0) false
-      unfolding codeBegins
-      shift-code n = rw (e, sym f, ne-eqb w 0 n, g) refl
-
-and-false : (b : Bool) → (b && false) ≡ false
-and-false true = refl
-and-false false = refl
+    pub shift-code : (w : ℕ) → w ≡ shiftWanted a s own → (w ≡ 0 → ⊥) → codeBegins a l s x ≡ shiftBegins w
+    unfolding codeBegins
+    shift-code w f n = rw (e, sym f, ne-eqb w 0 n) refl
 
 module _ (mode : Mode) (waiting front : ℕ) (l : OnLine) (s : Sender) where
-  pub none-waits : waiting ≡ 0 → nextCode mode waiting front l s ≡ loaded l s false
-  unfolding nextCode
-  none-waits e = rw (le-ltb 0 waiting (omega arith), and-false) refl
-
   pub not-over : isOver mode l ≡ false → nextCode mode waiting front l s ≡ loaded l s false
   unfolding nextCode
   not-over e = rw e refl
 
-  pub code-next : (waiting ≡ 0 → ⊥) → isOver mode l ≡ true
-      → nextCode mode waiting front l s ≡ codeBegins (alphabetOf mode) l s (sends (alphabetOf mode) front)
-  unfolding nextCode
-  code-next n e = rw (e, lt-ltb 0 waiting (omega arith)) refl
+  module _ (over : isOver mode l ≡ true) where
+    pub opening-next : isOpening (alphabetOf mode) l ≡ true
+        → nextCode mode waiting front l s ≡ shiftBegins (openingShift s)
+    unfolding nextCode
+    opening-next e = rw (over, e) refl
+
+    module _ (opened : isOpening (alphabetOf mode) l ≡ false) where
+      pub none-waits : waiting ≡ 0 → nextCode mode waiting front l s ≡ loaded l s false
+      unfolding nextCode
+      none-waits e = rw (over, opened, le-ltb 0 waiting (omega arith)) refl
+
+      pub code-next : (waiting ≡ 0 → ⊥)
+          → nextCode mode waiting front l s ≡ codeBegins (alphabetOf mode) l s (sends (alphabetOf mode) front)
+      unfolding nextCode
+      code-next n = rw (over, opened, lt-ltb 0 waiting (omega arith)) refl
 
 -- one ms gone, and the end of a burst
 module _ (mode : Mode) (l : OnLine) where
@@ -113,7 +115,3 @@ module _ (mode : Mode) (l : OnLine) where
   pub stays-left : (ends : Bool) → isOver mode l ≡ false → closed mode ends l ≡ l
   unfolding closed
   stays-left ends e = rw e refl
-
-  pub ends-over : isOver mode l ≡ true → closed mode true l ≡ idle
-  unfolding closed
-  ends-over e = rw e refl

@@ -6,7 +6,7 @@ use native.Mathlib.Omega.{arith}
 use lib.Dec.{eqb, leb, ltb}
 use lib.ListN.{length}
 use borrow.Author.Tests.{eqb-true, eqb-false, leb-true, leb-false, ltb-true, ne-eqb, le-leb, not-true}
-use Rattle.lists.proofs.Lists.{either, and-left, and-right}
+use Rattle.lists.proofs.Lists.{either, either-by, and-left, and-right}
 use Rattle.alphabet.specs.declared.Alphabet.{Alphabet}
 use Rattle.alphabet.specs.declared.Alphabet.the-variants.{Baudot, Dtmf, Edt}
 use Rattle.alphabet.specs.declared.Mode.{Mode}
@@ -16,11 +16,12 @@ use Rattle.alphabet.specs.Modes.{alphabetOf, codes}
 use Rattle.alphabet.specs.Normal.{sends}
 use Rattle.alphabet.proofs.Ranges.{some-shift, range-of}
 use Rattle.baudot.specs.declared.Sender.{Sender}
-use Rattle.baudot.specs.Sending.{sender, differs, wanted, shiftCode, shifted}
+use Rattle.baudot.specs.Sending.{differs, wanted, shiftCode}
 use Rattle.burst.specs.declared.OnLine.{OnLine}
 use Rattle.burst.specs.declared.Loaded.{Loaded}
-use Rattle.burst.specs.Rules.{shiftWanted, senderAfterOwn}
-use Rattle.burst.specs.Line.{onLine, further, idle, inBurst, isCode, partMs, isOver, begun, loaded, codeBegins, nextCode, oneGone, closed}
+use Rattle.burst.specs.Rules.{opensWithShift, openingShift, shiftWanted, senderAfterOwn}
+use Rattle.burst.specs.Line.{onLine, further, idle, inBurst, isCode, partMs, isOver, begun, loaded, shiftBegins, codeBegins}
+use Rattle.burst.specs.Line.{isOpening, nextCode, oneGone, closed}
 use Rattle.burst.specs.Range.{isCodeOf, codeIn, lineIn}
 use Rattle.baudot.specs.code.Bounds.{SenderIn}
 use Rattle.burst.specs.code.Bounds.{LineIn, SendsIn}
@@ -115,9 +116,6 @@ module _ (s : Sender) (own : ℕ) (lo : 1 ≤ own) (hi : own ≤ 3) (i : SenderI
   any-wanted-in Dtmf = omega arith
   any-wanted-in Edt = omega arith
 
-  shifted-in : (w : ℕ) → w ≤ 2 → SenderIn (shifted s w)
-  shifted-in w h = either SenderIn (eqb w 0) s (sender w 0) i (record { shift-in = h; count-in = omega arith })
-
   own-sender-in : (a : Alphabet) → eqb (shiftWanted a s own) 0 ≡ true → SenderIn (senderAfterOwn a s)
   own-sender-in Baudot e =
       let l = none-below (eqb-true (wanted s own) 0 e) in
@@ -125,19 +123,50 @@ module _ (s : Sender) (own : ℕ) (lo : 1 ≤ own) (hi : own ≤ 3) (i : SenderI
   own-sender-in Dtmf e = i
   own-sender-in Edt e = i
 
-shift-code-is : (a : Alphabet) (s : Sender) (own : ℕ) → eqb (shiftWanted a s own) 0 ≡ false
-    → isCodeOf a (shiftCode (shiftWanted a s own)) ≡ true
+-- DTMF and EDT want none
+baudot-wants : (a : Alphabet) (s : Sender) (own : ℕ) → eqb (shiftWanted a s own) 0 ≡ false → opensWithShift a ≡ true
+baudot-wants Baudot s own e = refl
+baudot-wants Dtmf s own e = absurd (false≢true (sym e))
+baudot-wants Edt s own e = absurd (false≢true (sym e))
+
+opening-in : (s : Sender) → SenderIn s → openingShift s ≤ 2
+opening-in s i = either (λ (w : ℕ). w ≤ 2) (eqb (s .shift) 0) 1 (s .shift) (omega arith) (i .shift-in)
+
+shift-code-is : (a : Alphabet) → opensWithShift a ≡ true → (w : ℕ) → isCodeOf a (shiftCode w) ≡ true
 unfolding isCodeOf
-shift-code-is Baudot s own e =
-    either (λ (n : ℕ). ltb n 32 ≡ true) (eqb (wanted s own) 2) 0b11011 0b11111 refl refl
-shift-code-is Dtmf s own e = absurd (false≢true (sym e))
-shift-code-is Edt s own e = absurd (false≢true (sym e))
+shift-code-is Baudot e w = either (λ (n : ℕ). ltb n 32 ≡ true) (eqb w 2) 0b11011 0b11111 refl refl
+shift-code-is Dtmf e w = absurd (false≢true e)
+shift-code-is Edt e w = absurd (false≢true e)
 
 -- ---- what a ms starts with
+
+-- what is on the line stays; a shift code opens the burst; the front character is next
+by-next : (mode : Mode) (P : Loaded → Type 0) (waiting front : ℕ) (l : OnLine) (s : Sender)
+    → P (loaded l s false)
+    → (opensWithShift (alphabetOf mode) ≡ true → P (shiftBegins (openingShift s)))
+    → (1 ≤ waiting → P (codeBegins (alphabetOf mode) l s (sends (alphabetOf mode) front)))
+    → P (nextCode mode waiting front l s)
+unfolding nextCode
+by-next mode P waiting front l s stays opens next =
+    either-by P (isOver mode l)
+    (λ e. either-by P (isOpening a l)
+    (λ o. opens (and-right (eqb (l .part) 1) (opensWithShift a) o))
+    (λ o. either-by P (ltb 0 waiting) (λ w. let n = ltb-true 0 waiting w in next (omega arith)) (λ w. stays)))
+    (λ e. stays)
+  where
+    a : Alphabet
+    a = alphabetOf mode
 
 code-starts : (mode : Mode) (code : ℕ) → isCodeOf (alphabetOf mode) code ≡ true → LineIn mode (onLine 2 code 0)
 code-starts mode code k =
     record { part-in = omega arith; code-is = k; code-in = code-few (alphabetOf mode) code k; at-in = omega arith }
+
+pub shift-starts : (mode : Mode) → opensWithShift (alphabetOf mode) ≡ true → (w : ℕ) → w ≤ 2
+    → LoadedIn mode (shiftBegins w)
+shift-starts mode e w h = record {
+  line-in = code-starts mode (shiftCode w) (shift-code-is (alphabetOf mode) e w);
+  sender-in = record { shift-in = h; count-in = omega arith };
+}
 
 -- with no code on the line
 pub blank-in : (mode : Mode) (part : ℕ) → part ≤ 1 → LineIn mode (onLine part 0 0)
@@ -161,31 +190,20 @@ module _ (mode : Mode) (l : OnLine) (s : Sender) (i : LineIn mode l) (j : Sender
       w = shiftWanted a s own
 
       go : (b : Bool) → eqb w 0 ≡ b
-          → LoadedIn mode
-          (cond b (loaded (onLine 2 (k .0) 0) (senderAfterOwn a s) true)
-          (loaded (onLine 2 (shiftCode w) 0) (shifted s w) false))
+          → LoadedIn mode (cond b (loaded (onLine 2 (k .0) 0) (senderAfterOwn a s) true) (shiftBegins w))
       go true e = record {
         line-in = code-starts mode (k .0) (h .code-is);
         sender-in = own-sender-in s own (h .own-low) (h .own-in) j a e;
       }
-      go false e = record {
-        line-in = code-starts mode (shiftCode w) (shift-code-is a s own e);
-        sender-in = shifted-in s own (h .own-low) (h .own-in) j w (any-wanted-in s own (h .own-low) (h .own-in) j a);
-      }
+      go false e =
+          shift-starts mode (baudot-wants a s own e) w (any-wanted-in s own (h .own-low) (h .own-in) j a)
 
   pub next-in : (waiting front : ℕ) → (1 ≤ waiting → front < 128) → LoadedIn mode (nextCode mode waiting front l s)
-  unfolding nextCode
-  next-in waiting front h = go (isOver mode l && ltb 0 waiting) refl
-    where
-      a : Alphabet
-      a = alphabetOf mode
-
-      go : (b : Bool) → (isOver mode l && ltb 0 waiting) ≡ b
-          → LoadedIn mode (cond b (codeBegins a l s (sends a front)) (loaded l s false))
-      go true e =
-          let n = ltb-true 0 waiting (and-right (isOver mode l) (ltb 0 waiting) e) in
-          begins-in (sends a front) (sends-in a front (h (omega arith)))
-      go false e = record { line-in = i; sender-in = j }
+  next-in waiting front h =
+      by-next mode (LoadedIn mode) waiting front l s
+      (record { line-in = i; sender-in = j })
+      (λ e. shift-starts mode e (openingShift s) (opening-in s j))
+      (λ n. begins-in (sends (alphabetOf mode) front) (sends-in (alphabetOf mode) front (h n)))
 
 pub begun-in : (mode : Mode) (may : Bool) (l : OnLine) → LineIn mode l → LineIn mode (begun may l)
 unfolding begun
@@ -206,17 +224,14 @@ gone-in mode l i = go (ltb (l .at) (length (partMs mode l))) refl
 pub closed-in : (mode : Mode) (ends : Bool) (l : OnLine) → LineIn mode l → LineIn mode (closed mode ends l)
 unfolding closed
 closed-in mode ends l i =
-    either (LineIn mode) (isOver mode l && ends) idle l (blank-in mode 0 (omega arith)) i
+    either (LineIn mode) (isOver mode l && ends && not (isOpening (alphabetOf mode) l)) idle l
+    (blank-in mode 0 (omega arith)) i
 
 -- one that is taken waits
 pub next-takes : (mode : Mode) (waiting front : ℕ) (l : OnLine) (s : Sender)
     → nextCode mode waiting front l s .takes ≡ true → 1 ≤ waiting
-unfolding nextCode
-next-takes mode waiting front l s = go (isOver mode l && ltb 0 waiting) refl
-  where
-    x : Loaded
-    x = codeBegins (alphabetOf mode) l s (sends (alphabetOf mode) front)
-
-    go : (b : Bool) → (isOver mode l && ltb 0 waiting) ≡ b → cond b x (loaded l s false) .takes ≡ true → 1 ≤ waiting
-    go true e t = let n = ltb-true 0 waiting (and-right (isOver mode l) (ltb 0 waiting) e) in omega arith
-    go false e t = absurd (false≢true t)
+next-takes mode waiting front l s =
+    by-next mode (λ (x : Loaded). x .takes ≡ true → 1 ≤ waiting) waiting front l s
+    (λ t. absurd (false≢true t))
+    (λ e t. absurd (false≢true t))
+    (λ n t. n)

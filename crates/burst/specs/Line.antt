@@ -12,11 +12,11 @@ use Rattle.alphabet.specs.declared.Sends.the-variants.{Nothing, Code}
 use Rattle.alphabet.specs.Modes.{alphabetOf}
 use Rattle.alphabet.specs.Normal.{sends}
 use Rattle.baudot.specs.declared.Sender.{Sender}
-use Rattle.baudot.specs.Sending.{shiftCode, shifted}
+use Rattle.baudot.specs.Sending.{sender, shiftCode}
 use Rattle.signal.specs.Signal.{quiet, signal, preamble}
 use Rattle.burst.specs.declared.OnLine.{OnLine}
 use Rattle.burst.specs.declared.Loaded.{Loaded}
-use Rattle.burst.specs.Rules.{shiftWanted, senderAfterOwn}
+use Rattle.burst.specs.Rules.{opensWithShift, openingShift, shiftWanted, senderAfterOwn}
 
 abbrev pub onLine : ℕ → ℕ → ℕ → OnLine
 onLine part code at = record { at = at; part = part; code = record { 0 = code } }
@@ -50,21 +50,32 @@ begun begins l = cond (begins && not (inBurst l)) (onLine 1 0 0) l
 abbrev pub loaded : OnLine → Sender → Bool → Loaded
 loaded l s takes = record { line = l; sender = s; takes = takes }
 
--- The next code: a shift code (document 01: case code), which takes none, where one is wanted ahead of the front
--- character; else that character's own code, and it is taken. (One that sends nothing never waits; it would be taken.)
+-- A shift code (document 01: case code) begins: it takes none, and the count starts again at it.
+abbrev pub shiftBegins : ℕ → Loaded
+shiftBegins w = loaded (onLine 2 (shiftCode w) 0) (sender w 0) false
+
+-- The front character is next: a shift code where one is wanted ahead of it, else its own code, and it is taken. (One
+-- that sends nothing never waits; it would be taken.)
 unfoldable pub codeBegins : Alphabet → OnLine → Sender → Sends → Loaded
 codeBegins a l s Nothing = loaded l s true
 codeBegins a l s (Code own k) =
     let w = shiftWanted a s own in
     cond (eqb w 0)
     (loaded (onLine 2 (k .0) 0) (senderAfterOwn a s) true)
-    (loaded (onLine 2 (shiftCode w) 0) (shifted s w) false)
+    (shiftBegins w)
 
--- In a burst with no ms of a part left, the next code begins in that ms.
+-- A shift code is to open the burst, behind its preamble.
+abbrev pub isOpening : Alphabet → OnLine → Bool
+isOpening a l = eqb (l .part) 1 && opensWithShift a
+
+-- In a burst with no ms of a part left, the next code begins in that ms: the one that opens the burst, whether or not
+-- characters wait, or the next for those that wait.
 unfoldable pub nextCode : Mode → ℕ → ℕ → OnLine → Sender → Loaded
 nextCode mode waiting front l s =
-    cond (isOver mode l && ltb 0 waiting)
-    (codeBegins (alphabetOf mode) l s (sends (alphabetOf mode) front))
+    let a = alphabetOf mode in
+    cond (isOver mode l)
+    (cond (isOpening a l) (shiftBegins (openingShift s))
+    (cond (ltb 0 waiting) (codeBegins a l s (sends a front)) (loaded l s false)))
     (loaded l s false)
 
 -- The level that is sent: quiet outside a burst.
@@ -75,11 +86,11 @@ levelOn mode l = getD (partMs mode l) (l .at) quiet
 unfoldable pub oneGone : Mode → OnLine → OnLine
 oneGone mode l = cond (ltb (l .at) (length (partMs mode l))) (further l 1) l
 
--- If the last ms of a part has come, the burst ends with that ms where it is to end. The part is a code: a burst
--- begins only with characters waiting, and its preamble takes none. In a station that no list of calls gives, a
--- preamble with none waiting ends the burst too.
-abbrev pub ended : Bool → Bool → OnLine → OnLine
-ended over ends l = cond (over && ends) idle l
+-- If the last ms of a part has come, the burst ends with that ms where it is to end, unless a shift code is to open it.
+-- The part is a code: a burst begins only with characters waiting, and its preamble takes none. In a station that no
+-- list of calls gives, a preamble of DTMF or EDT with none waiting ends the burst too.
+abbrev pub ended : Alphabet → Bool → Bool → OnLine → OnLine
+ended a over ends l = cond (over && ends && not (isOpening a l)) idle l
 
 unfoldable pub closed : Mode → Bool → OnLine → OnLine
-closed mode ends l = ended (isOver mode l) ends l
+closed mode ends l = ended (alphabetOf mode) (isOver mode l) ends l

@@ -1,10 +1,11 @@
 -- Document 01, "The station's turn" (here: half-duplex access): when a burst begins and ends, which code comes next,
 -- and when the receiver is inhibited. The send model and the station both go by these.
 use Prim.Native.Nat.{ℕ, _-_}
-use mathlib.Core.Bool.{Bool, cond, _&&_, _||_}
+use mathlib.Core.Bool.{Bool, true, false, cond, _&&_, _||_}
 use lib.Dec.{eqb, leb, ltb}
 use Rattle.alphabet.specs.declared.Alphabet.{Alphabet}
 use Rattle.alphabet.specs.declared.Alphabet.the-variants.{Baudot, Dtmf, Edt}
+use Rattle.alphabet.specs.Baudot.{letters}
 use Rattle.baudot.specs.declared.Sender.{Sender}
 use Rattle.baudot.specs.Sending.{wanted, counted}
 use Rattle.signal.specs.Signal.{quiet}
@@ -21,8 +22,19 @@ mayBegin waiting silence = ltb 0 waiting && leb freeMs silence
 unfoldable pub mayEnd : ℕ → Bool
 mayEnd waiting = eqb waiting 0
 
--- The shift code (document 01: case code) that the sending rule wants ahead of an own code, 0 for none, and the sender
--- after an own code. DTMF and EDT have no shifts.
+-- Document 02, #101: behind its preamble a Baudot burst opens with a shift code (there: case code), which takes no
+-- character. DTMF and EDT have no shifts.
+abbrev pub opensWithShift : Alphabet → Bool
+opensWithShift Baudot = true
+opensWithShift Dtmf = false
+opensWithShift Edt = false
+
+-- It is that of the shift in force, or of letters on a fresh sender.
+abbrev pub openingShift : Sender → ℕ
+openingShift s = cond (eqb (s .shift) 0) letters (s .shift)
+
+-- The shift code that the sending rule wants ahead of an own code, 0 for none, and the sender
+-- after an own code.
 abbrev pub shiftWanted : Alphabet → Sender → ℕ → ℕ
 shiftWanted Baudot s own = wanted s own
 shiftWanted Dtmf s own = 0

@@ -12,8 +12,8 @@ ghost use lib.Dec.{eqb};
 ghost use lib.ListN.{length};
 ghost use Rattle.alphabet.specs.Modes.{alphabetOf};
 ghost use Rattle.baudot.specs.Sending.{wanted};
-ghost use Rattle.burst.specs.Rules.{shiftWanted, senderAfterOwn};
-ghost use Rattle.burst.specs.Line.{idle, isCode, partMs, isOver, begun, codeBegins, nextCode, levelOn, oneGone, ended, closed};
+ghost use Rattle.burst.specs.Rules.{opensWithShift, openingShift, shiftWanted, senderAfterOwn};
+ghost use Rattle.burst.specs.Line.{idle, isCode, partMs, isOver, begun, shiftBegins, codeBegins, isOpening, nextCode, levelOn, oneGone, ended, closed};
 ghost use Rattle.burst.specs.Range.{isCodeOf, codeIn, lineIn};
 ghost use Rattle.baudot.specs.code.Bounds.{SenderIn};
 ghost use Rattle.burst.specs.code.Bounds.{LineIn, SendsIn};
@@ -143,7 +143,18 @@ fn code_at(code: LineCode) -> OnLine
     }
 }
 
-// The next code: a shift code where one is wanted ahead of the front character, else its own.
+// A shift code begins.
+fn shift_begins(shift: u8) -> Loaded
+    ensures { λ r. ⌜ r ≡ shiftBegins shift ⌝ }
+{
+    Loaded {
+        line: code_at(baudot::sending::shift_code(shift)),
+        sender: Sender { shift, count: 0 },
+        takes: false,
+    }
+}
+
+// The front character is next: a shift code where one is wanted ahead of it, else its own.
 pub fn code_begins(a: Alphabet, l: OnLine, s: Sender, sends: Sends) -> Loaded
     requires { ⌜ SenderIn s ⌝ }
     requires { ⌜ SendsIn a sends ⌝ }
@@ -164,11 +175,38 @@ pub fn code_begins(a: Alphabet, l: OnLine, s: Sender, sends: Sends) -> Loaded
             takes: true,
         };
     }
-    Loaded {
-        line: code_at(baudot::sending::shift_code(w)),
-        sender: Sender { shift: w, count: 0 },
-        takes: false,
+    shift_begins(w)
+}
+
+// Does a burst open with a shift code?
+fn opens_with_shift(a: Alphabet) -> bool
+    ensures { λ r. ⌜ r ≡ opensWithShift a ⌝ }
+{
+    match a {
+        Alphabet::Baudot => true,
+        Alphabet::Dtmf => false,
+        Alphabet::Edt => false,
     }
+}
+
+// The shift that it opens with.
+fn opening_shift(s: Sender) -> u8
+    ensures { λ r. ⌜ r ≡ openingShift s ⌝ }
+{
+    if s.shift == 0 {
+        return 1;
+    }
+    s.shift
+}
+
+// Is a shift code to open the burst, behind its preamble?
+pub fn is_opening(a: Alphabet, l: OnLine) -> bool
+    ensures { λ r. ⌜ r ≡ isOpening a l ⌝ }
+{
+    if l.part != PREAMBLE {
+        return false;
+    }
+    opens_with_shift(a)
 }
 
 // In a burst with no ms of a part left, the next code begins.
@@ -177,21 +215,21 @@ pub fn next_code(mode: Mode, waiting: u16, front: Char, l: OnLine, s: Sender) ->
     requires { ⌜ (1 ≤ waiting → front .0 < 128) ⌝ }
     ensures { λ r. ⌜ r ≡ nextCode mode waiting (front .0) l s ⌝ }
 {
-    if waiting == 0 {
-        return Loaded {
-            line: l,
-            sender: s,
-            takes: false,
-        };
-    }
+    let stays = Loaded {
+        line: l,
+        sender: s,
+        takes: false,
+    };
     if !is_over(mode, l) {
-        return Loaded {
-            line: l,
-            sender: s,
-            takes: false,
-        };
+        return stays;
     }
     let a = mode.alphabet();
+    if is_opening(a, l) {
+        return shift_begins(opening_shift(s));
+    }
+    if waiting == 0 {
+        return stays;
+    }
     code_begins(a, l, s, alphabet::table::lookup(a, front))
 }
 
@@ -220,14 +258,17 @@ fn one_gone(mode: Mode, l: OnLine) -> OnLine
     OnLine { at: l.at + 1, ..l }
 }
 
-// With no ms of a part left, the burst ends where it is to end.
-pub fn ended(over: bool, ends: bool, l: OnLine) -> OnLine
-    ensures { λ r. ⌜ r ≡ ended over ends l ⌝ }
+// With no ms of a part left, the burst ends where it is to end, unless a shift code is to open it.
+pub fn ended(a: Alphabet, over: bool, ends: bool, l: OnLine) -> OnLine
+    ensures { λ r. ⌜ r ≡ ended a over ends l ⌝ }
 {
     if !over {
         return l;
     }
     if !ends {
+        return l;
+    }
+    if is_opening(a, l) {
         return l;
     }
     idle()
@@ -239,7 +280,7 @@ pub fn line_after(mode: Mode, ends: bool, l: OnLine) -> OnLine
     ensures { λ r. ⌜ r ≡ closed mode ends (oneGone mode l) ⌝ }
 {
     let gone = one_gone(mode, l);
-    ended(is_over(mode, gone), ends, gone)
+    ended(mode.alphabet(), is_over(mode, gone), ends, gone)
 }
 
 // A code of the alphabet?

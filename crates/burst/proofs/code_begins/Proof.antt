@@ -8,7 +8,7 @@ use Rattle.burst.proofs.code_begins.Tie as tie
 use Rattle.burst.proofs.code_at.Reads as code-at-reads
 use Rattle.burst.proofs.sender_after_own.Reads as sender-after-own-reads
 use Rattle.burst.proofs.shift_wanted.Reads as shift-wanted-reads
-use Rattle.baudot.proofs.sending.shift_code.Reads as shift-code-reads
+use Rattle.burst.proofs.shift_begins.Reads as shift-begins-reads
 
 enum-known-sends : tie.Need-enum-known-sends
 enum-known-sends c = search needs
@@ -35,18 +35,14 @@ returns-2 c = let k = c .before .before .before .before .before .sends .given in
     let w = sym (c .before .before .before .shift-wanted .ensures) ∙ c .before .before .if1 .taken in
     simp (c .before .code-at .ensures, c .sender-after-own .ensures) (sym (own-code _ _ _ _ _ _ (k .1) w))
 
-shift-code-requires : tie.Need-shift-code-requires
-shift-code-requires c κs = search needs
-
-code-at-requires-2 : tie.Need-code-at-requires-2
-code-at-requires-2 c κs = search needs
+shift-begins-requires : tie.Need-shift-begins-requires
+shift-begins-requires c κs = search needs
 
 returns-3 : tie.Need-returns-3
 returns-3 c =
-    let k = c .before .before .before .before .before .sends .given in
-    let w = c .before .before .before .shift-wanted .ensures in
-    let e = shift-code _ _ _ _ _ _ (k .1) _ w _ (c .before .shift-code .ensures) (c .before .before .if1 .left) in
-    simp (c .code-at2 .ensures) (sym e)
+    let k = c .before .before .before .before .sends .given in
+    let w = c .before .before .shift-wanted .ensures in
+    c .shift-begins .ensures ∙ sym (shift-code _ _ _ _ _ _ (k .1) _ w (c .before .if1 .left))
 
 pub code-begins-spec : {M : Type 1} → statement M
 code-begins-spec =
@@ -59,6 +55,5 @@ code-begins-spec =
     code-at-requires
     sender-after-own-requires
     returns-2
-    shift-code-requires
-    code-at-requires-2
+    shift-begins-requires
     returns-3)
