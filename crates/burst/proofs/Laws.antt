@@ -1,22 +1,25 @@
 -- What the functions of this crate need of the definitions.
 use mathlib.Core.Path.{_≡_, _∙_, refl, sym, ap}
-use mathlib.Core.Bool.{Bool, true, false}
+use mathlib.Core.Bool.{Bool, true, false, cond, _&&_, and-false}
 use mathlib.Core.List.{List, [], _∷_}
 use Prim.Native.Nat.{ℕ, zero, suc, _≤_, _<_}
 use native.Mathlib.Omega.{arith}
 use lib.Dec.{eqb}
 use lib.ListN.{length, getD, length-replicate, getD-replicate}
 use borrow.Author.Tests.{eqb-true, eqb-false, ne-eqb, lt-ltb, le-ltb}
+use Rattle.lists.proofs.Lists.{either-by, by-test}
 use Rattle.alphabet.specs.declared.Alphabet.{Alphabet}
 use Rattle.alphabet.specs.declared.Mode.{Mode}
 use Rattle.alphabet.specs.declared.Sends.{Sends}
 use Rattle.alphabet.specs.declared.Sends.the-variants.{Nothing, Code}
 use Rattle.alphabet.specs.declared.LineCode.{LineCode}
 use Rattle.alphabet.specs.Modes.{preambleOf, alphabetOf}
-use Rattle.alphabet.specs.Normal.{sends}
+use Rattle.alphabet.specs.Normal.{sends, isCode}
 use Rattle.signal.specs.Signal.{signal, preamble}
 use Rattle.baudot.specs.declared.Sender.{Sender}
+use Rattle.baudot.specs.Sending.{sender, shiftCode}
 use Rattle.burst.specs.declared.OnLine.{OnLine}
+use Rattle.burst.specs.declared.Loaded.{Loaded}
 use Rattle.burst.specs.Rules.{openingShift, shiftWanted, senderAfterOwn}
 use Rattle.burst.specs.Line.{onLine, further, idle, partMs, isOver, loaded, shiftBegins, codeBegins, isOpening, nextCode}
 use Rattle.burst.specs.Line.{levelOn, oneGone, closed}
@@ -66,20 +69,40 @@ module _ (mode : Mode) (l : OnLine) where
   pub code-ms : l .part ≡ 2 → length (partMs mode l) ≡ length (signal mode (l .code .0))
   code-ms e = ap length (code-is e)
 
--- the code that begins: none, an own code, a shift code
+-- a shift code begins as the code makes it
+pub shift-made : (w k : ℕ) → k ≡ shiftCode w → loaded (onLine 2 k 0) (sender w 0) false ≡ shiftBegins w
+shift-made w k e = rw e refl
+
+-- a sender opens a burst with some shift
+opening-some : (s : Sender) → openingShift s ≡ 0 → ⊥
+opening-some s =
+    either-by (λ (w : ℕ). w ≡ 0 → ⊥) (eqb (s .shift) 0) (λ e (z : 1 ≡ 0). omega arith) (λ e. eqb-false (s .shift) 0 e)
+
+-- the code that begins, with characters waiting: none, an own code, a shift code
 module _ (a : Alphabet) (l : OnLine) (s : Sender) where
-  pub no-code : (x : Sends) → x ≡ Nothing → codeBegins a l s x ≡ loaded l s true
+  abbrev pub nextFor : Sends → Loaded
+  nextFor x = cond (isOpening a l && isCode x) (shiftBegins (openingShift s)) (codeBegins a l s x)
+
+  pub no-code : (x : Sends) → x ≡ Nothing → nextFor x ≡ loaded l s true
   unfolding codeBegins
-  no-code x e = rw e refl
+  no-code x e = rw (e, and-false) refl
 
   module _ (x : Sends) (own : ℕ) (k : LineCode) (e : x ≡ Code own k) where
-    pub own-code : shiftWanted a s own ≡ 0 → codeBegins a l s x ≡ loaded (onLine 2 (k .0) 0) (senderAfterOwn a s) true
-    unfolding codeBegins
-    own-code w = rw (e, w) refl
+    abbrev ahead : ℕ
+    ahead = cond (isOpening a l) (openingShift s) (shiftWanted a s own)
 
-    pub shift-code : (w : ℕ) → w ≡ shiftWanted a s own → (w ≡ 0 → ⊥) → codeBegins a l s x ≡ shiftBegins w
+    pub own-code : ahead ≡ 0 → nextFor x ≡ loaded (onLine 2 (k .0) 0) (senderAfterOwn a s) true
     unfolding codeBegins
-    shift-code w f n = rw (e, sym f, ne-eqb w 0 n) refl
+    own-code =
+        by-test (isOpening a l)
+        (λ o z. absurd (opening-some s (rw o at z)))
+        (λ o z. rw (e, o, rw o at z) refl)
+
+    pub shift-code : (ahead ≡ 0 → ⊥) → nextFor x ≡ shiftBegins ahead
+    unfolding codeBegins
+    shift-code =
+        by-test (isOpening a l) (λ o n. rw (e, o) refl)
+        (λ o n. rw (e, o, ne-eqb (shiftWanted a s own) 0 (rw o at n)) refl)
 
 module _ (mode : Mode) (waiting front : ℕ) (l : OnLine) (s : Sender) where
   pub not-over : isOver mode l ≡ false → nextCode mode waiting front l s ≡ loaded l s false
@@ -91,6 +114,14 @@ module _ (mode : Mode) (waiting front : ℕ) (l : OnLine) (s : Sender) where
         → nextCode mode waiting front l s ≡ shiftBegins (openingShift s)
     unfolding nextCode
     opening-next e = rw (over, e) refl
+
+    -- those that wait send codes
+    pub waiting-next : (waiting ≡ 0 → ⊥) → isCode (sends (alphabetOf mode) front) ≡ true
+        → nextCode mode waiting front l s ≡ nextFor (alphabetOf mode) l s (sends (alphabetOf mode) front)
+    unfolding nextCode
+    waiting-next n e =
+        by-test (isOpening (alphabetOf mode) l) (λ o. rw (over, o, e) refl)
+        (λ o. rw (over, o, lt-ltb 0 waiting (omega arith)) refl)
 
     module _ (opened : isOpening (alphabetOf mode) l ≡ false) where
       pub none-waits : waiting ≡ 0 → nextCode mode waiting front l s ≡ loaded l s false

@@ -21,7 +21,7 @@ use Rattle.burst.specs.declared.OnLine.{OnLine}
 use Rattle.burst.specs.declared.Loaded.{Loaded}
 use Rattle.burst.specs.Rules.{opensWithShift, openingShift, shiftWanted, senderAfterOwn}
 use Rattle.burst.specs.Line.{onLine, further, idle, inBurst, isCode, partMs, isOver, begun, loaded, shiftBegins, codeBegins}
-use Rattle.burst.specs.Line.{isOpening, nextCode, oneGone, closed}
+use Rattle.burst.specs.Line.{isOpening, nextCode, oneGone, frontIsNext, closed}
 use Rattle.burst.specs.Range.{isCodeOf, codeIn, lineIn}
 use Rattle.baudot.specs.code.Bounds.{SenderIn}
 use Rattle.burst.specs.code.Bounds.{LineIn, SendsIn}
@@ -129,7 +129,7 @@ baudot-wants Baudot s own e = refl
 baudot-wants Dtmf s own e = absurd (false≢true (sym e))
 baudot-wants Edt s own e = absurd (false≢true (sym e))
 
-opening-in : (s : Sender) → SenderIn s → openingShift s ≤ 2
+pub opening-in : (s : Sender) → SenderIn s → openingShift s ≤ 2
 opening-in s i = either (λ (w : ℕ). w ≤ 2) (eqb (s .shift) 0) 1 (s .shift) (omega arith) (i .shift-in)
 
 shift-code-is : (a : Alphabet) → opensWithShift a ≡ true → (w : ℕ) → isCodeOf a (shiftCode w) ≡ true
@@ -224,8 +224,7 @@ gone-in mode l i = go (ltb (l .at) (length (partMs mode l))) refl
 pub closed-in : (mode : Mode) (ends : Bool) (l : OnLine) → LineIn mode l → LineIn mode (closed mode ends l)
 unfolding closed
 closed-in mode ends l i =
-    either (LineIn mode) (isOver mode l && ends && not (isOpening (alphabetOf mode) l)) idle l
-    (blank-in mode 0 (omega arith)) i
+    either (LineIn mode) (frontIsNext mode l && ends) idle l (blank-in mode 0 (omega arith)) i
 
 -- one that is taken waits
 pub next-takes : (mode : Mode) (waiting front : ℕ) (l : OnLine) (s : Sender)

@@ -86,11 +86,16 @@ levelOn mode l = getD (partMs mode l) (l .at) quiet
 unfoldable pub oneGone : Mode → OnLine → OnLine
 oneGone mode l = cond (ltb (l .at) (length (partMs mode l))) (further l 1) l
 
--- If the last ms of a part has come, the burst ends with that ms where it is to end, unless a shift code is to open it.
--- The part is a code: a burst begins only with characters waiting, and its preamble takes none. In a station that no
--- list of calls gives, a preamble of DTMF or EDT with none waiting ends the burst too.
-abbrev pub ended : Alphabet → Bool → Bool → OnLine → OnLine
-ended a over ends l = cond (over && ends && not (isOpening a l)) idle l
+-- In a burst with no ms of a part left, and no shift code that is to open it: the front character is next, or the burst
+-- ends.
+abbrev pub frontIsNext : Mode → OnLine → Bool
+frontIsNext mode l = isOver mode l && not (isOpening (alphabetOf mode) l)
+
+-- Then the burst ends with that ms where it is to end. The part is a code: a burst begins only with characters waiting,
+-- and its preamble takes none. In a station that no list of calls gives, a preamble of DTMF or EDT with none waiting
+-- ends the burst too.
+abbrev pub ended : Bool → Bool → OnLine → OnLine
+ended next ends l = cond (next && ends) idle l
 
 unfoldable pub closed : Mode → Bool → OnLine → OnLine
-closed mode ends l = ended (alphabetOf mode) (isOver mode l) ends l
+closed mode ends l = ended (frontIsNext mode l) ends l

@@ -7,10 +7,11 @@ use alphabet::Sends;
 use baudot::Sender;
 ghost use mathlib.Core.Path.{_≡_};
 ghost use Prim.Native.Nat.{_+_, _≤_, _<_};
-ghost use mathlib.Core.Bool.{not, _&&_};
+ghost use mathlib.Core.Bool.{cond, not, _&&_};
 ghost use lib.Dec.{eqb};
 ghost use lib.ListN.{length};
 ghost use Rattle.alphabet.specs.Modes.{alphabetOf};
+ghost use Rattle.alphabet.specs.Normal.{isCode as sendsCode};
 ghost use Rattle.baudot.specs.Sending.{wanted};
 ghost use Rattle.burst.specs.Rules.{opensWithShift, openingShift, shiftWanted, senderAfterOwn};
 ghost use Rattle.burst.specs.Line.{idle, isCode, partMs, isOver, begun, shiftBegins, codeBegins, isOpening, nextCode, levelOn, oneGone, ended, closed};
@@ -143,41 +144,6 @@ fn code_at(code: LineCode) -> OnLine
     }
 }
 
-// A shift code begins.
-fn shift_begins(shift: u8) -> Loaded
-    ensures { λ r. ⌜ r ≡ shiftBegins shift ⌝ }
-{
-    Loaded {
-        line: code_at(baudot::sending::shift_code(shift)),
-        sender: Sender { shift, count: 0 },
-        takes: false,
-    }
-}
-
-// The front character is next: a shift code where one is wanted ahead of it, else its own.
-pub fn code_begins(a: Alphabet, l: OnLine, s: Sender, sends: Sends) -> Loaded
-    requires { ⌜ SenderIn s ⌝ }
-    requires { ⌜ SendsIn a sends ⌝ }
-    ensures { λ r. ⌜ r ≡ codeBegins a l s sends ⌝ }
-{
-    let Sends::Code { shift: own, code } = sends else {
-        return Loaded {
-            line: l,
-            sender: s,
-            takes: true,
-        };
-    };
-    let w = shift_wanted(a, s, own);
-    if w == 0 {
-        return Loaded {
-            line: code_at(code),
-            sender: sender_after_own(a, s),
-            takes: true,
-        };
-    }
-    shift_begins(w)
-}
-
 // Does a burst open with a shift code?
 fn opens_with_shift(a: Alphabet) -> bool
     ensures { λ r. ⌜ r ≡ opensWithShift a ⌝ }
@@ -209,6 +175,58 @@ pub fn is_opening(a: Alphabet, l: OnLine) -> bool
     opens_with_shift(a)
 }
 
+// The shift code that goes ahead of an own code, 0 for none: the one that opens the burst, or the one that is wanted.
+fn shift_ahead(a: Alphabet, l: OnLine, s: Sender, own: u8) -> u8
+    requires { ⌜ SenderIn s ⌝ }
+    requires { ⌜ (1 ≤ own) × (own ≤ 3) ⌝ }
+    ensures { λ r. ⌜ r ≡ cond (isOpening a l) (openingShift s) (shiftWanted a s own) ⌝ }
+{
+    if is_opening(a, l) {
+        return opening_shift(s);
+    }
+    shift_wanted(a, s, own)
+}
+
+// The next code, with characters waiting: a shift code where one goes ahead of the front character, else its own.
+pub fn code_begins(a: Alphabet, l: OnLine, s: Sender, sends: Sends) -> Loaded
+    requires { ⌜ SenderIn s ⌝ }
+    requires { ⌜ SendsIn a sends ⌝ }
+    ensures { λ r. ⌜ r ≡ cond (isOpening a l && sendsCode sends) (shiftBegins (openingShift s)) (codeBegins a l s sends) ⌝ }
+{
+    let Sends::Code { shift: own, code } = sends else {
+        return Loaded {
+            line: l,
+            sender: s,
+            takes: true,
+        };
+    };
+    let w = shift_ahead(a, l, s, own);
+    if w == 0 {
+        return Loaded {
+            line: code_at(code),
+            sender: sender_after_own(a, s),
+            takes: true,
+        };
+    }
+    Loaded {
+        line: code_at(baudot::sending::shift_code(w)),
+        sender: Sender { shift: w, count: 0 },
+        takes: false,
+    }
+}
+
+// The shift code that opens the burst.
+fn opening_begins(s: Sender) -> Loaded
+    ensures { λ r. ⌜ r ≡ shiftBegins (openingShift s) ⌝ }
+{
+    let w = opening_shift(s);
+    Loaded {
+        line: code_at(baudot::sending::shift_code(w)),
+        sender: Sender { shift: w, count: 0 },
+        takes: false,
+    }
+}
+
 // In a burst with no ms of a part left, the next code begins.
 pub fn next_code(mode: Mode, waiting: u16, front: Char, l: OnLine, s: Sender) -> Loaded
     requires { ⌜ SenderIn s ⌝ }
@@ -225,7 +243,7 @@ pub fn next_code(mode: Mode, waiting: u16, front: Char, l: OnLine, s: Sender) ->
     }
     let a = mode.alphabet();
     if is_opening(a, l) {
-        return shift_begins(opening_shift(s));
+        return opening_begins(s);
     }
     if waiting == 0 {
         return stays;
@@ -258,29 +276,37 @@ fn one_gone(mode: Mode, l: OnLine) -> OnLine
     OnLine { at: l.at + 1, ..l }
 }
 
-// With no ms of a part left, the burst ends where it is to end, unless a shift code is to open it.
-pub fn ended(a: Alphabet, over: bool, ends: bool, l: OnLine) -> OnLine
-    ensures { λ r. ⌜ r ≡ ended a over ends l ⌝ }
+// With no ms of a part left, is the front character next, or does the burst end? Not if a shift code is to open it.
+pub fn front_is_next(a: Alphabet, over: bool, l: OnLine) -> bool
+    ensures { λ r. ⌜ r ≡ (over && not (isOpening a l)) ⌝ }
 {
     if !over {
+        return false;
+    }
+    !is_opening(a, l)
+}
+
+// Where the front character would be next, the burst ends if it is to end.
+pub fn ended(next: bool, ends: bool, l: OnLine) -> OnLine
+    ensures { λ r. ⌜ r ≡ ended next ends l ⌝ }
+{
+    if !next {
         return l;
     }
     if !ends {
         return l;
     }
-    if is_opening(a, l) {
-        return l;
-    }
     idle()
 }
 
-// What is on the line after a ms: if the last ms of a part has come, the burst ends where it is to end.
+// What is on the line after a ms.
 pub fn line_after(mode: Mode, ends: bool, l: OnLine) -> OnLine
     requires { ⌜ LineIn mode l ⌝ }
     ensures { λ r. ⌜ r ≡ closed mode ends (oneGone mode l) ⌝ }
 {
     let gone = one_gone(mode, l);
-    ended(mode.alphabet(), is_over(mode, gone), ends, gone)
+    let next = front_is_next(mode.alphabet(), is_over(mode, gone), gone);
+    ended(next, ends, gone)
 }
 
 // A code of the alphabet?

@@ -9,7 +9,7 @@ use lib.ListN.{length, getD, take, drop, drop-of-length-le}
 use lib.Seq.{sets, length-sets, drop-cons, drop-drop, take-add}
 use borrow.Author.Tests.{leb-true, ltb-true, ltb-false, lt-ltb, le-leb, ne-eqb, eq-eqb, eqb-true, eqb-false}
 use Rattle.lists.specs.Tables.{tabulate}
-use Rattle.lists.proofs.Lists.{sets-append, either, and-left, and-right}
+use Rattle.lists.proofs.Lists.{sets-append, either, either-by, and-left, and-right}
 use Rattle.alphabet.specs.declared.Alphabet.{Alphabet}
 use Rattle.alphabet.specs.declared.Mode.{Mode}
 use Rattle.alphabet.specs.declared.Mode.the-variants.{Baudot45, Baudot50, Dtmf, Edt}
@@ -24,13 +24,14 @@ use Rattle.reader.specs.declared.Reader.{Reader}
 use Rattle.half_duplex.specs.declared.Core.{Core}
 use Rattle.burst.specs.declared.OnLine.{OnLine}
 use Rattle.burst.specs.declared.Loaded.{Loaded}
-use Rattle.burst.specs.Rules.{mayBegin, mayEnd, shiftWanted}
-use Rattle.burst.specs.Line.{further, onLine, inBurst, partMs, isOver, codeBegins, nextCode, ended, closed}
+use Rattle.burst.specs.Rules.{mayBegin, mayEnd, opensWithShift, openingShift, shiftWanted}
+use Rattle.burst.specs.Line.{further, onLine, inBurst, partMs, isOver, codeBegins, isOpening, nextCode}
+use Rattle.burst.specs.Line.{frontIsNext, ended, closed}
 use Rattle.half_duplex.specs.Core.{core, modeIn, settled, waitingAfter}
 use Rattle.baudot.specs.code.Bounds.{SenderIn}
 use Rattle.burst.specs.code.Bounds.{SendsIn}
-use Rattle.burst.proofs.Laws.{code-ms, code-next}
-use Rattle.burst.proofs.Range.{LoadedIn, blank-in, sends-in, begins-in}
+use Rattle.burst.proofs.Laws.{code-ms, nextFor, waiting-next}
+use Rattle.burst.proofs.Range.{blank-in, sends-in, begins-in, shift-starts, opening-in}
 use Rattle.queue.proofs.Moves.{moved-place}
 use Rattle.queue.specs.Queue.{waits, allWait, waitingOf, movedBy, inRange as queueIn}
 use Rattle.station.specs.declared.Station.{Station}
@@ -149,19 +150,29 @@ pub record Begins (mode : Mode) (q : Loaded) : Type 0 where
   pub sender-in : SenderIn (q .sender)
 
 begins : (mode : Mode) (l : OnLine) (s : Sender) → SenderIn s → (x : Sends) → isCode x ≡ true
-    → SendsIn (alphabetOf mode) x → Begins mode (codeBegins (alphabetOf mode) l s x)
+    → SendsIn (alphabetOf mode) x → Begins mode (nextFor (alphabetOf mode) l s x)
 unfolding codeBegins
 begins mode l s j Nothing e h = absurd (false≢true e)
 begins mode l s j (Code own k) e h =
-    let w = shiftWanted (alphabetOf mode) s own in
-    let i : LoadedIn mode (codeBegins (alphabetOf mode) l s (Code own k)) =
-    begins-in mode (onLine 0 0 0) s (blank-in mode 0 (omega arith)) j (Code own k) h in
+    either-by (Begins mode) (isOpening a l && true)
+    (λ o.
+    let opens = and-right (eqb (l .part) 1) (opensWithShift a) (and-left (isOpening a l) true o) in
+    let i = shift-starts mode opens (openingShift s) (opening-in s j) in
+    record { at-0 = refl; part-2 = refl; code-in = i .line-in .code-in; sender-in = i .sender-in })
+    (λ o.
+    let i = begins-in mode (onLine 0 0 0) s (blank-in mode 0 (omega arith)) j (Code own k) h in
     record {
       at-0 = either (λ (q : Loaded). q .line .at ≡ 0) (eqb w 0) _ _ refl refl;
       part-2 = either (λ (q : Loaded). q .line .part ≡ 2) (eqb w 0) _ _ refl refl;
       code-in = i .line-in .code-in;
       sender-in = i .sender-in;
-    }
+    })
+  where
+    a : Alphabet
+    a = alphabetOf mode
+
+    w : ℕ
+    w = shiftWanted a s own
 
 some-count : (p : ℕ) → 1 ≤ keyCount p
 some-count p = go (eqb p 0) (ltb p 3) (ltb p 7) (ltb p 15)
@@ -281,12 +292,14 @@ module _ (heard chars sent₀ : List ℕ) (c : Core) (i : ℕ) (within : i ≤ l
     pub sends-in-range : SendsIn a (sends a (getD chars taken 0))
     sends-in-range = sends-in a (getD chars taken 0) char-in-range
 
-    module _ (q : Loaded) (e : q ≡ codeBegins a line s (sends a (getD chars taken 0))) where
+    sends-one : isCode (sends a (getD chars taken 0)) ≡ true
+    sends-one = let x = getD chars taken 0 in and-right (leb x 0x7f) (isCode (sends a x)) char-waits
+
+    module _ (q : Loaded) (e : q ≡ nextFor a line s (sends a (getD chars taken 0))) where
       pub q-begins : Begins (modeIn c) q
       q-begins =
-          let x = getD chars taken 0 in
-          let one = and-right (leb x 0x7f) (isCode (sends a x)) char-waits in
-          subst (Begins (modeIn c)) (sym e) (begins (modeIn c) line s (d .sender-in) (sends a x) one sends-in-range)
+          let x = sends a (getD chars taken 0) in
+          subst (Begins (modeIn c)) (sym e) (begins (modeIn c) line s (d .sender-in) x sends-one sends-in-range)
 
       abbrev now : Core
       now = codedCore c taken s line (at - i)
@@ -313,9 +326,10 @@ module _ (heard chars sent₀ : List ℕ) (c : Core) (i : ℕ) (within : i ≤ l
           let there = moved-place taken chars 0 (omega (arith, here)) ∙ ap (λ (k : ℕ). getD chars k 0) same in
           let front = getD (movedBy taken chars) 0 0 in
           let left = c .waiting - taken in
+          let one = subst (λ (x : ℕ). isCode (sends a x) ≡ true) (sym there) sends-one in
           e
-          ∙ sym (ap (λ (x : ℕ). codeBegins a line s (sends a x)) there)
-          ∙ sym (code-next (modeIn c) left front line s (λ (z : c .waiting - taken ≡ 0). omega arith) o)
+          ∙ sym (ap (λ (x : ℕ). nextFor a line s (sends a x)) there)
+          ∙ sym (waiting-next (modeIn c) left front line s o (λ (z : c .waiting - taken ≡ 0). omega arith) one)
           ∙ sym (ap (λ (x : OnLine). nextCode (modeIn c) left front x s) (begun-same m line t))
 
       module _ (ms : ℕ) (em : ms ≡ length (signal (modeIn c) (q .line .code .0))) (room : at + ms ≤ length heard)
@@ -390,12 +404,15 @@ module _ (heard chars sent₀ : List ℕ) (c : Core) (i : ℕ) (within : i ≤ l
             sym (ap (λ (m : ℕ). isOver (modeIn c) (onLine (q .line .part) (q .line .code .0) m)) n)
             ∙ sym (gone-over (modeIn c) (q .line) more ms ms (omega arith) (omega arith)) ∙ eq-eqb ms ms refl
 
+        whole-next : frontIsNext (modeIn c) whole ≡ true
+        whole-next = rw (whole-over, q-begins .part-2) refl
+
         whole-closed : (ends : Bool) → ended true ends whole ≡ closed (modeIn c) ends (further (q .line) ms)
         unfolding closed
         whole-closed ends =
             let z = q-begins .at-0 in
             let n : ms ≡ q .line .at + ms = omega arith in
-            sym (ap (λ (b : Bool). ended b ends whole) whole-over)
+            sym (ap (λ (b : Bool). ended b ends whole) whole-next)
             ∙ ap (λ (m : ℕ). closed (modeIn c) ends (onLine (q .line .part) (q .line .code .0) m)) n
 
         not-ended : (taken' : ℕ) → taken' < c .waiting → ended true (mayEnd (c .waiting - taken')) whole ≡ whole

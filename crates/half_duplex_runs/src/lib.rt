@@ -15,7 +15,7 @@ ghost use Rattle.lists.specs.Lists.{allAtMost};
 ghost use Rattle.alphabet.specs.declared.Mode.the-variants as mode;
 ghost use Rattle.alphabet.specs.Modes.{longest};
 ghost use Rattle.burst.specs.Rules.{freeMs};
-ghost use Rattle.burst.specs.Line.{further, isOver};
+ghost use Rattle.burst.specs.Line.{further, frontIsNext};
 ghost use Rattle.half_duplex.specs.Core.{modeIn};
 ghost use Rattle.half_duplex_runs.specs.code.Cores.{silenceFor, silenceOver, isIdle, deafReader, loadedCore, sentFor, codedCore, deafFor, listened};
 
@@ -141,10 +141,10 @@ pub fn loaded(c: Core, l: Loaded) -> Core
     }
 }
 
-// A core after n ms of a part, which is over or not.
-pub fn sent_for(c: Core, n: usize, over: bool) -> Core
+// A core after n ms of a part, behind which the front character is next or not.
+pub fn sent_for(c: Core, n: usize, next: bool) -> Core
     requires { ⌜ 1 ≤ n ⌝ }
-    requires { ⌜ over ≡ isOver (modeIn c) (further (c .line) n) ⌝ }
+    requires { ⌜ next ≡ frontIsNext (modeIn c) (further (c .line) n) ⌝ }
     requires { ⌜ c .silence ≤ freeMs ⌝ }
     requires { ⌜ c .line .at + n ≤ longest mode.Dtmf ⌝ }
     ensures { λ r. ⌜ r ≡ sentFor c n ⌝ }
@@ -155,7 +155,7 @@ pub fn sent_for(c: Core, n: usize, over: bool) -> Core
     Core {
         silence: silence_for(c.silence, n),
         inhibited: rules::INHIBITED,
-        line: burst::ended(over, rules::may_end(c.waiting), line),
+        line: burst::ended(next, rules::may_end(c.waiting), line),
         reader: deaf_reader(reader, n),
         ..c
     }

@@ -89,8 +89,9 @@ fn send(
     let to = lists::places::up_to(i, left, heard.len());
     signal_runs::put(mode, l, sent, i, to);
     let gone = to - i;
+    let next = burst::front_is_next(mode.alphabet(), gone == left, l);
     Stretched {
-        core: half_duplex_runs::sent_for(c, gone, gone == left),
+        core: half_duplex_runs::sent_for(c, gone, next),
         at: to,
         words: n,
     }

@@ -5,7 +5,7 @@ use native.Mathlib.Omega.{arith}
 use borrow.Author.Tests.{not-true, not-false}
 use Rattle.alphabet.specs.declared.Alphabet.{Alphabet}
 use Rattle.alphabet.specs.Modes.{alphabetOf}
-use Rattle.burst.specs.Line.{shiftBegins, isOpening, isOver}
+use Rattle.burst.specs.Line.{isOpening, isOver}
 use Rattle.burst.specs.code.Bounds.{SendsIn}
 use Rattle.burst.proofs.Range.{sends-in}
 use Rattle.burst.proofs.Laws.{not-over, opening-next, none-waits, code-next}
@@ -15,8 +15,7 @@ use Rattle.burst.proofs.next_code.Tie as tie
 use Rattle.burst.proofs.code_begins.Reads as code-begins-reads
 use Rattle.burst.proofs.is_over.Reads as is-over-reads
 use Rattle.burst.proofs.is_opening.Reads as is-opening-reads
-use Rattle.burst.proofs.opening_shift.Reads as opening-shift-reads
-use Rattle.burst.proofs.shift_begins.Reads as shift-begins-reads
+use Rattle.burst.proofs.opening_begins.Reads as opening-begins-reads
 use Rattle.alphabet.proofs.Mode.alphabet.Reads as alphabet-reads
 use Rattle.alphabet.proofs.table.lookup.Reads as lookup-reads
 
@@ -53,16 +52,13 @@ alphabet-requires c κs = search needs
 is-opening-requires : tie.Need-is-opening-requires
 is-opening-requires c κs = search needs
 
-opening-shift-requires : tie.Need-opening-shift-requires
-opening-shift-requires c κs = search needs
-
-shift-begins-requires : tie.Need-shift-begins-requires
-shift-begins-requires c κs = search needs
+opening-begins-requires : tie.Need-opening-begins-requires
+opening-begins-requires c κs = search needs
 
 returns-2 : tie.Need-returns-2
 returns-2 c =
-    let o = c .before .before in
-    c .shift-begins .ensures ∙ ap shiftBegins (c .before .opening-shift .ensures)
+    let o = c .before in
+    c .opening-begins .ensures
     ∙ sym (opening-next _ _ _ _ _ (over (o .before)) (opening (o .before) ∙ o .if2 .taken))
 
 returns-3 : tie.Need-returns-3
@@ -85,7 +81,8 @@ returns-4 c =
     let m = n .before in
     let o = m .before in
     let e = code-next _ _ _ _ _ (over o) (opening o ∙ m .if2 .left) (n .if3 .left) in
-    c .code-begins .ensures ∙ simp (c .before .lookup .ensures, o .before .alphabet .ensures) (sym e)
+    c .code-begins .ensures
+    ∙ simp (c .before .lookup .ensures, o .before .alphabet .ensures, opening o ∙ m .if2 .left) (sym e)
 
 pub next-code-spec : {M : Type 1} → statement M
 next-code-spec =
@@ -95,8 +92,7 @@ next-code-spec =
     returns
     alphabet-requires
     is-opening-requires
-    opening-shift-requires
-    shift-begins-requires
+    opening-begins-requires
     returns-2
     returns-3
     lookup-requires

@@ -15,11 +15,12 @@ use Rattle.alphabet.specs.declared.Sends.{Sends}
 use Rattle.alphabet.specs.Modes.{alphabetOf, codes, longest}
 use Rattle.alphabet.specs.Normal.{sends}
 use Rattle.signal.specs.Signal.{signal}
-use Rattle.burst.specs.Line.{onLine, codeBegins, ended}
+use Rattle.burst.specs.Line.{onLine, ended}
 use Rattle.half_duplex.specs.Core.{modeIn}
 use Rattle.burst.specs.code.Bounds.{SendsIn}
 use Rattle.half_duplex.specs.code.Bounds.{CoreIn}
 use Rattle.signal.proofs.Lengths.{within-longest}
+use Rattle.burst.proofs.Laws.{nextFor}
 use Rattle.burst.proofs.Range.{sends-in}
 use Rattle.queue.specs.Queue.{movedBy}
 use Rattle.queue.proofs.Moves.{moved-by-length, moved-place}
@@ -193,7 +194,7 @@ module _ (c : tie.After-code-begins Inv-loop μ-loop) where
   code = c .code-begins .result .line .code .0
 
   begins-as : c .code-begins .result
-      ≡ codeBegins (alphabetOf mode) (l .loop .line) (l .loop .sender)
+      ≡ nextFor (alphabetOf mode) (l .loop .line) (l .loop .sender)
       (sends (alphabetOf mode) (getD (chars-of (start-of l)) (l .loop .taken) 0))
   begins-as =
       let a = alphabetOf mode in
@@ -201,10 +202,10 @@ module _ (c : tie.After-code-begins Inv-loop μ-loop) where
       let q = l .loop .sender in
       let x = getD (start-of l .args .chars .now) (start-of l .args .from + l .loop .taken) 0 in
       c .code-begins .ensures
-      ∙ ap (λ (y : Sends). codeBegins (alphabet-of l .alphabet .result) line q y) (c .before .lookup-in .ensures)
-      ∙ ap (λ (b : Alphabet). codeBegins b line q (sends b x))
+      ∙ ap (λ (y : Sends). nextFor (alphabet-of l .alphabet .result) line q y) (c .before .lookup-in .ensures)
+      ∙ ap (λ (b : Alphabet). nextFor b line q (sends b x))
       (alphabet-of l .alphabet .ensures ∙ ap alphabetOf (alphabet-of l .before .of .ensures))
-      ∙ ap (λ (y : ℕ). codeBegins a line q (sends a y)) (char-at (turn-of c))
+      ∙ ap (λ (y : ℕ). nextFor a line q (sends a y)) (char-at (turn-of c))
 
   begins : Begins mode (c .code-begins .result)
   begins =

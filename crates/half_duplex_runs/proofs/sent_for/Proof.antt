@@ -40,9 +40,9 @@ returns c =
     let t = g .before .before in
     let s = t .args .c in
     let n = t .args .n in
-    let over = t .pre .1 .0 in
+    let next = t .pre .1 .0 in
     let after : e .ended .result ≡ closed (modeIn s) (mayEnd (s .waiting)) (further (s .line) n) =
-    e .ended .ensures ∙ (λ j. ended (over j) (e .before .may-end .ensures j) (g .further .ensures j)) in
+    e .ended .ensures ∙ (λ j. ended (next j) (e .before .may-end .ensures j) (g .further .ensures j)) in
     let inhibited = burst-some (s .inhibited) n (t .pre .0) in
     λ j. core (s .waiting) (f .silence-for .ensures j) (inhibited j) (after j) (s .sender)
     (c .before .deaf-reader .ensures j) (s .mode)

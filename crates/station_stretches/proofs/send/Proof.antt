@@ -1,5 +1,6 @@
 -- `send` meets its contract.
 use mathlib.Core.Path.{_∙_, ap}
+use mathlib.Core.Bool.{not, _&&_}
 use mathlib.Core.List.{List}
 use Prim.Native.Nat.{ℕ, _-_, _<_}
 use native.Mathlib.Omega.{arith}
@@ -7,7 +8,8 @@ use lib.ListN.{length}
 use lib.Seq.{sets}
 use Rattle.lists.specs.Tables.{tabulate}
 use Rattle.alphabet.specs.declared.Mode.{Mode}
-use Rattle.burst.specs.Line.{partMs}
+use Rattle.alphabet.specs.Modes.{alphabetOf}
+use Rattle.burst.specs.Line.{partMs, isOpening}
 use Rattle.half_duplex.specs.Core.{modeIn}
 use Rattle.signal_runs.specs.code.Levels.{partLevel}
 use Rattle.signal_runs.proofs.Parts.{part-most}
@@ -24,6 +26,9 @@ start-of c = c .before .before .before .before
 
 abbrev to-of : tie.After-slice-known2 → tie.After-up-to
 to-of c = c .before .before .before .before
+
+abbrev put-of : tie.After-front-is-next → tie.After-slice-known2
+put-of c = c .before .before
 
 -- ---- the needs
 
@@ -50,9 +55,15 @@ put-requires c κs =
 sub-gone : tie.Need-sub-gone
 sub-gone c = search needs
 
+alphabet-requires : tie.Need-alphabet-requires
+alphabet-requires c κs = search needs
+
+front-is-next-requires : tie.Need-front-is-next-requires
+front-is-next-requires c κs = search needs
+
 sent-for-requires : tie.Need-sent-for-requires
 sent-for-requires c κs =
-    let u = to-of c in
+    let u = to-of (put-of c) in
     let s = start-of u in
     let l = s .args .c .line in
     let p = s .pre .1 .1 in
@@ -62,14 +73,19 @@ sent-for-requires c κs =
     let on = further u in
     let k = part-most (modeIn (s .args .c)) l (s .pre .0 .line-in) in
     let mode = modeIn (s .args .c) in
-    (omega arith, (gone-over mode l (omega arith) _ _ sum (omega arith), (s .pre .0 .silence-in, omega arith)))
+    let gone = u .up-to .result - s .args .i in
+    let over = gone-over mode l (omega arith) gone (s .args .left) sum (omega arith) in
+    let a = c .before .alphabet .ensures ∙ ap alphabetOf (s .pre .1 .0) in
+    let next = c .front-is-next .ensures ∙ (λ j. over j && not (isOpening (a j) l)) in
+    (omega arith, (next, (s .pre .0 .silence-in, omega arith)))
 
 same-length : tie.Need-same-length
 same-length c = search needs
 
 returns : tie.Need-returns
 returns c =
-    let u = to-of (c .before) in
+    let t = put-of (c .before) in
+    let u = to-of t in
     let s = start-of u in
     let mode = modeIn (s .args .c) in
     let l = s .args .c .line in
@@ -79,7 +95,7 @@ returns c =
     let e = u .up-to .ensures in
     let on = further u in
     let n = u .up-to .result - s .args .i in
-    let w = c .before .before .before .put .ensures
+    let w = t .before .before .put .ensures
     ∙ ap (λ (d : Mode). sets (s .args .sent .now) (s .args .i) (tabulate (partLevel d l) n 0)) (s .pre .1 .0) in
     λ (chars words : List ℕ).
     send-stretch _ _ chars _ words _ _ _ on (e .high) _ (s .pre .0 .silence-in)
@@ -92,6 +108,8 @@ send-spec =
     up-to-requires
     put-requires
     sub-gone
+    alphabet-requires
+    front-is-next-requires
     sent-for-requires
     same-length
     returns)
