@@ -1,4 +1,4 @@
--- How many codes a sender has left to send, at most: an own code is one of them, and so is a shift code.
+-- How many codes are left to send, at most: an own code is one of them, and so is a shift code.
 use mathlib.Core.Path.{_≡_, refl}
 use mathlib.Core.Bool.{cond}
 use mathlib.Core.Logic.{⊎-elim}
@@ -12,10 +12,12 @@ use Rattle.alphabet.specs.declared.Alphabet.the-variants.{Baudot, Dtmf as dtmf,
 use Rattle.alphabet.specs.declared.Sends.{Sends}
 use Rattle.alphabet.specs.declared.Sends.the-variants.{Nothing, Code}
 use Rattle.baudot.specs.declared.Sender.{Sender}
-use Rattle.baudot.specs.Sending.{Running, sender, wanted, counted, shifted}
+use Rattle.baudot.specs.Sending.{Running, sender, wanted, counted}
 use Rattle.baudot.specs.code.Bounds.{SenderIn}
 use Rattle.baudot.proofs.SendingRule.{NoneAhead, Ahead, ahead}
-use Rattle.burst.specs.Rules.{shiftWanted, senderAfterOwn}
+use Rattle.burst.specs.declared.OnLine.{OnLine}
+use Rattle.burst.specs.Rules.{openingShift, shiftWanted, senderAfterOwn}
+use Rattle.burst.specs.Line.{isOpening}
 
 -- ---- the shift codes ahead of an own code
 
@@ -57,28 +59,21 @@ module _ (s : Sender) (own : ℕ) (lo : 1 ≤ own) (hi : own ≤ 3) (i : SenderI
   abbrev Fewer : ℕ → Type 0
   Fewer n = shiftsLeft Baudot (sender w 0) own + 1 ≤ n
 
-  from-fresh : s .shift ≡ 0 → (w ≡ 0 → ⊥) → Fewer 2
-  from-fresh z n = let l = shifts-1 Baudot (sender w 0) own n in omega arith
-
   from-running : (s .shift ≡ 0 → ⊥) → (w ≡ 0 → ⊥) → Fewer 1
   from-running f n =
-      let sh = i .shift-in in
       let low : 1 ≤ s .shift = omega (arith, f) in
-      let r : Running s = record { shift-low = low; shift-in = sh; count-in = i .count-in } in
+      let r : Running s = record { shift-low = low; shift-in = i .shift-in; count-in = i .count-in } in
       ⊎-elim (λ (none : NoneAhead s own r lo hi). absurd (n (none .none)))
       (λ (some : Ahead s own r lo hi w). rw (some .then-none) (omega arith))
       (ahead s own r lo hi)
 
-  baudot-less : (w ≡ 0 → ⊥) → shiftsLeft Baudot (shifted s w) own + 1 ≤ shiftsLeft Baudot s own
-  baudot-less n =
-      rw (ne-eqb w 0 n)
-      (either-by Fewer (eqb (s .shift) 0)
-      (λ e. from-fresh (eqb-true (s .shift) 0 e) n)
-      (λ e. from-running (eqb-false (s .shift) 0 e) n))
-
   pub shifts-less : (a : Alphabet) → (shiftWanted a s own ≡ 0 → ⊥)
-      → shiftsLeft a (shifted s (shiftWanted a s own)) own + 1 ≤ shiftsLeft a s own
-  shifts-less Baudot n = baudot-less n
+      → shiftsLeft a (sender (shiftWanted a s own) 0) own + 1 ≤ shiftsLeft a s own
+  shifts-less Baudot n =
+      either-by Fewer (eqb w 0) (λ e. absurd (n (eqb-true w 0 e)))
+      (λ e. either-by Fewer (eqb (s .shift) 0)
+      (λ f. let l = shifts-1 Baudot (sender w 0) own n in omega arith)
+      (λ f. from-running (eqb-false (s .shift) 0 f) n))
   shifts-less dtmf n = absurd (n refl)
   shifts-less edt n = absurd (n refl)
 
@@ -93,19 +88,30 @@ unfoldable pub codesLeft : Alphabet → Sender → ℕ → Sends → ℕ
 codesLeft a s zero x = 0
 codesLeft a s (suc n) x = 2 * n + 1 + aheadOf a s x
 
-module _ (a : Alphabet) (s : Sender) where
-  pub codes-most : (n : ℕ) (x : Sends) → codesLeft a s n x ≤ 2 * n + 1
-  unfolding codesLeft
-  codes-most zero x = omega arith
-  codes-most (suc n) Nothing = omega arith
-  codes-most (suc n) (Code own k) = let h = shifts-2 a s own in omega arith
+-- behind what is on the line: behind a preamble, the shift code that opens the burst and two for each
+abbrev pub codesBehind : Alphabet → OnLine → Sender → ℕ → Sends → ℕ
+codesBehind a l s n x = cond (isOpening a l) (2 * n + 1) (codesLeft a s n x)
 
-  -- an own code is one of them, and so is a shift code
-  pub codes-own : (own n : ℕ) → shiftWanted a s own ≡ 0 → (x : Sends) → codesLeft a (senderAfterOwn a s) n x ≤ 2 * n
+module _ (a : Alphabet) (s : Sender) where
+  codes-left : (n : ℕ) (x : Sends) → codesLeft a s n x ≤ 2 * n + 1
   unfolding codesLeft
-  codes-own own zero w x = omega arith
-  codes-own own (suc n) w Nothing = omega arith
-  codes-own own (suc n) w (Code next k) = let h = shifts-own a s own next w in omega arith
+  codes-left zero x = omega arith
+  codes-left (suc n) Nothing = omega arith
+  codes-left (suc n) (Code own k) = let h = shifts-2 a s own in omega arith
+
+  pub codes-most : (l : OnLine) (n : ℕ) (x : Sends) → codesBehind a l s n x ≤ 2 * n + 1
+  codes-most l n x = either (λ (k : ℕ). k ≤ 2 * n + 1) (isOpening a l) _ _ (omega arith) (codes-left n x)
+
+  codes-few : ((own : ℕ) → shiftsLeft a s own ≤ 1) → (n : ℕ) (x : Sends) → codesLeft a s n x ≤ 2 * n
+  unfolding codesLeft
+  codes-few h zero x = omega arith
+  codes-few h (suc n) Nothing = omega arith
+  codes-few h (suc n) (Code own k) = let g = h own in omega arith
+
+-- an own code is one of them, and so is a shift code
+module _ (a : Alphabet) (s : Sender) where
+  pub codes-own : (own n : ℕ) → shiftWanted a s own ≡ 0 → (x : Sends) → codesLeft a (senderAfterOwn a s) n x ≤ 2 * n
+  codes-own own n w x = codes-few a (senderAfterOwn a s) (λ next. shifts-own a s own next w) n x
 
   pub codes-least : (n : ℕ) (x : Sends) → 1 ≤ n → 2 * (n - 1) + 1 ≤ codesLeft a s n x
   unfolding codesLeft
@@ -117,3 +123,12 @@ module _ (a : Alphabet) (s : Sender) where
   unfolding codesLeft
   codes-shift zero x t o h = absurd (omega arith)
   codes-shift (suc n) x t o h = omega arith
+
+  opening-runs : openingShift s ≡ 0 → ⊥
+  opening-runs =
+      either-by (λ (w : ℕ). w ≡ 0 → ⊥) (eqb (s .shift) 0) (λ e z. omega arith) (λ e. eqb-false (s .shift) 0 e)
+
+  pub codes-opened : (n : ℕ) (x : Sends) → codesLeft a (sender (openingShift s) 0) n x ≤ 2 * n
+  codes-opened =
+      let t = sender (openingShift s) 0 in
+      codes-few a t (λ own. shifts-1 a t own opening-runs)

@@ -1,5 +1,5 @@
 -- On a quiet line every station in range becomes idle: each ms lowers a number of ms, until it is 0.
-use mathlib.Core.Path.{_≡_, refl, sym, subst}
+use mathlib.Core.Path.{_≡_, refl}
 use mathlib.Core.Bool.{Bool, true, false, cond, not, _&&_, false≢true, or-true, and-false}
 use mathlib.Core.List.{List}
 use Prim.Native.Nat.{ℕ, zero, suc, _+_, _-_, _*_, _<_, _≤_}
@@ -20,17 +20,18 @@ use Rattle.alphabet.specs.Modes.{alphabetOf, codes, preambleOf, longest}
 use Rattle.alphabet.specs.Normal.{sends, isCode}
 use Rattle.alphabet.proofs.Ranges.{few-codes}
 use Rattle.baudot.specs.declared.Sender.{Sender}
-use Rattle.baudot.specs.Sending.{sender, shiftCode, shifted}
+use Rattle.baudot.specs.Sending.{sender, shiftCode}
 use Rattle.baudot.specs.code.Bounds.{SenderIn}
 use Rattle.signal.specs.Signal.{quiet, mark, signal}
 use Rattle.signal.proofs.Lengths.{within-longest}
 use Rattle.burst.specs.declared.OnLine.{OnLine}
 use Rattle.burst.specs.declared.Loaded.{Loaded}
-use Rattle.burst.specs.Rules.{freeMs, shiftWanted, senderAfterOwn, mayBegin, mayEnd, isInhibited, isSilent}
-use Rattle.burst.specs.Line.{onLine, further, inBurst, partMs, isOver, begun, loaded, codeBegins, nextCode, oneGone, closed}
+use Rattle.burst.specs.Rules.{freeMs, openingShift, shiftWanted, senderAfterOwn, mayBegin, mayEnd, isInhibited, isSilent}
+use Rattle.burst.specs.Line.{onLine, further, inBurst, partMs, isOver, begun, loaded, shiftBegins, codeBegins, isOpening, nextCode}
+use Rattle.burst.specs.Line.{oneGone, closed}
 use Rattle.burst.specs.code.Bounds.{LineIn, SendsIn}
 use Rattle.burst.proofs.Laws as line
-use Rattle.burst.proofs.Range.{LoadedIn, sends-in, begins-in, blank-in}
+use Rattle.burst.proofs.Range.{LoadedIn, sends-in, blank-in, next-in}
 use Rattle.half_duplex.specs.Core.{settled, coreFrom, waitingAfter, silenceAfter}
 use Rattle.queue.specs.Queue.{waits}
 use Rattle.station.specs.declared.Station.{Station}
@@ -38,7 +39,7 @@ use Rattle.station.specs.Station.{modeOfStation, alphabetOfStation, front, char
 use Rattle.station.specs.Range.{inRange}
 use Rattle.station.proofs.Range.{core-in, front-waits, char-in, ms-in, ms-full}
 use Rattle.station_theorems.specs.Idle.{isIdle, quietFor, idleWithin, BecomesIdle}
-use Rattle.station_theorems.proofs.CodesLeft.{codesLeft, aheadOf, shifts-less, codes-most, codes-own, codes-least, codes-shift}
+use Rattle.station_theorems.proofs.CodesLeft.{codesLeft, codesBehind, shifts-less, codes-most, codes-own, codes-least, codes-shift, codes-opened}
 
 -- ---- the ms until a station is idle, at most
 
@@ -48,7 +49,7 @@ msLeft mode l = length (partMs mode l) - l .at
 
 -- in a burst: those, and the longest code for each that is left; one more, for a part that is over
 abbrev burstMs : Mode → OnLine → Sender → ℕ → Sends → ℕ
-burstMs mode l s n x = 1 + msLeft mode l + codesLeft (alphabetOf mode) s n x * longest mode
+burstMs mode l s n x = 1 + msLeft mode l + codesBehind (alphabetOf mode) l s n x * longest mode
 
 -- in no burst: until the line is free, and then a whole burst; none if none waits
 abbrev idleMs : Mode → ℕ → ℕ → ℕ
@@ -74,13 +75,15 @@ module _ (mode : Mode) where
   code-ms k h = let f = few-codes (alphabetOf mode) in within-longest mode k (omega arith)
 
   -- the first ms of a code
-  code-begun : (k : ℕ) → k < codes (alphabetOf mode) → msLeft mode (oneGone mode (onLine 2 k 0)) + 1 ≤ longest mode
+  code-begun : (k : ℕ) → k < codes (alphabetOf mode) → (s : Sender) (n : ℕ) (x : Sends)
+      → burstMs mode (oneGone mode (onLine 2 k 0)) s n x
+      ≤ longest mode + codesLeft (alphabetOf mode) s n x * longest mode
   unfolding oneGone partMs
-  code-begun k h =
-      let n = code-ms k h in
+  code-begun k h s n x =
+      let m = code-ms k h in
       let o = some-ms mode in
-      let l = onLine 2 k 0 in
-      either-by (λ (q : OnLine). msLeft mode q + 1 ≤ longest mode) (ltb 0 (length (signal mode k)))
+      let most = longest mode + codesLeft (alphabetOf mode) s n x * longest mode in
+      either-by (λ (q : OnLine). burstMs mode q s n x ≤ most) (ltb 0 (length (signal mode k)))
       (λ e. let g = ltb-true 0 (length (signal mode k)) e in omega arith)
       (λ e. let g = ltb-false 0 (length (signal mode k)) e in omega arith)
 
@@ -94,8 +97,10 @@ module _ (mode : Mode) where
       → burstMs mode l s n x + 1 ≤ most → busyMs mode (closed mode (mayEnd n) l) s n silence x + 1 ≤ most
   unfolding closed mayEnd
   closed-busy most n silence l s x b o h =
-      either-by (λ (q : OnLine). busyMs mode q s n silence x + 1 ≤ most) (isOver mode l && eqb n 0)
-      (λ e. rw (and-right (isOver mode l) (eqb n 0) e) o)
+      let ends = isOver mode l && eqb n 0 in
+      let opened = not (isOpening (alphabetOf mode) l) in
+      either-by (λ (q : OnLine). busyMs mode q s n silence x + 1 ≤ most) (ends && opened)
+      (λ e. rw (and-right (isOver mode l) (eqb n 0) (and-left ends opened e)) o)
       (λ e. rw b h)
 
 -- ---- one ms of a burst
@@ -131,56 +136,67 @@ module _ (mode : Mode) (l : OnLine) (s : Sender) (n front : ℕ) (burst : inBurs
       rw (line.gone-one mode l h, same refl)
       (closed-busy mode (burstMs mode l s n x) n silence (further l 1) s x burst (omega arith) (omega arith))
 
-  -- the part is over, and none waits
-  stops : isOver mode l ≡ true → n ≡ 0 → Lowers (loaded l s false)
-  unfolding closed mayEnd
-  stops e z silence y same = rw (line.gone-none mode l (over-at e), e, z) (omega arith)
-
   -- a code begins
-  code-lowers : (k m silence : ℕ) (t : Sender) (y : Sends) → k < codes a → codesLeft a t m y + 1 ≤ codesLeft a s n x
+  code-lowers : (k m silence : ℕ) (t : Sender) (y : Sends) → k < codes a
+      → codesLeft a t m y + 1 ≤ codesBehind a l s n x
       → busyMs mode (closed mode (mayEnd m) (oneGone mode (onLine 2 k 0))) t m silence y + 1 ≤ burstMs mode l s n x
   code-lowers k m silence t y h c =
-      let g = code-begun mode k h in
-      let d = one-more (codesLeft a t m y) (codesLeft a s n x) (longest mode) c in
+      let g = code-begun mode k h t m y in
+      let d = one-more (codesLeft a t m y) (codesBehind a l s n x) (longest mode) c in
       closed-busy mode (burstMs mode l s n x) m silence (oneGone mode (onLine 2 k 0)) t y (code-bursts mode k)
       (omega arith) (omega arith)
 
-  own-lowers : (own k : ℕ) → 1 ≤ n → shiftWanted a s own ≡ 0 → k < codes a
-      → Lowers (loaded (onLine 2 k 0) (senderAfterOwn a s) true)
-  own-lowers own k o z h silence y same =
-      let b = codes-own a s own (n - 1) z y in
-      let c = codes-least a s n x o in
-      code-lowers k (n - 1) silence (senderAfterOwn a s) y h (omega arith)
+  shift-lowers : (v : ℕ) → shiftCode v < codes a → codesLeft a (sender v 0) n x + 1 ≤ codesBehind a l s n x
+      → Lowers (shiftBegins v)
+  shift-lowers v h c silence y same = rw (same refl) (code-lowers (shiftCode v) n silence (sender v 0) x h c)
 
-  shift-lowers : (k : ℕ) (t : Sender) → 1 ≤ n → aheadOf a t x + 1 ≤ aheadOf a s x → k < codes a
-      → Lowers (loaded (onLine 2 k 0) t false)
-  shift-lowers k t o f h silence y same =
-      rw (same refl) (code-lowers k n silence t x h (codes-shift a s n x t o f))
+  -- the shift code that opens the burst
+  opens : isOpening a l ≡ true → LoadedIn mode (shiftBegins (openingShift s)) → Lowers (shiftBegins (openingShift s))
+  opens o d =
+      let c = codes-opened a s n x in
+      shift-lowers (openingShift s) (d .line-in .code-in) (rw o (omega arith))
 
-  begins : (z : Sends) → x ≡ z → isCode z ≡ true → SendsIn a z → 1 ≤ n → Lowers (codeBegins a l s z)
-  unfolding codeBegins
-  begins Nothing e c h o = absurd (false≢true c)
-  begins (Code own k) e c h o =
-      let v = shiftWanted a s own in
-      either-by (λ (q : Loaded). LoadedIn mode q → Lowers q) (eqb v 0)
-      (λ f d. own-lowers own (k .0) o (eqb-true v 0 f) (d .line-in .code-in))
-      (λ f d. shift-lowers (shiftCode v) (shifted s v) o
-      (rw e (shifts-less s own (h .own-low) (h .own-in) j a (eqb-false v 0 f))) (d .line-in .code-in))
-      (begins-in mode l s i j (Code own k) h)
+  module _ (opened : isOpening a l ≡ false) where
+    -- the part is over, and none waits
+    stops : isOver mode l ≡ true → n ≡ 0 → Lowers (loaded l s false)
+    unfolding closed mayEnd
+    stops e z silence y same = rw (line.gone-none mode l (over-at e), e, opened, z) (omega arith)
+
+    own-lowers : (own k : ℕ) → 1 ≤ n → shiftWanted a s own ≡ 0 → k < codes a
+        → Lowers (loaded (onLine 2 k 0) (senderAfterOwn a s) true)
+    own-lowers own k o z h silence y same =
+        let b = codes-own a s own (n - 1) z y in
+        let c = codes-least a s n x o in
+        code-lowers k (n - 1) silence (senderAfterOwn a s) y h (rw opened (omega arith))
+
+    begins : (z : Sends) → x ≡ z → isCode z ≡ true → SendsIn a z → 1 ≤ n
+        → LoadedIn mode (codeBegins a l s z) → Lowers (codeBegins a l s z)
+    unfolding codeBegins
+    begins Nothing e c h o = absurd (false≢true c)
+    begins (Code own k) e c h o =
+        let v = shiftWanted a s own in
+        either-by (λ (q : Loaded). LoadedIn mode q → Lowers q) (eqb v 0)
+        (λ f d. own-lowers own (k .0) o (eqb-true v 0 f) (d .line-in .code-in))
+        (λ f d.
+        let g = shifts-less s own (h .own-low) (h .own-in) j a (eqb-false v 0 f) in
+        shift-lowers v (d .line-in .code-in) (rw opened (codes-shift a s n x (sender v 0) o (rw e g))))
+
+    front-begins : 1 ≤ n → LoadedIn mode (codeBegins a l s x) → Lowers (codeBegins a l s x)
+    front-begins o =
+        let q = w o in
+        begins x refl (and-right (leb front 0x7f) (isCode x) q) (sends-in a front (char-in a front q)) o
 
   burst-lowers : Lowers (nextCode mode n front l s)
+  unfolding nextCode
   burst-lowers =
-      by-test (isOver mode l)
-      (λ e. by-test (eqb n 0)
-      (λ z. subst Lowers (sym (line.none-waits mode n front l s (eqb-true n 0 z))) (stops e (eqb-true n 0 z)))
-      (λ z.
-      let p = eqb-false n 0 z in
-      let o : 1 ≤ n = omega (arith, p) in
-      let q = w o in
-      let b = isCode x in
-      subst Lowers (sym (line.code-next mode n front l s p e))
-      (begins x refl (and-right (leb front 0x7f) b q) (sends-in a front (char-in a front q)) o)))
-      (λ e. subst Lowers (sym (line.not-over mode n front l s e)) (goes-on e))
+      let P : Loaded → Type 0 = λ q. LoadedIn mode q → Lowers q in
+      either-by P (isOver mode l)
+      (λ e. either-by P (isOpening a l) opens
+      (λ o. either-by P (ltb 0 n)
+      (λ z. let g = ltb-true 0 n z in front-begins o (omega arith))
+      (λ z d. let g = ltb-false 0 n z in stops o e (omega arith))))
+      (λ e d. goes-on e)
+      (next-in mode l s i j n front (λ o. char-in a front (w o)))
 
 -- ---- one ms of a station
 
@@ -251,7 +267,7 @@ module _ (s : Station) (full : length (s .chars) ≡ 256) (i : inRange s ≡ tru
   begins-lower : inBurst l ≡ false → (n ≡ 0 → ⊥) → From (onLine 1 0 0)
   unfolding partMs
   begins-lower b z =
-      let c = codes-most (alphabetOf mode) (s .core .sender) n fronts in
+      let c = codes-most (alphabetOf mode) (s .core .sender) (onLine 1 0 0) n fronts in
       let d = mul-le-mul-right (longest mode) c in
       let p = length-replicate (preambleOf mode) mark in
       in-burst (onLine 1 0 0) refl (blank-in mode 1 (omega arith)) (rw (b, ne-eqb n 0 z) (omega arith))
@@ -329,8 +345,8 @@ within s i =
     let c = core-in s i in
     let n = s .core .waiting in
     let x = sends (alphabetOfStation s) (front s) in
-    let most = codes-most (alphabetOfStation s) (s .core .sender) n x in
-    let k = codesLeft (alphabetOfStation s) (s .core .sender) n x in
+    let most = codes-most (alphabetOfStation s) (s .core .sender) (s .core .line) n x in
+    let k = codesBehind (alphabetOfStation s) (s .core .line) (s .core .sender) n x in
     let d = one-more k (2 + 2 * n) (longest mode) (omega arith) in
     let e = one-more (2 * n + 1) (2 + 2 * n) (longest mode) (omega arith) in
     let p = part-ms mode (s .core .line) (c .line-in) in

@@ -22,7 +22,8 @@ abbrev pub quietFor : ℕ → List ℕ
 quietFor n = replicate n quiet
 
 -- It becomes idle within the 300 ms after which the line is free, a preamble, and the longest code for each of these:
--- the code on the line, a fresh sender's shift code, and for each that waits a shift code and its own.
+-- the code on the line; the shift code that opens the burst (or, in a station that no list of calls gives, a fresh
+-- sender's in the middle of one); and for each that waits a shift code and its own.
 abbrev pub idleWithin : Station → ℕ
 idleWithin s =
     let mode = modeOfStation s in
