@@ -2,8 +2,9 @@
  * A call from C: two stations on one line, the caller's set and the relay operator's. First the line is spoiled
  * in both directions, while the caller types already; the caller's station keeps that text until the line has
  * been free for 300 ms. From then on each side reads what the other types, in turns. In DTMF the first character
- * may still be another one, since a * or # that was heard in the noise stands ahead of the first digit.
- * examples/call.out is what it prints for all modes.
+ * may still be another one, since a * or # that was heard in the noise stands ahead of the first digit. Ahead of the
+ * third turn both sides hear a number from another line. In Baudot both are then in figures; the next burst opens
+ * with its shift code, so that it is read right all the same. examples/call.out is what it prints for all modes.
  *
  *     make lib
  *     gcc -std=c99 -Iinclude examples/call.c target/staticlib/libcuyrapaq.a -o target/call
@@ -21,6 +22,9 @@
 #define FIRST_KEY 500    /* the ms at which the caller begins to type */
 #define KEY 100          /* ms from one typed character to the next: as fast as the fastest mode sends */
 #define PAUSE 1000       /* ms of quiet after which the other side answers, and after which a text is shown */
+#define STRANGER "73"    /* what both sides hear from another line */
+#define STRANGER_TURN 2  /* the turn that it comes ahead of, from 0 on */
+#define CROSSTALK 1000   /* ms for which the other line is heard: enough for this text in every mode */
 #define KEY_GAP 50       /* quiet ms between two keys of a burst in DTMF */
 #define LONGEST 1000     /* characters of one turn */
 #define SHOWN 60         /* signs that fill a line of output */
@@ -33,8 +37,8 @@ struct mode {
 };
 
 static const struct mode modes[] = {
-    {"baudot45", CQ_MODE_BAUDOT_45, "Baudot at 45.45 bit/s", "from the first shift code on"},
-    {"baudot50", CQ_MODE_BAUDOT_50, "Baudot at 50 bit/s", "from the first shift code on"},
+    {"baudot45", CQ_MODE_BAUDOT_45, "Baudot at 45.45 bit/s", "from the first code of a burst on"},
+    {"baudot50", CQ_MODE_BAUDOT_50, "Baudot at 50 bit/s", "from the first code of a burst on"},
     {"dtmf", CQ_MODE_DTMF, "DTMF", "after the first digit: a * or # that noise left belongs to it"},
     {"edt", CQ_MODE_EDT, "EDT", "from the first character on"},
 };
@@ -62,18 +66,19 @@ static unsigned below(struct random *random, unsigned limit)
     return (unsigned)(x >> 8) % limit;
 }
 
-/* One direction of a spoiled line: stretches of noise, of half codes and of a held level or key. */
-enum stretch { NOISE, HALF_CODE, HELD, STRETCHES };
+/* One direction of a spoiled line: stretches of noise, of a stranger's codes and of a held level or key. */
+enum stretch { NOISE, CODES, HELD, STRETCHES };
 
 #define STRANGER_MS 400 /* the most ms of a stranger's burst that are not heard */
 
 struct spoiler {
     struct random random;
     uint8_t mode;
+    long until; /* the ms up to which the line is spoiled */
     enum stretch stretch;
     unsigned left; /* ms of it */
     uint8_t level;
-    cq_station stranger; /* whose codes are cut */
+    cq_station stranger;
 };
 
 static uint8_t any_level(struct spoiler *s)
@@ -91,21 +96,35 @@ static uint8_t stranger_runs(struct spoiler *s, size_t ms)
     return ran.answer == CQ_OK && ms > 0 ? sent[ms - 1] : CQ_LEVEL_QUIET;
 }
 
+static void stranger_types(struct spoiler *s, const char *text, size_t length)
+{
+    cq_station_open(&s->stranger, s->mode);
+    cq_station_offer(&s->stranger, (const uint8_t *)text, length);
+}
+
 static void next_stretch(struct spoiler *s)
 {
     s->stretch = (enum stretch)below(&s->random, STRETCHES);
     s->left = 40 + below(&s->random, 250);
     s->level = any_level(s);
-    if (s->stretch == HALF_CODE) {
-        uint8_t text[3];
+    if (s->stretch == CODES) {
+        char text[3];
         size_t i;
         for (i = 0; i < sizeof text; i++) {
-            text[i] = (uint8_t)(' ' + below(&s->random, 95));
+            text[i] = (char)(' ' + below(&s->random, 95));
         }
-        cq_station_open(&s->stranger, s->mode);
-        cq_station_offer(&s->stranger, text, sizeof text);
+        stranger_types(s, text, sizeof text);
         stranger_runs(s, 1 + below(&s->random, STRANGER_MS)); /* its burst is heard from somewhere on */
     }
+}
+
+/* A stranger's burst is heard, and the whole of it, from a ms on. */
+static void cross(struct spoiler *s, long ms)
+{
+    s->stretch = CODES;
+    s->left = CROSSTALK;
+    s->until = ms + CROSSTALK;
+    stranger_types(s, STRANGER, strlen(STRANGER));
 }
 
 static uint8_t spoiled_ms(struct spoiler *s)
@@ -114,7 +133,7 @@ static uint8_t spoiled_ms(struct spoiler *s)
         next_stretch(s);
     }
     s->left--;
-    if (s->stretch == HALF_CODE) {
+    if (s->stretch == CODES) {
         return stranger_runs(s, 1);
     }
     if (s->stretch == NOISE && below(&s->random, 12) == 0) {
@@ -217,7 +236,7 @@ static int run(struct side *side, long ms)
 {
     cq_station_ran ran;
     size_t i;
-    if (ms < SPOILED) {
+    if (ms < side->spoiler.until) {
         for (i = 0; i < RUN; i++) {
             side->heard[i] = spoiled_ms(&side->spoiler);
         }
@@ -270,16 +289,31 @@ static int type(struct turns *turns, struct side *side, long ms)
     return 0;
 }
 
-/* The turn goes to the other side when all is typed and sent and the line has been quiet for PAUSE. */
-static void pass_turn(struct turns *turns, const struct side *side, long ms)
+/* The turn goes to the other side when all is typed and sent and the line has been quiet for PAUSE. Gives back whether
+ * it does. */
+static int pass_turn(struct turns *turns, const struct side *side, long ms)
 {
     int typed = turns->texts[turns->turn][turns->at] == '\0';
     int sent = side->station.core.waiting == 0 && ms - side->last_sent >= PAUSE;
-    if (typed && sent && ms >= turns->next + PAUSE) {
-        turns->turn++;
-        turns->at = 0;
-        turns->next = ms;
+    if (!typed || !sent || ms < turns->next + PAUSE) {
+        return 0;
     }
+    turns->turn++;
+    turns->at = 0;
+    turns->next = ms;
+    return 1;
+}
+
+/* Both sides hear another line from a ms on. The next turn waits until they have shown what they read. */
+static void hear_stranger(struct turns *turns, struct side sides[2], long ms)
+{
+    int i;
+    for (i = 0; i < 2; i++) {
+        show_text(&sides[i], &sides[i].read);
+        cross(&sides[i].spoiler, ms);
+    }
+    printf("%7ld %7ld  both hear %s from another line\n", ms, ms + CROSSTALK, STRANGER);
+    turns->next = ms + CROSSTALK + PAUSE;
 }
 
 static void sit_down(struct side *side, const char *name, uint8_t mode, uint32_t seed)
@@ -289,6 +323,7 @@ static void sit_down(struct side *side, const char *name, uint8_t mode, uint32_t
     cq_station_open(&side->station, mode);
     side->spoiler.random.state = seed;
     side->spoiler.mode = mode;
+    side->spoiler.until = SPOILED;
     side->typed.verb = "types";
     side->read.verb = "reads";
     side->burst = -1;
@@ -327,7 +362,9 @@ static int call(const struct mode *mode, const char *const *texts, size_t count)
         }
         memcpy(sides[0].heard, sides[1].sent, RUN);
         memcpy(sides[1].heard, sides[0].sent, RUN);
-        pass_turn(&turns, speaker, ms);
+        if (pass_turn(&turns, speaker, ms) && turns.turn == STRANGER_TURN && turns.turn < turns.count) {
+            hear_stranger(&turns, sides, ms + RUN);
+        }
     }
     for (i = 0; i < 2; i++) {
         show_text(&sides[i], &sides[i].read);

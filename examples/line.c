@@ -19,7 +19,7 @@
 
 #define LONGEST 1000         /* characters of a text */
 #define MOST_SENT 500000     /* ms of a burst: above 1,000 characters of 480 ms in DTMF, of 330 in Baudot */
-#define MOST_PIECES 2002     /* preamble, and two codes for each character */
+#define MOST_PIECES 2002     /* preamble, the shift code behind it, and two codes for each character */
 #define MOST_RUN 1000000     /* ms of one line of input */
 #define MOST_HEARD 10000000  /* ms of the whole input */
 #define MOST_DRAWN 20000     /* ms of a picture */

@@ -1,7 +1,7 @@
 /*
  * Calls all entries through the header: the worked examples, the calling set's timetable, pause and
- * choice, a station that sends to another, every refusal and what it leaves, empty slices, slices that
- * fit exactly, and the bytes around the result. Prints what failed.
+ * choice, a station that sends to another, several bursts, every refusal and what it leaves, empty slices,
+ * slices that fit exactly, and the bytes around the result. Prints what failed.
  */
 #include "cuyrapaq.h"
 
@@ -620,6 +620,52 @@ static void station_examples(void)
     check(runs("key A", &station, heard, 100) == 1 && CQ_WORD_KIND(word_slice[0]) == CQ_WORD_FAULT, "a fault", "DTMF");
 }
 
+/* Whether the ms of `slice` from `*at` on are a Baudot code, in elements of `e` ms; moves behind them. */
+static int code_for(size_t *at, uint8_t code, size_t e)
+{
+    int bit, all = level_for(at, CQ_LEVEL_SPACE, e);
+    for (bit = 0; bit < 5; bit++) {
+        all = level_for(at, code >> bit & 1 ? CQ_LEVEL_MARK : CQ_LEVEL_SPACE, e) && all;
+    }
+    return level_for(at, CQ_LEVEL_MARK, 3 * e / 2) && all;
+}
+
+/* Bursts of one character, one after the other, and the codes of each in Baudot. */
+static const struct {
+    const char *text, *codes;
+} bursts_sent[] = {
+    {"1", "11111 11011 10111"}, /* fresh */
+    {"1", "11011 10111"},       /* the shift in force */
+    {" ", "11011 00100"},
+    {"A", "11011 11111 00011"}, /* and then the other one */
+    {"A", "11111 00011"},
+    {"1", "11111 11011 10111"},
+};
+
+/* Each Baudot burst opens with the shift in force, so that a station opened between two bursts reads the next one. */
+static void bursts(uint8_t mode, size_t e)
+{
+    static uint8_t quiet[1000], line[1000];
+    cq_station sender = opened(mode);
+    size_t i;
+    for (i = 0; i < sizeof bursts_sent / sizeof bursts_sent[0]; i++) {
+        const char *text = bursts_sent[i].text;
+        uint8_t codes[4];
+        size_t at = 0, n, count = codes_of(bursts_sent[i].codes, codes);
+        size_t ms = 150 + count * (6 * e + 3 * e / 2);
+        cq_station reader = opened(mode);
+        offers("bursts", &sender, text, 1, 1);
+        check(runs("bursts", &sender, quiet, ms) == 0 && sender.core.waiting == 0, "a burst", text);
+        check(level_for(&at, CQ_LEVEL_MARK, 150), "preamble", text);
+        for (n = 0; n < count; n++) {
+            check(code_for(&at, codes[n], e), "code of a burst", text);
+        }
+        memcpy(line, slice, ms);
+        check(runs("bursts", &reader, line, ms) == 1 && word_slice[0] == (uint8_t)text[0], "what is read", text);
+        check(runs("bursts", &sender, quiet, 1) == 0 && slice[0] == CQ_LEVEL_QUIET, "the burst ends", text);
+    }
+}
+
 /* A text goes from one station to another, in calls of `cut` ms, while each hears what the other sends. */
 static void conversation(uint8_t mode, size_t cut)
 {
@@ -705,6 +751,8 @@ int main(void)
     whole_and_cut();
     calling();
     station_examples();
+    bursts(CQ_MODE_BAUDOT_45, 22);
+    bursts(CQ_MODE_BAUDOT_50, 20);
     for (mode = CQ_MODE_BAUDOT_45; mode <= CQ_MODE_EDT; mode++) {
         conversation(mode, 1);
         conversation(mode, 20);

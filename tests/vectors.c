@@ -134,13 +134,59 @@ static uint8_t five_bits(const char *code)
     return (uint8_t)strtoul(code, NULL, 2);
 }
 
-/* The bare conversion sends these codes, character by character, and reads the words from them. */
+#define PREAMBLE 150 /* ms in Baudot */
+
+/* The code of a frame that begins at a ms, in elements of `e` ms. */
+static uint8_t frame_at(size_t ms, size_t e)
+{
+    uint8_t code = 0;
+    size_t digit;
+    for (digit = 0; digit < 5; digit++) {
+        size_t sample = ms + e * (digit + 1) + e / 2;
+        code |= (uint8_t)((sample < vector.ms && vector.level[sample] == CQ_LEVEL_MARK) << digit);
+    }
+    return code;
+}
+
+/* In Baudot the codes are the frames of the line. Notes which of them stand behind a preamble. */
+static void has_frames(char opens[MOST_ITEMS])
+{
+    size_t e = mode == CQ_MODE_BAUDOT_45 ? 22 : 20, at = 0, ms = 0;
+    memset(opens, 0, MOST_ITEMS);
+    while (ms < vector.ms) {
+        if (vector.level[ms] == CQ_LEVEL_QUIET) {
+            ms++;
+        } else if (vector.level[ms] == CQ_LEVEL_MARK) {
+            ms += PREAMBLE;
+            check(at < vector.codes, "a preamble without a code", ms);
+            opens[at % MOST_ITEMS] = 1;
+        } else {
+            check(at < vector.codes && five_bits(vector.code[at]) == frame_at(ms, e), "code in the line", ms);
+            ms += 6 * e + 3 * e / 2;
+            at++;
+        }
+    }
+    check(at == vector.codes, "number of codes in the line", at);
+}
+
+/* A burst opens with the shift in force, or with letters if the sender is fresh. The other codes are those of the
+ * bare conversion, character by character; it reads the words from all of them. */
 static void converts(void)
 {
+    static char opens[MOST_ITEMS];
     uint8_t shift = CQ_SHIFT_FRESH, count = 0, codes[CQ_BAUDOT_CODES_MAX(1)], text;
     size_t i, j, at = 0;
+    if (vector.sends || vector.codes > 0) {
+        has_frames(opens);
+    }
     for (i = 0; i < vector.offers; i++) {
-        cq_baudot_sent sent = cq_baudot_send(&vector.offer[i].character, 1, shift, count, codes, sizeof codes);
+        cq_baudot_sent sent;
+        if (at < vector.codes && opens[at]) {
+            shift = shift == CQ_SHIFT_FIGURES ? CQ_SHIFT_FIGURES : CQ_SHIFT_LETTERS;
+            check(five_bits(vector.code[at++]) == (shift == CQ_SHIFT_LETTERS ? 31 : 27), "first code of a burst", i);
+            count = 0;
+        }
+        sent = cq_baudot_send(&vector.offer[i].character, 1, shift, count, codes, sizeof codes);
         check(sent.answer == CQ_OK, "cq_baudot_send", i);
         for (j = 0; j < sent.length; j++, at++) {
             check(at < vector.codes && five_bits(vector.code[at]) == codes[j], "code", at);

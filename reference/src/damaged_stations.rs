@@ -376,7 +376,7 @@ fn ran(random: &mut Random, station: &Station) -> bool {
         && words[..count].iter().all(good_word)
         && words[count..].iter().all(|&word| word == 9)
         && play(random.below(ms + 1)) == (answers, after, sent, words, count)
-        && as_reference(mode, station, heard)
+        && as_reference(station, heard)
         && after.offer(b"") == SUCCESS
         && (after.core.waiting >= 256 || after.offer(b"e") == SUCCESS)
         && in_range(&after)
@@ -384,32 +384,44 @@ fn ran(random: &mut Random, station: &Station) -> bool {
             || after.core.reader.shift == station.core.reader.shift)
 }
 
-/// Does the station, with a fresh reader, go as the reference does from the same numbers? On a quiet
-/// line with few waiting it must come to rest, too.
-fn as_reference(mode: Mode, station: &Station, heard: &[u8]) -> bool {
+/// The reference's station with the numbers of one that is in range, and with a fresh reader.
+pub fn reference_of(station: &Station) -> reference::station::Station {
     let (core, line) = (&station.core, &station.core.line);
-    let Some(part) = part_of(mode, line.part, line.code) else {
-        return false;
-    };
-    let mut engine = *station;
-    engine.core.reader = Station::open(core.mode).1.core.reader;
-    let mut reference = reference::station::Station::forged(
+    let mode = Mode::from_number(core.mode).expect("a mode");
+    reference::station::Station::forged(
         mode,
         [core.silence, core.inhibited],
         [core.sender.shift, core.sender.count],
-        &part,
+        &part_of(mode, line.part, line.code).expect("a part"),
         line.at,
         &station.chars[..usize::from(core.waiting)],
-    );
+    )
+}
+
+/// Do both have as many waiting, and are both in a burst or have the same silence and inhibited ms,
+/// shift and count?
+pub fn agree(engine: &Station, reference: &reference::station::Station) -> bool {
+    let core = &engine.core;
+    let between = (core.line.part == 0)
+        .then_some(([core.silence, core.inhibited], [core.sender.shift, core.sender.count]));
+    usize::from(core.waiting) == reference.waiting() && between == reference.between_bursts()
+}
+
+/// Does the station, with a fresh reader, go as the reference does from the same numbers? On a quiet
+/// line with few waiting it must come to rest, too.
+fn as_reference(station: &Station, heard: &[u8]) -> bool {
+    let mut engine = *station;
+    engine.core.reader = Station::open(station.core.mode).1.core.reader;
+    let mut reference = reference_of(station);
     let mut alike = |heard: &[u8]| {
         let (mut sent, mut words) = ([[9; MOST_MS]; 2], [[9; MOST_MS]; 2]);
         engine.run(heard, &mut sent[0], &mut words[0])
             == reference.run(heard, &mut sent[1], &mut words[1])
             && sent[0] == sent[1]
             && words[0] == words[1]
-            && usize::from(engine.core.waiting) == reference.waiting()
+            && agree(&engine, &reference)
     };
     alike(heard)
-        && (core.waiting > 3
+        && (station.core.waiting > 3
             || alike(&[QUIET; MOST_MS]) && engine.core.waiting == 0 && engine.core.line.part == 0)
 }

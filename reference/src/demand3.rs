@@ -179,12 +179,11 @@ pub struct Checked {
     pub before: usize,
 }
 
-/// The most characters that may precede that point.
+/// The most characters that may precede that point. In Baudot none: document 02, request 101.
 fn bound(mode: Mode) -> usize {
     match mode {
-        Mode::Baudot45 | Mode::Baudot50 => 72,
+        Mode::Baudot45 | Mode::Baudot50 | Mode::Edt => 0,
         Mode::Dtmf => 1,
-        Mode::Edt => 0,
     }
 }
 
@@ -220,10 +219,9 @@ pub fn check<S: Entries>(a: &Log<S>, b: &Log<S>, idle: usize) -> Result<Option<C
             found.extend(heard.word);
         } else {
             checked.before += usize::from(said.taken.is_some());
-            synchronized = match a.mode {
-                Mode::Dtmf => said.ended == Some(Part::OwnCode),
-                _ => said.ended == Some(Part::ShiftCode),
-            };
+            // The first code behind the idle period: in Baudot of whatever kind, in DTMF one with a
+            // digit, as all are. It is of the first burst, since A was in none.
+            synchronized = said.ended.is_some_and(|part| part != Part::Preamble);
         }
         if checked.before > bound(a.mode) {
             return Err(format!("ms {now}: {} characters and not synchronized", checked.before));
@@ -247,10 +245,11 @@ pub fn check<S: Entries>(a: &Log<S>, b: &Log<S>, idle: usize) -> Result<Option<C
 mod tests {
     use super::*;
 
-    /// A takes one character, is idle, and takes more; B is opened at the first of the 40 ms.
-    fn after_one(mode: Mode, more: &[u8]) -> Checked {
+    /// A sends a text, is idle, and sends more; B is opened at the first of the 40 ms. Gives back
+    /// both and the start of the idle period.
+    fn two_bursts(mode: Mode, text: &[u8], more: &[u8]) -> (Log<Station>, Log<Station>, usize) {
         let mut a = Log::<Station>::open(mode, 7);
-        a.offer(b"E").unwrap();
+        a.offer(text).unwrap();
         a.run(&[QUIET]).unwrap();
         a.run(&vec![QUIET; a.burst_left()]).unwrap();
         let idle = a.now();
@@ -264,26 +263,69 @@ mod tests {
         let mut b = Log::<Station>::open(mode, idle + IDLE - CLEAR);
         let heard: Vec<u8> = (b.opened..a.now()).map(|ms| a.at(ms).unwrap().sent).collect();
         heard.chunks(1000).for_each(|heard| b.run(heard).unwrap());
-        check(&a, &b, idle).unwrap().unwrap()
+        (a, b, idle)
     }
 
     #[test]
     fn each_mode_reads_a_text() {
         for mode in Mode::ALL {
-            // In Baudot the shift code comes with the 5, in DTMF the T is lost.
-            let checked = after_one(mode, b"TOO 599 GA");
-            let before = [4, 4, 1, 0][usize::from(mode.number()) - 1];
-            assert_eq!(checked.before, before);
-            assert_eq!(checked.read, 10 - before);
-            assert_eq!(checked.compared, 10);
+            for text in [&b"E"[..], b"3"] {
+                // In DTMF the T is lost.
+                let (a, b, idle) = two_bursts(mode, text, b"TOO 599 GA");
+                let checked = check(&a, &b, idle).unwrap().unwrap();
+                let before = [0, 0, 1, 0][usize::from(mode.number()) - 1];
+                assert_eq!(checked.before, before);
+                assert_eq!(checked.read, 10 - before);
+                assert_eq!(checked.compared, 10);
+            }
         }
     }
 
     #[test]
-    fn at_worst_71_characters_come_first() {
-        // A shift code never ends a burst, so one of the 72 came before.
-        let checked = after_one(Mode::Baudot45, &[b'E'; 80]);
-        assert_eq!((checked.before, checked.read), (71, 9));
+    fn none_of_many_characters_comes_first() {
+        for mode in [Mode::Baudot45, Mode::Baudot50] {
+            let (a, b, idle) = two_bursts(mode, b"3", &[b'5'; 80]);
+            let checked = check(&a, &b, idle).unwrap().unwrap();
+            assert_eq!((checked.before, checked.read), (0, 80));
+        }
+    }
+
+    /// The ms of a log that belong to the first code behind a ms.
+    fn first_code(log: &Log<Station>, from: usize) -> std::ops::Range<usize> {
+        let ended = |part: &dyn Fn(Part) -> bool| {
+            let ended = |ms: &Ms| ms.ended.is_some_and(part);
+            from - log.opened + log.ms[from - log.opened..].iter().position(ended).unwrap()
+        };
+        ended(&|part| part == Part::Preamble) + 1..ended(&|part| part != Part::Preamble) + 1
+    }
+
+    #[test]
+    fn a_burst_that_does_not_open_with_a_shift_code_is_noticed() {
+        for mode in [Mode::Baudot45, Mode::Baudot50] {
+            for (text, more) in [(b"E", b"E"), (b"3", b"3"), (b"3", b" ")] {
+                // The code is cut out of what A sends, of what its model says and of what B hears.
+                let (mut a, mut b, idle) = two_bursts(mode, text, more);
+                let code = first_code(&a, idle);
+                assert_eq!(code.len(), mode.code_length());
+                let late = b.opened - a.opened;
+                a.ms.drain(code.clone());
+                b.ms.drain(code.start - late..code.end - late);
+                let error = check(&a, &b, idle).unwrap_err();
+                assert!(error.ends_with("1 characters and not synchronized"), "{error}");
+            }
+        }
+    }
+
+    #[test]
+    fn a_character_in_the_other_shift_is_noticed() {
+        for mode in [Mode::Baudot45, Mode::Baudot50] {
+            // B reads 5 as T: it has missed the code.
+            let (a, mut b, idle) = two_bursts(mode, b"3", b"5");
+            let word = b.ms.iter_mut().find_map(|ms| ms.word.as_mut()).unwrap();
+            assert_eq!(std::mem::replace(word, u32::from(b'T')), u32::from(b'5'));
+            let error = check(&a, &b, idle).unwrap_err();
+            assert!(error.ends_with("wanted [35], found [54]"), "{error}");
+        }
     }
 
     #[test]

@@ -391,6 +391,7 @@ mod tests {
             let summary = check_lists::<Station>(mode, 3, MS).unwrap();
             assert!(summary.idle > 300 && summary.read > 2000, "{summary:?}");
             assert!(summary.compared > 100_000 && summary.just_inhibited > 5, "{summary:?}");
+            assert_eq!(summary.most_before, usize::from(mode == Mode::Dtmf));
         }
     }
 
@@ -401,6 +402,8 @@ mod tests {
         NeverReads,
         ReadsInTheFirstCall,
         ReadsTheSameAlways,
+        /// From the second burst on, the code behind the preamble is left out.
+        OpensOnce,
     }
 
     thread_local! {
@@ -410,13 +413,18 @@ mod tests {
     #[derive(Clone, PartialEq)]
     struct Wrong {
         station: Station,
+        mode: Mode,
         fault: Fault,
         called: bool,
+        /// The ms of the burst that are sent, and whether it is the first.
+        burst: usize,
+        first: bool,
     }
 
     impl Entries for Wrong {
         fn open(mode: Mode) -> Wrong {
-            Wrong { station: Station::fresh(mode), fault: FAULT.get(), called: false }
+            let (station, fault) = (Station::fresh(mode), FAULT.get());
+            Wrong { station, mode, fault, called: false, burst: 0, first: true }
         }
 
         fn offer(&mut self, text: &[u8]) -> u8 {
@@ -427,7 +435,12 @@ mod tests {
         }
 
         fn run(&mut self, heard: &[u8], sent: &mut [u8], words: &mut [u32]) -> Ran {
+            let before = self.station;
             let mut ran = self.station.run(heard, sent, words);
+            if self.fault == Fault::OpensOnce && ran.answer == SUCCESS {
+                self.station = before;
+                ran.words = self.run_opening_once(heard, sent, words);
+            }
             match self.fault {
                 Fault::NeverReads => ran.words = 0,
                 Fault::ReadsInTheFirstCall if self.called => ran.words = 0,
@@ -436,6 +449,26 @@ mod tests {
             }
             self.called |= ran.answer == SUCCESS && !heard.is_empty();
             ran
+        }
+    }
+
+    impl Wrong {
+        /// Runs ms by ms. Behind a preamble a code goes by unseen.
+        fn run_opening_once(&mut self, heard: &[u8], sent: &mut [u8], words: &mut [u32]) -> usize {
+            let mut count = 0;
+            for (&level, sent) in heard.iter().zip(sent) {
+                let mut now = [0];
+                count += self.station.run(&[level], &mut now, &mut words[count..]).words;
+                [*sent] = now;
+                self.burst = if *sent == QUIET { 0 } else { self.burst + 1 };
+                if self.burst == usize::from(self.mode.preamble()) {
+                    let unseen = if self.first { 0 } else { self.mode.code_length() };
+                    let (mut levels, mut none) = (vec![0; unseen], vec![0; unseen]);
+                    self.station.run(&vec![QUIET; unseen], &mut levels, &mut none);
+                    self.first = false;
+                }
+            }
+            count
         }
     }
 
@@ -451,6 +484,15 @@ mod tests {
             for mode in Mode::ALL {
                 assert!(check_lists::<Wrong>(mode, 3, MS).is_err(), "{mode:?} {fault:?}");
             }
+        }
+    }
+
+    #[test]
+    fn a_station_that_opens_one_burst_alone_with_a_shift_code_is_found_out() {
+        FAULT.set(Fault::OpensOnce);
+        for mode in [Mode::Baudot45, Mode::Baudot50] {
+            let error = check_lists::<Wrong>(mode, 3, MS).unwrap_err();
+            assert!(error.contains("by the model"), "{error}");
         }
     }
 }

@@ -1,7 +1,7 @@
 //! Codes and their line signal: the level of each ms. Levels are 0 quiet, 1 mark, 2 space; in
 //! DTMF 0 quiet or the number of a key.
 
-use crate::annex::dtmf_sends;
+use crate::annex::{dtmf_sends, FIGURES_CODE, LETTERS, LETTERS_CODE};
 use crate::answer::SUCCESS;
 use crate::baudot::{send, FRESH};
 use crate::mode::Mode;
@@ -69,6 +69,22 @@ pub fn text_codes(mode: Mode, text: &[u8]) -> Vec<Code> {
             .collect(),
         Mode::Edt => text.iter().map(|&character| Code::SevenBits(character)).collect(),
     }
+}
+
+/// The codes of a burst for a text that sends something, by a sender of this shift (0 fresh), and
+/// the shift reached. In Baudot the code of the shift in force opens it, or 11111, and the bare
+/// conversion goes on behind that code: document 02, request 101.
+pub fn burst_codes(mode: Mode, shift: u8, text: &[u8]) -> (Vec<Code>, u8) {
+    if !matches!(mode, Mode::Baudot45 | Mode::Baudot50) {
+        return (text_codes(mode, text), shift);
+    }
+    let shift = if shift == FRESH { LETTERS } else { shift };
+    let mut codes = vec![0; 2 * text.len()];
+    let sent = send(text, shift, 0, &mut codes);
+    assert_eq!(sent.answer, SUCCESS);
+    let opening = if shift == LETTERS { LETTERS_CODE } else { FIGURES_CODE };
+    let codes = [opening].into_iter().chain(codes[..sent.length].iter().copied());
+    (codes.map(Code::FiveBits).collect(), sent.shift)
 }
 
 /// The number of a key, from 1 to 16.
@@ -166,6 +182,30 @@ mod tests {
             }
         }
         assert_eq!(Mode::ALL.map(|mode| codes(mode).len()), [32, 32, 150, 128]);
+    }
+
+    #[test]
+    fn the_codes_of_bursts() {
+        let written = |shift, text: &[u8]| {
+            let (codes, reached) = burst_codes(Mode::Baudot45, shift, text);
+            (codes.iter().map(Code::to_string).collect::<Vec<_>>().join(" "), reached)
+        };
+        for (shift, text, codes, reached) in [
+            (0, &b"A"[..], "11111 00011", 1),
+            (0, b"1", "11111 11011 10111", 2),
+            (1, b"A", "11111 00011", 1),
+            (1, b"1", "11111 11011 10111", 2),
+            (2, b"A", "11011 11111 00011", 1),
+            (2, b"1", "11011 10111", 2),
+            (2, b"\x00 A", "11011 00100 11111 00011", 1),
+        ] {
+            assert_eq!(written(shift, text), (codes.to_string(), reached));
+        }
+        let text: Vec<u8> = (0..128).collect();
+        for mode in Mode::ALL {
+            // In the first burst it is the bare conversion.
+            assert_eq!(burst_codes(mode, FRESH, &text).0, text_codes(mode, &text));
+        }
     }
 
     #[test]

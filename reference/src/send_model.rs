@@ -1,6 +1,6 @@
 //! A station's send model (document 01: its book): what waits, bursts and codes, kept from the
 //! station's calls alone, that is from their arguments and whether each succeeded. It never looks
-//! at the station.
+//! at the station. Its Baudot bursts open with a shift code: document 02, request 101.
 
 use crate::annex::{
     dtmf_sends, Sending, BAUDOT_SENDS, EITHER, FIGURES_CODE, LETTERS, LETTERS_CODE,
@@ -60,8 +60,18 @@ impl SendModel {
         }
     }
 
+    /// The same with a sender of this shift, none if it is fresh, and this count.
+    pub fn with_sender(mode: Mode, shift: Option<u8>, count: usize) -> SendModel {
+        SendModel { shift, count, ..SendModel::fresh(mode) }
+    }
+
     pub fn waiting(&self) -> usize {
         self.waiting.len()
+    }
+
+    /// The sender's shift, none while it is fresh.
+    pub fn shift(&self) -> Option<u8> {
+        self.shift
     }
 
     pub fn in_burst(&self) -> bool {
@@ -110,15 +120,19 @@ impl SendModel {
         self.silence = if heard == QUIET || inhibited { self.silence + 1 } else { 0 };
     }
 
-    /// Begins the code that the front character wants next; gives back the character if it is
-    /// its own.
+    /// Begins the code that is due next, ahead of the front character or as its own; gives back the
+    /// character if it is its own.
     fn begin_code(&mut self) -> Option<u8> {
         let front = *self.waiting.front().expect("a character");
         let code = match self.mode.alphabet() {
             Alphabet::Baudot => {
                 let Sending { shifts, code } =
                     BAUDOT_SENDS[usize::from(front)].expect("a character that sends something");
-                if let Some(shift) = self.wanted_shift(shifts) {
+                let due = match self.burst {
+                    Some(Part::Preamble) => Some(self.shift.unwrap_or(LETTERS)),
+                    _ => self.wanted_shift(shifts),
+                };
+                if let Some(shift) = due {
                     let code = if shift == LETTERS { LETTERS_CODE } else { FIGURES_CODE };
                     (self.shift, self.count) = (Some(shift), 0);
                     self.burst = Some(Part::ShiftCode);
@@ -138,11 +152,10 @@ impl SendModel {
         self.waiting.pop_front()
     }
 
-    /// The shift whose code must go ahead of a character that is sent in these shifts.
+    /// The shift whose code must go ahead of a character that is sent in these shifts, behind the
+    /// first code of the burst.
     fn wanted_shift(&self, shifts: u8) -> Option<u8> {
-        let Some(shift) = self.shift else {
-            return Some(LETTERS);
-        };
+        let shift = self.shift.expect("the first code of a burst is a shift code");
         if shifts != EITHER && shifts != shift {
             return Some(shifts);
         }
@@ -153,7 +166,8 @@ impl SendModel {
 #[cfg(test)]
 mod tests {
     use super::*;
-    use crate::line::{runs, MARK};
+    use crate::annex::FIGURES;
+    use crate::line::{burst_codes, runs, MARK};
 
     /// The ms of a burst that begins now.
     fn burst(model: &mut SendModel) -> Vec<ModelMs> {
@@ -212,6 +226,31 @@ mod tests {
         model.ms(MARK);
         model.offered(b"E");
         assert!(!model.ms(QUIET).in_burst);
+    }
+
+    #[test]
+    fn each_burst_opens_with_a_shift_code() {
+        for (shift, count, text, parts) in [
+            (None, 0, &b"E"[..], 1),
+            (None, 72, b"3", 2),
+            (Some(LETTERS), 5, b"E", 1),
+            (Some(LETTERS), 72, b"E", 1),
+            (Some(LETTERS), 72, b"3", 2),
+            (Some(FIGURES), 0, b" ", 1),
+            (Some(FIGURES), 1, b"E", 2),
+        ] {
+            let mut model = SendModel::with_sender(Mode::Baudot45, shift, count);
+            model.offered(text);
+            let burst = burst(&mut model);
+            let ended: Vec<Part> = ended(&burst).iter().map(|&(_, part)| part).collect();
+            let wanted =
+                [&[Part::Preamble][..], &vec![Part::ShiftCode; parts], &[Part::OwnCode]].concat();
+            assert_eq!(ended, wanted);
+            let (codes, reached) = burst_codes(Mode::Baudot45, shift.unwrap_or(0), text);
+            let signals = codes.iter().flat_map(|code| signal(Mode::Baudot45, code));
+            assert!(burst[150..].iter().map(|ms| ms.sent).eq(signals));
+            assert_eq!((model.shift(), model.count), (Some(reached), 1));
+        }
     }
 
     #[test]

@@ -1,6 +1,7 @@
 //! A station of document 01: characters wait to be sent, bursts go out when the line is free, and
-//! what the other end sends is read. A run goes over its ms in stretches: a run of one level in a
-//! burst, the inhibited ms after it, or ms to listen to.
+//! what the other end sends is read. By request 101 of document 02 a Baudot burst opens with a shift
+//! code. A run goes over its ms in stretches: a run of one level in a burst, the inhibited ms after
+//! it, or ms to listen to.
 
 use crate::annex::{dtmf_sends, Sending, BAUDOT_SENDS, EITHER, FIGURES, LETTERS};
 use crate::annex::{FIGURES_CODE, LETTERS_CODE};
@@ -111,14 +112,20 @@ pub enum Part {
 /// The rest of a frame, or of a preamble, behind which nothing follows.
 const NO_ELEMENT: u16 = 1;
 
+/// All elements of a frame.
+fn whole_frame(mode: Mode, code: u8) -> u16 {
+    elements(mode, code) | NO_ELEMENT << mode.elements()
+}
+
 impl Line {
-    fn preamble(mode: Mode) -> Line {
-        Line { level: MARK, left: mode.preamble(), rest: NO_ELEMENT }
+    /// A preamble, and behind it the frame of a code if there is one.
+    fn preamble(mode: Mode, code: Option<u8>) -> Line {
+        let rest = code.map_or(NO_ELEMENT, |code| whole_frame(mode, code));
+        Line { level: MARK, left: mode.preamble(), rest }
     }
 
     fn frame(mode: Mode, code: u8) -> Line {
-        let guard = NO_ELEMENT << mode.elements();
-        let mut line = Line { level: QUIET, left: 0, rest: elements(mode, code) | guard };
+        let mut line = Line { level: QUIET, left: 0, rest: whole_frame(mode, code) };
         line.next_element(mode);
         if mode == Mode::Edt {
             // 100 ms are not eleven times 9.
@@ -172,7 +179,8 @@ impl Line {
     }
 }
 
-/// The shift and the count of a sender.
+/// The shift and the count of a sender. While the preamble is on the line they are already those
+/// behind the shift code that follows it.
 #[derive(Clone, Copy, Debug, PartialEq, Eq)]
 struct Sender {
     shift: u8,
@@ -180,6 +188,26 @@ struct Sender {
 }
 
 impl Sender {
+    /// What opens a burst: the preamble; in Baudot the code of the shift in force goes with it, or
+    /// that of letters if the sender is fresh.
+    fn opening(&mut self, mode: Mode) -> Line {
+        let code = (mode.alphabet() == Alphabet::Baudot).then(|| match self.shift {
+            FRESH => self.select(LETTERS),
+            shift => self.select(shift),
+        });
+        Line::preamble(mode, code)
+    }
+
+    /// Goes over to a shift, and gives back the code for it.
+    fn select(&mut self, shift: u8) -> u8 {
+        *self = Sender { shift, count: 0 };
+        if shift == LETTERS {
+            LETTERS_CODE
+        } else {
+            FIGURES_CODE
+        }
+    }
+
     /// What goes out next for a character, and whether it is the character's own code.
     fn code(&mut self, mode: Mode, character: u8) -> (Line, bool) {
         let character = usize::from(character & 0x7F);
@@ -200,16 +228,14 @@ impl Sender {
         }
     }
 
-    /// The shift code that must come first, if any.
+    /// The shift code that must come first, if any. In a burst only a forged sender is fresh.
     fn shift_code(&mut self, shifts: u8) -> Option<u8> {
-        let shift = match self.shift {
-            FRESH => LETTERS,
-            shift if shifts & shift == 0 => shifts,
-            shift if self.count == REPEAT => shift,
-            _ => return None,
-        };
-        *self = Sender { shift, count: 0 };
-        Some(if shift == LETTERS { LETTERS_CODE } else { FIGURES_CODE })
+        match self.shift {
+            FRESH => Some(self.select(LETTERS)),
+            shift if shifts & shift == 0 => Some(self.select(shifts)),
+            shift if self.count == REPEAT => Some(self.select(shift)),
+            _ => None,
+        }
     }
 }
 
@@ -253,9 +279,10 @@ impl Station {
         waiting: &[u8],
     ) -> Station {
         let mut station = Station::fresh(mode);
+        let mut sender = Sender { shift, count };
         let mut line = match part {
             Part::Idle => station.line,
-            Part::Preamble => Line::preamble(mode),
+            Part::Preamble => sender.opening(mode),
             Part::Code(Code::Keys(keys)) => Line::keys(packed(keys)),
             Part::Code(Code::FiveBits(code) | Code::SevenBits(code)) => Line::frame(mode, *code),
         };
@@ -267,7 +294,7 @@ impl Station {
         }
         waiting.iter().for_each(|&character| station.queue.push(character));
         let in_burst = !matches!(part, Part::Idle);
-        Station { in_burst, silence, inhibited, sender: Sender { shift, count }, line, ..station }
+        Station { in_burst, silence, inhibited, sender, line, ..station }
     }
 
     /// A fresh station of a mode given by its number; of mode 1 if there is no such mode.
@@ -281,6 +308,12 @@ impl Station {
     /// How many characters wait.
     pub fn waiting(&self) -> usize {
         usize::from(self.queue.waiting)
+    }
+
+    /// Outside a burst: its silence and inhibited ms, its shift and count. None in a burst.
+    pub fn between_bursts(&self) -> Option<([u16; 2], [u8; 2])> {
+        let Station { silence, inhibited, sender, .. } = *self;
+        (!self.in_burst).then_some(([silence, inhibited], [sender.shift, sender.count]))
     }
 
     /// Question 1.
@@ -341,7 +374,7 @@ impl Station {
         while !heard.is_empty() {
             if !self.in_burst && self.queue.waiting > 0 && self.silence >= FREE {
                 self.in_burst = true;
-                self.line = Line::preamble(self.mode);
+                self.line = self.sender.opening(self.mode);
             }
             let ms = if self.in_burst {
                 self.send(sent)
@@ -464,7 +497,8 @@ fn silence_after(silence: u16, heard: &[u8]) -> u16 {
 #[cfg(test)]
 mod tests {
     use super::*;
-    use crate::line::{preamble, runs, signal, text_codes, Code, SPACE as SPACE_LEVEL};
+    use crate::line::SPACE as SPACE_LEVEL;
+    use crate::line::{burst_codes, codes, preamble, runs, signal, text_codes, Code};
     use crate::reader::FAULT;
 
     /// Runs a list of heard ms in calls of at most 4,096; gives back what was sent and the words.
@@ -488,8 +522,14 @@ mod tests {
 
     /// A burst of a fresh sender.
     fn burst(mode: Mode, text: &[u8]) -> Vec<u8> {
+        burst_from(mode, FRESH, text)
+    }
+
+    /// A burst of a sender of this shift.
+    fn burst_from(mode: Mode, shift: u8, text: &[u8]) -> Vec<u8> {
         let mut burst = preamble(mode);
-        text_codes(mode, text).iter().for_each(|code| burst.extend(signal(mode, code)));
+        let (codes, _) = burst_codes(mode, shift, text);
+        codes.iter().for_each(|code| burst.extend(signal(mode, code)));
         burst
     }
 
@@ -548,9 +588,12 @@ mod tests {
     }
 
     #[test]
-    fn the_codes_are_those_of_the_bare_conversion() {
+    fn the_codes_of_a_first_burst_are_those_of_the_bare_conversion() {
         let text: Vec<u8> = (0..250).map(|i| if i % 90 < 80 { b'E' } else { b'9' }).collect();
-        let wanted = burst(Mode::Baudot50, &text);
+        let mut wanted = preamble(Mode::Baudot50);
+        for code in text_codes(Mode::Baudot50, &text) {
+            wanted.extend(signal(Mode::Baudot50, &code));
+        }
         let sent = quiet(&mut offered(Mode::Baudot50, &text), wanted.len());
         assert_eq!(sent, wanted);
     }
@@ -608,13 +651,112 @@ mod tests {
     fn an_offer_after_the_last_ms_of_a_burst_needs_a_new_one() {
         for mode in Mode::ALL {
             let first = burst(mode, b"E");
-            let e = signal(mode, text_codes(mode, b"E").last().unwrap());
             let mut station = offered(mode, b"E");
             let mut sent = quiet(&mut station, first.len());
             assert_eq!(station.offer(b"E"), SUCCESS);
-            let wanted = [&first[..], &preamble(mode), &e].concat();
+            let wanted = [&first[..], &burst_from(mode, LETTERS, b"E")].concat();
             sent.extend(quiet(&mut station, wanted.len() - sent.len()));
             assert_eq!(sent, wanted);
+        }
+    }
+
+    /// The codes of the frames behind the preamble of a Baudot burst.
+    fn frames(mode: Mode, burst: &[u8]) -> String {
+        assert_eq!(burst[..150], preamble(mode));
+        let frames = burst[150..].chunks(mode.code_length()).map(|frame| {
+            let is_this = |code: &&Code| signal(mode, code) == frame;
+            codes(mode).iter().find(is_this).expect("a code").to_string()
+        });
+        frames.collect::<Vec<_>>().join(" ")
+    }
+
+    #[test]
+    fn each_burst_opens_with_the_shift_in_force() {
+        for mode in [Mode::Baudot45, Mode::Baudot50] {
+            let mut station = Station::fresh(mode);
+            for (text, wanted) in [
+                (&b"1"[..], "11111 11011 10111"),
+                (b"1", "11011 10111"),
+                (b" ", "11011 00100"),
+                (b"A", "11011 11111 00011"),
+                (b"A", "11111 00011"),
+                (b"\n", "11111 00010"),
+                (b"1", "11111 11011 10111"),
+            ] {
+                assert_eq!(station.offer(text), SUCCESS);
+                let codes = wanted.split(' ').count();
+                let mut sent = quiet(&mut station, 150 + codes * mode.code_length());
+                assert_eq!(frames(mode, &sent), wanted);
+                sent = quiet(&mut station, 300);
+                assert_eq!(runs(&sent), [(QUIET, 300)]);
+            }
+        }
+    }
+
+    #[test]
+    fn the_count_starts_again_at_the_head_of_a_burst() {
+        let mode = Mode::Baudot50;
+        for before in [1, 71, 72, 73, 144] {
+            let mut station = offered(mode, &vec![b'E'; before]);
+            quiet(&mut station, 150 + 150 * 250);
+            assert_eq!(station.offer(&[b'E'; 73]), SUCCESS);
+            let codes = format!("11111{} 11111 00001", " 00001".repeat(72));
+            let sent = quiet(&mut station, 150 + 150 * 75);
+            assert_eq!(frames(mode, &sent), codes);
+            assert_eq!(station.between_bursts(), Some(([FREE, INHIBITED], [LETTERS, 1])));
+        }
+    }
+
+    /// A forged station with a free line.
+    fn forged(mode: Mode, sender: [u8; 2], part: &Part, ms_sent: u16, text: &[u8]) -> Station {
+        Station::forged(mode, [FREE, 0], sender, part, ms_sent, text)
+    }
+
+    #[test]
+    fn a_forged_preamble_with_none_waiting() {
+        for mode in [Mode::Baudot45, Mode::Baudot50] {
+            for (shift, opening, reached) in [
+                (FRESH, "11111", LETTERS),
+                (LETTERS, "11111", LETTERS),
+                (FIGURES, "11011", FIGURES),
+            ] {
+                for at in [0, 1, 149, 150] {
+                    // Its shift code, and the burst ends with it.
+                    let mut station = forged(mode, [shift, 72], &Part::Preamble, at, b"");
+                    let length = 150 + mode.code_length() - usize::from(at);
+                    let sent =
+                        [preamble(mode)[..usize::from(at)].to_vec(), quiet(&mut station, length)];
+                    assert_eq!(frames(mode, &sent.concat()), opening);
+                    let after = ([FREE, INHIBITED], [reached, 0]);
+                    assert_eq!(station.between_bursts(), Some(after));
+                }
+            }
+        }
+        // In the other modes the burst ends with the preamble, or with a quiet ms if that is over.
+        for (mode, at, wanted) in [
+            (Mode::Dtmf, 0, vec![(QUIET, 1)]),
+            (Mode::Edt, 0, vec![(MARK, 300)]),
+            (Mode::Edt, 300, vec![(QUIET, 1)]),
+        ] {
+            let mut station = forged(mode, [FRESH, 0], &Part::Preamble, at, b"");
+            let ms = wanted[0].1;
+            assert_eq!(runs(&quiet(&mut station, ms)), wanted);
+            assert_eq!(station.between_bursts(), Some(([FREE, INHIBITED], [FRESH, 0])));
+        }
+    }
+
+    #[test]
+    fn a_forged_fresh_sender_in_a_burst_goes_to_letters() {
+        let mode = Mode::Baudot45;
+        let part = Part::Code(Code::FiveBits(0b00100));
+        for (text, wanted) in [(&b"1"[..], "11111 11011 10111"), (b"A", "11111 00011"), (b"", "")] {
+            let mut station = forged(mode, [FRESH, 72], &part, 165, text);
+            let codes = wanted.split_terminator(' ').count();
+            let sent = [preamble(mode), quiet(&mut station, 165 * codes)].concat();
+            assert_eq!(frames(mode, &sent), wanted);
+            // With none waiting a quiet ms ends the burst.
+            quiet(&mut station, usize::from(codes == 0));
+            assert!(station.between_bursts().is_some());
         }
     }
 

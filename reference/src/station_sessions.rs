@@ -1,7 +1,7 @@
 //! Compares the engine's station with the reference's in lists of random calls, side by side, and
 //! what both send with the send model. Part of `differential`.
 
-use crate::damaged_stations::{damage, in_range};
+use crate::damaged_stations::{agree, damage, in_range};
 use crate::engine;
 use reference::annex::FIGURES;
 use reference::answer::{
@@ -36,6 +36,9 @@ enum Thing {
     Faults,
     DelToLetters,
     ShiftRepeated,
+    OpensInLetters,
+    OpensInFigures,
+    TwoShiftCodes,
     PrefixOverABurst,
     Keys39,
     Keys40,
@@ -49,7 +52,7 @@ const ALL: &[u8] = &[1, 2, 3, 4];
 const BAUDOT: &[u8] = &[1, 2];
 const DTMF: &[u8] = &[3];
 
-const THINGS: [(Thing, &str, &[u8]); 20] = [
+const THINGS: [(Thing, &str, &[u8]); 23] = [
     (Thing::Bursts, "bursts", ALL),
     (Thing::BackToBack, "bursts right behind another", ALL),
     (Thing::OffersInABurst, "offers in a burst", ALL),
@@ -63,6 +66,9 @@ const THINGS: [(Thing, &str, &[u8]); 20] = [
     (Thing::Faults, "faults", ALL),
     (Thing::DelToLetters, "DEL in figures", BAUDOT),
     (Thing::ShiftRepeated, "shift codes after 72", BAUDOT),
+    (Thing::OpensInLetters, "later bursts in letters", BAUDOT),
+    (Thing::OpensInFigures, "in figures", BAUDOT),
+    (Thing::TwoShiftCodes, "two shift codes in a row", BAUDOT),
     (Thing::PrefixOverABurst, "prefix kept over a burst", DTMF),
     (Thing::Keys39, "keys of 39 ms", DTMF),
     (Thing::Keys40, "of 40", DTMF),
@@ -97,8 +103,9 @@ struct Session<'a> {
     random: &'a mut Random,
     /// What is to be heard next.
     heard: Vec<u8>,
-    /// The characters taken since the last shift code.
+    /// The characters taken since the last shift code, and the last part that has ended.
     since_shift: usize,
+    last_ended: Option<Part>,
     met: Met,
 }
 
@@ -115,9 +122,18 @@ pub fn compare(random: &mut Random, ms: u64) -> String {
             let (reference, engine) = opened(mode.number());
             let model = SendModel::fresh(mode);
             let heard = Vec::new();
-            let since_shift = 0;
-            let mut session =
-                Session { mode, reference, engine, model, random, heard, since_shift, met };
+            let (since_shift, last_ended) = (0, None);
+            let mut session = Session {
+                mode,
+                reference,
+                engine,
+                model,
+                random,
+                heard,
+                since_shift,
+                last_ended,
+                met,
+            };
             session.list();
             met = session.met;
             met.lists += 1;
@@ -340,9 +356,9 @@ impl Session<'_> {
         }
     }
 
-    /// Is the engine's station in range, and do as many wait?
+    /// Is the engine's station in range, and are its numbers the reference's?
     fn agree(&self) -> bool {
-        in_range(&self.engine) && usize::from(self.engine.core.waiting) == self.reference.waiting()
+        in_range(&self.engine) && agree(&self.engine, &self.reference)
     }
 
     /// The same call on both sides, with slices of these lengths.
@@ -417,6 +433,11 @@ impl Session<'_> {
                 if inhibited == 300 {
                     self.met.add(Thing::BackToBack);
                 }
+                match self.model.shift() {
+                    Some(FIGURES) => self.met.add(Thing::OpensInFigures),
+                    Some(_) => self.met.add(Thing::OpensInLetters),
+                    None => {}
+                }
                 // The reader of a DTMF station keeps its prefix until a digit comes.
                 if ms == 0 && before.core.reader.prefix != 0 && self.engine.core.reader.prefix != 0
                 {
@@ -425,11 +446,16 @@ impl Session<'_> {
             }
             self.since_shift += usize::from(said.taken.is_some());
             if said.ended == Some(Part::ShiftCode) {
-                if self.since_shift == 72 {
-                    self.met.add(Thing::ShiftRepeated);
+                match self.last_ended {
+                    Some(Part::ShiftCode) => self.met.add(Thing::TwoShiftCodes),
+                    Some(Part::OwnCode) if self.since_shift == 72 => {
+                        self.met.add(Thing::ShiftRepeated)
+                    }
+                    _ => {}
                 }
                 self.since_shift = 0;
             }
+            self.last_ended = said.ended.or(self.last_ended);
             signal.0 |= said.in_burst && level != QUIET;
             signal.1 |= !said.in_burst && inhibited > 0 && level != QUIET;
             inhibited = if said.in_burst { 300 } else { inhibited.saturating_sub(1) };

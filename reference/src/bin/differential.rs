@@ -1,8 +1,11 @@
-//! Compares the engine with the reference on random conversions, on a calling set's random ms and
-//! on stations' random calls, refused and damaged ones among them, and checks demand 3 with the
-//! engine as both stations. Arguments: number of cases (one sending, one reading, four ms of the
-//! calling set and 35 ms of stations in each mode), seed. Exit 1 on a difference.
+//! Compares the engine with the reference on random conversions, on a calling set's random ms, on
+//! every head of a Baudot burst and on stations' random calls, refused and damaged ones among them,
+//! and checks demand 3 with the engine as both stations. Arguments: number of cases (one sending,
+//! one reading, four ms of the calling set and 35 ms of stations in each mode), seed. Exit 1 on a
+//! difference.
 
+#[path = "../burst_heads.rs"]
+mod burst_heads;
 #[path = "../calling_sessions.rs"]
 mod calling_sessions;
 #[path = "../damaged_stations.rs"]
@@ -67,6 +70,7 @@ fn main() {
         met("read", &reads, [SUCCESS, STATE, RESULT_SLICE, CODE]),
     );
     println!("{}", calling_sessions::compare(&mut random, (4 * cases).max(1_000_000)));
+    println!("{}", burst_heads::compare(&mut random));
     println!("{}", station_sessions::compare(&mut random, (30 * cases).max(1_000_000)));
     println!("{}", damaged_stations::check(&mut random, 10_000));
     for mode in Mode::ALL {

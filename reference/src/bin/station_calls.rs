@@ -131,6 +131,7 @@ fn input() -> Vec<u8> {
         if mode.number() <= 2 {
             lists.del(mode);
             lists.repeated_shift(mode);
+            lists.later_bursts(mode);
         }
         for _ in 0..12 {
             lists.random(mode);
@@ -339,6 +340,31 @@ impl Lists {
         self.open(mode.number());
         self.offer(&[b'E'; 73]);
         self.quiet(13_000);
+    }
+
+    /// The shift in force opens each burst: in letters and in figures, with a first character of
+    /// either shift and of both, in one run and in several, and after 72 characters.
+    fn later_bursts(&mut self, mode: Mode) {
+        for cut in [2000, 500, 170] {
+            self.open(mode.number());
+            for text in [&b"1"[..], b"2", b" ", b"A", b"B", b"\n", b"3E"] {
+                self.offer(text);
+                (0..2000 / cut).for_each(|_| self.quiet(cut));
+            }
+        }
+        // One more right behind the last ms, another in the preamble.
+        self.open(mode.number());
+        self.offer(b"1");
+        self.quiet(150 + 3 * mode.code_length());
+        self.offer(b"2");
+        self.quiet(100);
+        self.offer(b"E");
+        self.quiet(1500);
+        self.open(mode.number());
+        self.offer(&[b'T'; 72]);
+        self.quiet(12_500);
+        self.offer(b"T3");
+        self.quiet(1500);
     }
 
     /// Texts, signals, damaged ones and noise.

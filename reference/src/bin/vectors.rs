@@ -2,19 +2,24 @@
 
 use reference::annex::{FIGURES_CODE, LETTERS_CODE};
 use reference::answer::SUCCESS;
+use reference::baudot::FRESH;
 use reference::line::{
-    codes, key_number, preamble, runs, signal, text_codes, Code, KEY_GAP, KEY_LENGTH, MARK,
-    PREFIXES, QUIET, SPACE,
+    burst_codes, codes, key_number, preamble, runs, signal, text_codes, Code, KEY_GAP, KEY_LENGTH,
+    MARK, PREFIXES, QUIET, SPACE,
 };
 use reference::mode::Mode;
 use reference::random::Random;
 use reference::reader::FAULT;
 use reference::station::Station;
 use std::fmt::Write;
+use std::ops::Range;
 use std::process::exit;
 
 /// The ms that a `send` case goes on after its last burst.
 const AFTER: usize = 50;
+
+/// The ms from one burst to the next where a case has several.
+const PAUSE: usize = 100;
 
 /// Characters whose DTMF codes have every prefix that is sent.
 const EVERY_PREFIX: &[u8] = b"bac&1BAL";
@@ -43,6 +48,7 @@ fn vectors(mode: Mode) -> String {
     cases.nothing_sent();
     cases.long_texts();
     cases.bursts();
+    cases.openings();
     cases.every_code();
     if mode == Mode::Dtmf {
         cases.damaged_keys();
@@ -59,8 +65,11 @@ struct Cases {
     output: String,
 }
 
-/// What a fresh station sends while it hears quiet; each offer comes ahead of its ms.
-fn sent(mode: Mode, offers: &[(usize, Vec<u8>)], ms: usize) -> Vec<u8> {
+/// A text and the ms that its offer comes ahead of.
+type Offer = (usize, Vec<u8>);
+
+/// What a fresh station sends while it hears quiet.
+fn sent(mode: Mode, offers: &[Offer], ms: usize) -> Vec<u8> {
     let mut station = Station::fresh(mode);
     let mut line = Vec::new();
     for now in 0..ms {
@@ -92,12 +101,47 @@ fn signals(mode: Mode, codes: &[Code]) -> Vec<u8> {
     codes.iter().flat_map(|code| signal(mode, code)).collect()
 }
 
-/// The ms of the burst of a text by a fresh sender; 0 if it sends nothing.
-fn burst_length(mode: Mode, text: &[u8]) -> usize {
-    match signals(mode, &text_codes(mode, text)).len() {
-        0 => 0,
-        ms => usize::from(mode.preamble()) + ms,
+/// A burst: its ms, the text that it sends and the codes.
+struct Burst {
+    ms: Range<usize>,
+    text: Vec<u8>,
+    codes: Vec<Code>,
+    /// The sender's shift ahead of it and behind it.
+    shifts: [u8; 2],
+}
+
+impl Burst {
+    fn new(mode: Mode, start: usize, shift: u8, text: Vec<u8>) -> Burst {
+        let (codes, reached) = burst_codes(mode, shift, &text);
+        let length = usize::from(mode.preamble()) + signals(mode, &codes).len();
+        Burst { ms: start..start + length, text, codes, shifts: [shift, reached] }
     }
+}
+
+/// The bursts that a fresh station makes of offers while it hears quiet.
+fn bursts_of(mode: Mode, offers: &[Offer]) -> Vec<Burst> {
+    let mut bursts: Vec<Burst> = Vec::new();
+    for (at, text) in offers {
+        let some = text.iter().copied().filter(|&c| mode.alphabet().normal(c).is_some());
+        let some: Vec<u8> = some.collect();
+        match bursts.last_mut() {
+            _ if some.is_empty() => {}
+            Some(last) if *at < last.ms.end => {
+                let text = [&last.text[..], &some].concat();
+                *last = Burst::new(mode, last.ms.start, last.shifts[0], text);
+            }
+            last => {
+                let shift = last.map_or(FRESH, |last| last.shifts[1]);
+                bursts.push(Burst::new(mode, *at, shift, some));
+            }
+        }
+    }
+    bursts
+}
+
+/// The ms behind the last burst.
+fn end_of(mode: Mode, offers: &[Offer]) -> usize {
+    bursts_of(mode, offers).last().map_or(0, |last| last.ms.end)
 }
 
 fn written(word: u32) -> String {
@@ -142,19 +186,29 @@ impl Cases {
 
     /// A text that is offered at ms 0.
     fn send(&mut self, name: &str, text: &[u8]) {
-        self.send_offers(name, &[(0, text.to_vec())], burst_length(self.mode, text));
+        self.send_offers(name, &[(0, text.to_vec())]);
     }
 
-    /// Texts and the ms of each offer; the last burst ends before ms `end`.
-    fn send_offers(&mut self, name: &str, offers: &[(usize, Vec<u8>)], end: usize) {
+    fn send_offers(&mut self, name: &str, offers: &[Offer]) {
         writeln!(self.output, "\nsend {name}").unwrap();
         for (ms, text) in offers {
             let items: Vec<_> = text.iter().map(|character| format!("{character:02X}")).collect();
             self.items(&format!("text {ms}"), &items);
         }
-        let whole: Vec<u8> = offers.iter().flat_map(|(_, text)| text.clone()).collect();
-        self.codes(&text_codes(self.mode, &whole));
-        self.line_and_words(&sent(self.mode, offers, end + AFTER));
+        let bursts = bursts_of(self.mode, offers);
+        let codes: Vec<Code> = bursts.into_iter().flat_map(|burst| burst.codes).collect();
+        self.codes(&codes);
+        self.line_and_words(&sent(self.mode, offers, end_of(self.mode, offers) + AFTER));
+    }
+
+    /// Texts that are sent in bursts of their own.
+    fn send_bursts(&mut self, name: &str, texts: &[&[u8]]) {
+        let mut offers: Vec<Offer> = Vec::new();
+        for text in texts {
+            let last = offers.last().map(|offer| offer.0.max(end_of(self.mode, &offers)));
+            offers.push((last.map_or(0, |ms| ms + PAUSE), text.to_vec()));
+        }
+        self.send_offers(name, &offers);
     }
 
     /// A line that a fresh station hears.
@@ -259,18 +313,37 @@ impl Cases {
 
     /// Preambles: offers in a burst, with its last ms, after it, and much later.
     fn bursts(&mut self) {
-        let mode = self.mode;
-        let first = burst_length(mode, b"E");
-        let more = burst_length(mode, b"EE") - first;
-        let new = usize::from(mode.preamble()) + more;
-        for (name, at, end) in [
-            ("E, and E in the middle of its code", first - 30, first + more),
-            ("E, and E ahead of its last ms", first - 1, first + more),
-            ("E, and E behind its last ms: a new burst", first, first + new),
-            ("E, and E 1 ms later than that", first + 1, first + 1 + new),
-            ("E, and E 500 ms later", first + 500, first + 500 + new),
+        let first = end_of(self.mode, &[(0, b"E".to_vec())]);
+        for (name, at) in [
+            ("E, and E in the middle of its code", first - 30),
+            ("E, and E ahead of its last ms", first - 1),
+            ("E, and E behind its last ms: a new burst", first),
+            ("E, and E 1 ms later than that", first + 1),
+            ("E, and E 500 ms later", first + 500),
         ] {
-            self.send_offers(name, &[(0, b"E".to_vec()), (at, b"E".to_vec())], end);
+            self.send_offers(name, &[(0, b"E".to_vec()), (at, b"E".to_vec())]);
+        }
+    }
+
+    /// Baudot bursts open with the shift in force.
+    fn openings(&mut self) {
+        if !matches!(self.mode, Mode::Baudot45 | Mode::Baudot50) {
+            return;
+        }
+        let many = [b'T'; 73];
+        let cases: [(&str, &[&[u8]]); 9] = [
+            ("letters, and letters in a second burst", &[b"AB", b"CD"]),
+            ("figures, and figures in a second burst", &[b"12", b"34"]),
+            ("letters, and figures in a second burst", &[b"AB", b"12"]),
+            ("figures, and letters in a second burst", &[b"12", b"AB"]),
+            ("figures, and a space and letters in a second burst", &[b"12", b" AB"]),
+            ("six bursts", &[b"1", b"1", b"A", b"A", b"\n", b"1"]),
+            ("figures, then what sends nothing, then figures", &[b"12", b"\x00\x7F", b"34"]),
+            ("72 times T, and T in a second burst", &[&many[..72], b"T"]),
+            ("40 times T, and 73 times T in a second burst", &[&many[..40], &many]),
+        ];
+        for (name, texts) in cases {
+            self.send_bursts(name, texts);
         }
     }
 
@@ -468,10 +541,31 @@ mod tests {
     fn a_burst_is_its_preamble_and_its_codes() {
         for mode in Mode::ALL {
             let text = b"Too 599 E*@\r\n";
-            let length = burst_length(mode, text);
+            let offers = [(0, text.to_vec())];
+            let length = end_of(mode, &offers);
             let burst = [preamble(mode), signals(mode, &text_codes(mode, text))].concat();
-            assert_eq!(sent(mode, &[(0, text.to_vec())], length), burst);
-            assert_eq!(sent(mode, &[(0, text.to_vec())], length + 500)[length..], [QUIET; 500]);
+            assert_eq!(sent(mode, &offers, length), burst);
+            assert_eq!(sent(mode, &offers, length + 500)[length..], [QUIET; 500]);
+        }
+    }
+
+    #[test]
+    fn a_line_is_its_bursts_and_quiet_between_them() {
+        for mode in Mode::ALL {
+            let first = end_of(mode, &[(3, b"A1".to_vec())]);
+            let offers =
+                [(3, &b"A1"[..]), (first - 1, b"2"), (first, b""), (first + 400, b"3\x00")]
+                    .map(|(at, text)| (at, text.to_vec()));
+            let later = end_of(mode, &offers);
+            let offers = [&offers[..], &[(later, b" E".to_vec())]].concat();
+            let bursts = bursts_of(mode, &offers);
+            assert_eq!(bursts.len(), 3);
+            let mut line = vec![QUIET; end_of(mode, &offers) + 500];
+            for burst in bursts {
+                let signal = [preamble(mode), signals(mode, &burst.codes)].concat();
+                line[burst.ms].copy_from_slice(&signal);
+            }
+            assert_eq!(sent(mode, &offers, line.len()), line);
         }
     }
 
@@ -479,7 +573,8 @@ mod tests {
     fn the_words_of_a_text_are_its_normal_form() {
         for mode in Mode::ALL {
             let text: Vec<u8> = (0..128).collect();
-            let line = sent(mode, &[(0, text.clone())], burst_length(mode, &text));
+            let offers = [(0, text.clone())];
+            let line = sent(mode, &offers, end_of(mode, &offers));
             let read: Vec<u8> = words(mode, &line).iter().map(|&(_, word)| word as u8).collect();
             assert_eq!(read, mode.alphabet().normal_list(&text));
         }
@@ -494,7 +589,7 @@ mod tests {
                 .filter(|line| line.starts_with("send ") || line.starts_with("hear "));
             assert!(cases.count() > 60);
             assert!(output.lines().all(|line| line.len() <= WIDTH && line.is_ascii()));
-            assert!(output.len() < 60_000);
+            assert!(output.len() < 64_000);
             assert!(output.contains("fault"));
             assert_eq!(output, vectors(mode));
         }
