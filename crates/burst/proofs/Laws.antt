@@ -74,7 +74,7 @@ pub shift-made : (w k : ℕ) → k ≡ shiftCode w → loaded (onLine 2 k 0) (se
 shift-made w k e = rw e refl
 
 -- a sender opens a burst with some shift
-opening-some : (s : Sender) → openingShift s ≡ 0 → ⊥
+pub opening-some : (s : Sender) → openingShift s ≡ 0 → ⊥
 opening-some s =
     either-by (λ (w : ℕ). w ≡ 0 → ⊥) (eqb (s .shift) 0) (λ e (z : 1 ≡ 0). omega arith) (λ e. eqb-false (s .shift) 0 e)
 

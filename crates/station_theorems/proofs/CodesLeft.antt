@@ -18,6 +18,7 @@ use Rattle.baudot.proofs.SendingRule.{NoneAhead, Ahead, ahead}
 use Rattle.burst.specs.declared.OnLine.{OnLine}
 use Rattle.burst.specs.Rules.{openingShift, shiftWanted, senderAfterOwn}
 use Rattle.burst.specs.Line.{isOpening}
+use Rattle.burst.proofs.Laws.{opening-some}
 
 -- ---- the shift codes ahead of an own code
 
@@ -124,11 +125,7 @@ module _ (a : Alphabet) (s : Sender) where
   codes-shift zero x t o h = absurd (omega arith)
   codes-shift (suc n) x t o h = omega arith
 
-  opening-runs : openingShift s ≡ 0 → ⊥
-  opening-runs =
-      either-by (λ (w : ℕ). w ≡ 0 → ⊥) (eqb (s .shift) 0) (λ e z. omega arith) (λ e. eqb-false (s .shift) 0 e)
-
   pub codes-opened : (n : ℕ) (x : Sends) → codesLeft a (sender (openingShift s) 0) n x ≤ 2 * n
   codes-opened =
       let t = sender (openingShift s) 0 in
-      codes-few a t (λ own. shifts-1 a t own opening-runs)
+      codes-few a t (λ own. shifts-1 a t own (opening-some s))

@@ -28,7 +28,7 @@ use Rattle.burst.specs.declared.OnLine.{OnLine}
 use Rattle.burst.specs.declared.Loaded.{Loaded}
 use Rattle.burst.specs.Rules.{freeMs, openingShift, shiftWanted, senderAfterOwn, mayBegin, mayEnd, isInhibited, isSilent}
 use Rattle.burst.specs.Line.{onLine, further, inBurst, partMs, isOver, begun, loaded, shiftBegins, codeBegins, isOpening, nextCode}
-use Rattle.burst.specs.Line.{oneGone, closed}
+use Rattle.burst.specs.Line.{oneGone, frontIsNext, closed}
 use Rattle.burst.specs.code.Bounds.{LineIn, SendsIn}
 use Rattle.burst.proofs.Laws as line
 use Rattle.burst.proofs.Range.{LoadedIn, sends-in, blank-in, next-in}
@@ -97,10 +97,8 @@ module _ (mode : Mode) where
       → burstMs mode l s n x + 1 ≤ most → busyMs mode (closed mode (mayEnd n) l) s n silence x + 1 ≤ most
   unfolding closed mayEnd
   closed-busy most n silence l s x b o h =
-      let ends = isOver mode l && eqb n 0 in
-      let opened = not (isOpening (alphabetOf mode) l) in
-      either-by (λ (q : OnLine). busyMs mode q s n silence x + 1 ≤ most) (ends && opened)
-      (λ e. rw (and-right (isOver mode l) (eqb n 0) (and-left ends opened e)) o)
+      either-by (λ (q : OnLine). busyMs mode q s n silence x + 1 ≤ most) (frontIsNext mode l && eqb n 0)
+      (λ e. rw (and-right (frontIsNext mode l) (eqb n 0) e) o)
       (λ e. rw b h)
 
 -- ---- one ms of a burst
