@@ -219,10 +219,10 @@ pub fn code_begins(a: Alphabet, l: OnLine, s: Sender, sends: Sends) -> Loaded
 fn opening_begins(s: Sender) -> Loaded
     ensures { λ r. ⌜ r ≡ shiftBegins (openingShift s) ⌝ }
 {
-    let w = opening_shift(s);
+    let shift = opening_shift(s);
     Loaded {
-        line: code_at(baudot::sending::shift_code(w)),
-        sender: Sender { shift: w, count: 0 },
+        line: code_at(baudot::sending::shift_code(shift)),
+        sender: Sender { shift, count: 0 },
         takes: false,
     }
 }
