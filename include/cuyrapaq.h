@@ -24,7 +24,7 @@ extern "C" {
  * The version of the interface. MAJOR: a struct, an entry's contract or a refusal's meaning changed;
  * MINOR: entries were added; PATCH: the contracts are the same.
  */
-#define CQ_VERSION_MAJOR 3
+#define CQ_VERSION_MAJOR 4
 #define CQ_VERSION_MINOR 0
 #define CQ_VERSION_PATCH 0
 #define CQ_VERSION (CQ_VERSION_MAJOR * 10000L + CQ_VERSION_MINOR * 100L + CQ_VERSION_PATCH)
@@ -378,8 +378,12 @@ uint8_t cq_station_offer(cq_station *station, const uint8_t *text, size_t text_l
  *
  * A burst begins when characters wait and the line is free: no signal for 300 ms in a row. (A fresh line is
  * free, and ms in which the station reads nothing count as without signal.) A burst is its preamble, then codes
- * without gap, up to the end of a code behind which none waits. Outside a burst quiet is sent. In a burst and
- * for 300 ms after it the station reads nothing, so its own echo does no harm.
+ * without gap, up to the end of a code behind which none waits. In Baudot the first of them is the shift code of
+ * the shift in force, or 11111 (letters) from a station that has sent none yet: it takes no character, and the
+ * count of 72 starts again at it. So a reader is in the right shift from the first code of each burst on. Ahead
+ * of each character the rule of cq_baudot_send follows; a first character of the other shift brings a second
+ * shift code. Outside a burst quiet is sent. In a burst and for 300 ms after it the station reads nothing, so
+ * its own echo does no harm.
  *
  * CQ_OK: the first heard_length elements of `sent` are what to send in these ms, and `words` begins with as
  * many words as the result says, at most one for each ms; everything behind them stays as it was. A list of
