@@ -1,119 +1,138 @@
--- How many characters are taken before the synchronizing code has ended, by a model that is told when a burst begins
--- and ends.
-use mathlib.Core.Path.{_≡_, _∙_, refl, sym}
-use mathlib.Core.Bool.{Bool, true, false, cond, true≢false}
+-- How many characters are taken before the synchronizing code has ended, and that it is a shift code in Baudot, by a
+-- model that is told when a burst begins and ends.
+use mathlib.Core.Path.{_≡_, _∙_, refl, sym, ap, subst}
+use mathlib.Core.Bool.{Bool, true, false, cond, true≢false, false≢true}
+use mathlib.Core.Logic.{_⊎_, inl, inr}
 use mathlib.Core.List.{List, [], _∷_, append-nil}
-use Prim.Native.Nat.{ℕ, suc, _+_, _<_, _≤_}
+use Prim.Native.Nat.{ℕ, suc, _+_, _-_, _<_, _≤_}
 use native.Mathlib.Omega.{arith}
 use lib.ListN.{length, take, length-append}
+use Rattle.alphabet.specs.declared.Alphabet.{Alphabet}
+use Rattle.alphabet.specs.declared.Alphabet.the-variants.{Baudot}
 use Rattle.alphabet.specs.declared.Mode.{Mode}
 use Rattle.alphabet.specs.Modes.{alphabetOf}
 use Rattle.baudot.specs.declared.Sender.{Sender}
 use Rattle.baudot.specs.Sending.{shiftCode}
-use Rattle.signal.specs.Signal.{signal}
-use Rattle.burst.specs.Rules.{shiftWanted, senderAfterOwn}
-use Rattle.demand3.specs.Model.{Part, OwnCode, OnLine, Idle, Sending, Model, Loaded, Did}
+use Rattle.demand3.specs.Model.{Part, ShiftCode, OnLine, Idle, Sending, Model, Loaded, Did}
 use Rattle.demand3.specs.Model.{offered, loadBy, oneGone, ended, takenIn}
-use Rattle.demand3.specs.Reading.{synchronizes, atOnce, endsSynchronizing, untilSynchronized}
+use Rattle.demand3.specs.Reading.{synchronizes, atOnce, mostBefore, endsSynchronizing, untilSynchronized}
+use Rattle.demand3.specs.Reading.{synchronizingCode}
 use Rattle.demand3.proofs.Told.{Told, offer, ms, didBy, msBy, toldDoes}
-use Rattle.demand3.proofs.Laws.{SenderIn, Room, LawsOf}
+use Rattle.demand3.proofs.Laws.{OwnFirst, LawsOf, none-first}
 use Rattle.demand3.proofs.Views.{Opens, opens, goes-on, Begins, stays, shifts, owns, Closes, closes, keeps}
 use Rattle.demand3.proofs.Views.{closed-view, Fine, fine-offered, fine-ms, load-view}
 
--- while a synchronizing code is on the line, ms of it are left; otherwise at most n characters more are taken before
--- one
-abbrev RoomBy : Mode → Bool → Sender → ℕ → List ℕ → Type 0
-RoomBy mode true s n xs = 0 < length xs
-RoomBy mode false s n xs = Room (alphabetOf mode) s n
+-- in Baudot there is none, or it is a shift code
+abbrev ShiftOnly : Mode → List Part → Type 0
+ShiftOnly mode code = alphabetOf mode ≡ Baudot → (code ≡ []) ⊎ (code ≡ ShiftCode ∷ [])
 
-abbrev pub RoomOn : Mode → OnLine → Sender → ℕ → Type 0
-RoomOn mode Idle s n = Room (alphabetOf mode) s n
-RoomOn mode (Sending part xs) s n = RoomBy mode (synchronizes (alphabetOf mode) part) s n xs
+abbrev pub ShiftFirst : Mode → List Did → Type 0
+ShiftFirst mode ds = ShiftOnly mode (synchronizingCode mode ds)
 
--- no ms are left: it is no synchronizing code
-none-left : (mode : Mode) (b : Bool) (s : Sender) (n : ℕ) → RoomBy mode b s n [] → Room (alphabetOf mode) s n
-none-left mode true s n h = absurd (omega arith)
-none-left mode false s n h = h
+module _ (mode : Mode) where
+  abbrev a : Alphabet
+  a = alphabetOf mode
 
-room-gone : (mode : Mode) (b : Bool) (s : Sender) (n x : ℕ) (part : Part) (xs : List ℕ)
-    → synchronizes (alphabetOf mode) part ≡ b → RoomBy mode b s n (x ∷ xs)
-    → endsSynchronizing mode (ended (Sending part xs)) ≡ false → RoomBy mode b s n xs
-unfolding ended
-room-gone mode true s n x part [] e h z = absurd (true≢false (sym e ∙ z))
-room-gone mode true s n x part (y ∷ xs) e h z = omega arith
-room-gone mode false s n x part xs e h z = h
+  -- while a synchronizing code is on the line, ms of it are left, and in Baudot it is a shift code; otherwise n
+  -- characters more may be taken before one
+  abbrev RoomBy : Bool → Part → ℕ → List ℕ → Type 0
+  RoomBy true part n xs = (0 < length xs) × (a ≡ Baudot → part ≡ ShiftCode)
+  RoomBy false part n xs = mostBefore a ≤ n
 
-gone-room : (mode : Mode) (on : OnLine) (s : Sender) (n : ℕ) → RoomOn mode on s n
-    → endsSynchronizing mode (ended (oneGone on)) ≡ false → RoomOn mode (oneGone on) s n
-unfolding oneGone
-gone-room mode Idle s n h z = h
-gone-room mode (Sending part []) s n h z = h
-gone-room mode (Sending part (x ∷ xs)) s n h z =
-    room-gone mode (synchronizes (alphabetOf mode) part) s n x part xs refl h z
+  abbrev pub RoomOn : OnLine → ℕ → Type 0
+  RoomOn Idle n = mostBefore a ≤ n
+  RoomOn (Sending part xs) n = RoomBy (synchronizes a part) part n xs
 
-closes-room : (mode : Mode) {on on′ : OnLine} (s : Sender) (n : ℕ) → Closes on on′ → RoomOn mode on s n
-    → RoomOn mode on′ s n
-closes-room mode s n (closes {part}) h = none-left mode (synchronizes (alphabetOf mode) part) s n h
-closes-room mode s n keeps h = h
+  -- no ms are left: it is no synchronizing code
+  none-left : (b : Bool) (part : Part) (n : ℕ) → RoomBy b part n [] → (b ≡ false) × (mostBefore a ≤ n)
+  none-left true part n h = let long = h .0 in absurd (omega arith)
+  none-left false part n h = (refl, h)
 
-module _ (mode : Mode) (L : LawsOf mode) (later : atOnce (alphabetOf mode) ≡ false) where
-  opens-room : {on on′ : OnLine} (s : Sender) (n : ℕ) → Opens mode on on′ → RoomOn mode on s n → RoomOn mode on′ s n
-  opens-room s n opens h = rw (L .preamble-not) h
-  opens-room s n goes-on h = h
+  -- a ms that ends these parts and leaves this on the line: it ends no synchronizing code, or in Baudot a shift code
+  record Gone (parts : List Part) (on : OnLine) (n : ℕ) : Type 0 where
+    still : endsSynchronizing mode parts ≡ false → RoomOn on n
+    at-last : endsSynchronizing mode parts ≡ true → a ≡ Baudot → parts ≡ ShiftCode ∷ []
 
-  begins-room : {waiting : List ℕ} {on : OnLine} {s : Sender} {l : Loaded} (n : ℕ) → Begins mode waiting on s l
-      → SenderIn (alphabetOf mode) s → RoomOn mode on s n
-      → (m : ℕ) × (n ≡ length (l .taken) + m) × RoomOn mode (l .onLine) (l .sender) m
-  begins-room n stays i h = (n, omega arith, h)
-  begins-room n (shifts part c cs s w e) i h =
-      let long = L .code-long (shiftCode (shiftWanted (alphabetOf mode) s (w .own))) in
-      (n, omega arith, rw (L .shift-synchronizes s (w .own) e) long)
-  begins-room n (owns part c cs s w e) i h =
-      let r = L .own-room s c w n i e (none-left mode (synchronizes (alphabetOf mode) part) s n h) later in
-      (r .0, omega (arith, r .1), go (synchronizes (alphabetOf mode) OwnCode) (r .0) (r .2))
-    where
-      after : Sender
-      after = senderAfterOwn (alphabetOf mode) s
+  part-gone : (b : Bool) (part : Part) (n x : ℕ) (xs : List ℕ) → synchronizes a part ≡ b → RoomBy b part n (x ∷ xs)
+      → Gone (ended (Sending part xs)) (Sending part xs) n
+  unfolding ended
+  part-gone true part n x [] e h = record {
+    still = λ z. absurd (true≢false (sym e ∙ z));
+    at-last = λ z t. ap (λ (p : Part). p ∷ []) (h .1 t);
+  }
+  part-gone true part n x (y ∷ xs) e h =
+      record { still = λ z. rw e (omega arith, h .1); at-last = λ z. absurd (false≢true z) }
+  part-gone false part n x [] e h =
+      record { still = λ z. rw e h; at-last = λ z. absurd (false≢true (sym e ∙ z)) }
+  part-gone false part n x (y ∷ xs) e h = record { still = λ z. rw e h; at-last = λ z. absurd (false≢true z) }
 
-      go : (b : Bool) (m : ℕ) → (b ≡ false → Room (alphabetOf mode) after m)
-          → RoomBy mode b after m (signal mode (w .code .0))
-      go true m k = L .code-long (w .code .0)
-      go false m k = k refl
+  gone-room : (on : OnLine) (n : ℕ) → RoomOn on n → Gone (ended (oneGone on)) (oneGone on) n
+  unfolding oneGone ended
+  gone-room Idle n h = record { still = λ z. h; at-last = λ z. absurd (false≢true z) }
+  gone-room (Sending part []) n h =
+      let none = none-left (synchronizes a part) part n h .0 in
+      record { still = λ z. h; at-last = λ z. absurd (false≢true (sym none ∙ z)) }
+  gone-room (Sending part (x ∷ xs)) n h = part-gone (synchronizes a part) part n x xs refl h
 
-  -- one ms
-  ms-room : (begins ends : Bool) (m : Model) (x n : ℕ) → Fine mode m → RoomOn mode (m .onLine) (m .sender) n
-      → let m′ = msBy mode begins ends m x in
-      let d = didBy mode begins m in
-      (k : ℕ) × (n ≡ length (d .taken) + k)
-      × (endsSynchronizing mode (d .ended) ≡ false → RoomOn mode (m′ .onLine) (m′ .sender) k)
-  unfolding msBy didBy
-  ms-room begins ends m x n f h =
-      let v = load-view mode L begins m f in
-      let l = loadBy begins mode m in
-      let c = closed-view ends (oneGone (l .onLine)) in
-      let b = begins-room n (v .2) (f .sender-in) (opens-room (m .sender) n (v .1) h) in
-      let gone = gone-room mode (l .onLine) (l .sender) (b .0) (b .2) in
-      (b .0, b .1, λ z. closes-room mode (l .sender) (b .0) c (gone z))
+  closes-room : {on on′ : OnLine} (n : ℕ) → Closes on on′ → RoomOn on n → RoomOn on′ n
+  closes-room n (closes {part}) h = none-left (synchronizes a part) part n h .1
+  closes-room n keeps h = h
 
-  pub bound : (steps : List Told) (m : Model) (n : ℕ) → Fine mode m → RoomOn mode (m .onLine) (m .sender) n
-      → let ds = toldDoes mode m steps in
-      length (takenIn (take (untilSynchronized mode ds) ds)) ≤ n
-  unfolding toldDoes offered takenIn untilSynchronized
-  bound [] m n f h = omega arith
-  bound (offer cs ∷ steps) m n f h = bound steps (offered mode cs m) n (fine-offered mode cs m f) h
-  bound (ms begins ends x ∷ steps) m n f h =
-      let r = ms-room begins ends m x n f h in
-      go (endsSynchronizing mode (d .ended)) (r .0) (r .1)
-      (λ e. bound steps (msBy mode begins ends m x) (r .0) (fine-ms mode L begins ends m x f) (r .2 e))
-    where
-      d : Did
-      d = didBy mode begins m
+  module _ (L : LawsOf mode) (later : atOnce a ≡ false) where
+    opens-room : {on on′ : OnLine} (n : ℕ) → Opens mode on on′ → RoomOn on n → RoomOn on′ n
+    opens-room n opens h = rw (L .preamble-not) h
+    opens-room n goes-on h = h
 
-      ds : List Did
-      ds = toldDoes mode (msBy mode begins ends m x) steps
+    begins-room : {waiting : List ℕ} {on : OnLine} {s : Sender} {l : Loaded} (n : ℕ) → Begins mode waiting on s l
+        → RoomOn on n → (m : ℕ) × (n ≡ length (l .taken) + m) × RoomOn (l .onLine) m
+    begins-room n stays h = (n, omega arith, h)
+    begins-room n (shifts k i) h =
+        (n, omega arith, rw (L .shift-synchronizes k i) (L .code-long (shiftCode k), λ t. refl))
+    begins-room n (owns part o c cs s w e) h =
+        let none = none-left (synchronizes a part) part n h in
+        let first : OwnFirst a part = record { later = later; not-opening = o; not-yet = none .0 } in
+        let one = L .first-room part first in
+        let most = none .1 in
+        let never : a ≡ Baudot → ⊥ = λ t. none-first part (subst (λ (a : Alphabet). OwnFirst a part) t first) in
+        (n - 1, omega arith, rw (L .own-synchronizes later) (L .code-long (w .code .0), λ t. absurd (never t)))
 
-      go : (b : Bool) (k : ℕ) → n ≡ length (d .taken) + k
-          → (b ≡ false → length (takenIn (take (untilSynchronized mode ds) ds)) ≤ k)
-          → length (takenIn (take (cond b 1 (suc (untilSynchronized mode ds))) (d ∷ ds))) ≤ n
-      go true k e i = simp append-nil (omega arith)
-      go false k e i = let j = i refl in simp length-append (omega arith)
+    -- one ms
+    ms-room : (begins ends : Bool) (m : Model) (x n : ℕ) → Fine mode m → RoomOn (m .onLine) n
+        → let d = didBy mode begins m in
+        (k : ℕ) × (n ≡ length (d .taken) + k) × Gone (d .ended) (msBy mode begins ends m x .onLine) k
+    unfolding msBy didBy
+    ms-room begins ends m x n f h =
+        let v = load-view mode L begins m f in
+        let on = loadBy begins mode m .onLine in
+        let b = begins-room n (v .2) (opens-room n (v .1) h) in
+        let gone = gone-room on (b .0) (b .2) in
+        let closed = closed-view mode ends (oneGone on) in
+        (b .0, b .1, record { still = λ z. closes-room (b .0) closed (gone .still z); at-last = gone .at-last })
+
+    pub bound : (steps : List Told) (m : Model) (n : ℕ) → Fine mode m → RoomOn (m .onLine) n
+        → let ds = toldDoes mode m steps in
+        (length (takenIn (take (untilSynchronized mode ds) ds)) ≤ n) × ShiftFirst mode ds
+    unfolding toldDoes offered takenIn untilSynchronized synchronizingCode
+    bound [] m n f h = (omega arith, λ t. inl refl)
+    bound (offer cs ∷ steps) m n f h = bound steps (offered mode cs m) n (fine-offered mode cs m f) h
+    bound (ms begins ends x ∷ steps) m n f h =
+        let g = ms-room begins ends m x n f h in
+        go (endsSynchronizing mode (d .ended)) (g .0) (g .1) (g .2 .at-last)
+        (λ e. bound steps m′ (g .0) (fine-ms mode L begins ends m x f) (g .2 .still e))
+      where
+        d : Did
+        d = didBy mode begins m
+
+        m′ : Model
+        m′ = msBy mode begins ends m x
+
+        ds : List Did
+        ds = toldDoes mode m′ steps
+
+        go : (b : Bool) (k : ℕ) → n ≡ length (d .taken) + k
+            → (b ≡ true → a ≡ Baudot → d .ended ≡ ShiftCode ∷ [])
+            → (b ≡ false → (length (takenIn (take (untilSynchronized mode ds) ds)) ≤ k) × ShiftFirst mode ds)
+            → (length (takenIn (take (cond b 1 (suc (untilSynchronized mode ds))) (d ∷ ds))) ≤ n)
+            × ShiftOnly mode (cond b (d .ended) (synchronizingCode mode ds))
+        go true k e last i = (simp append-nil (omega arith), λ t. inr (last refl t))
+        go false k e last i = let most = i refl .0 in (simp length-append (omega arith), i refl .1)

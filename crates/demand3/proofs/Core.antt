@@ -1,6 +1,6 @@
 -- THE CORE OF DEMAND 3: after an idle period (there: a rest) a reader reads what a model takes that is told, ms by ms,
 -- when a burst begins and ends, whoever tells it.
-use mathlib.Core.Path.{_≡_, _∙_, refl, ap, subst}
+use mathlib.Core.Path.{_≡_, _∙_, refl, sym, ap, subst}
 use mathlib.Core.Bool.{Bool, true, false, cond, true≢false}
 use mathlib.Core.Logic.{inl}
 use mathlib.Core.List.{List, [], _∷_, _++_}
@@ -39,7 +39,7 @@ use Rattle.demand3.proofs.Laws.{SenderIn, LawsOf, laws}
 use Rattle.demand3.proofs.Views.{left, Begins, stays, shifts, owns, Fine, fine-offered, fine-ms, fine-after}
 use Rattle.demand3.proofs.Views.{load-view}
 use Rattle.demand3.proofs.Following.{follows, follows-after}
-use Rattle.demand3.proofs.Bound.{bound}
+use Rattle.demand3.proofs.Bound.{ShiftFirst, bound}
 
 -- ---- the statement
 
@@ -62,8 +62,10 @@ pub record AfterIdle (mode : Mode) (past on : List Told) (r : Reader) (n : ℕ) 
 -- What A did in the ms that follow, and what those ms end in for a reader that hears them, up to a ms that is asked
 -- about.
 pub record Reads (mode : Mode) (ds : List Did) (es : List Event) : Type 0 where
-  -- at most 72, 1, 0 characters are taken up to the synchronizing code's last ms, or so far while none has ended
+  -- at most 0, 1, 0 characters are taken up to the synchronizing code's last ms, or so far while none has ended; in
+  -- Baudot that code is a shift code
   pub before : length (takenIn (take (synchronizedAfter mode ds) ds)) ≤ mostBefore (alphabetOf mode)
+  pub shift-first : ShiftFirst mode ds
   -- in no burst, the words after that ms are those of the normal form of the characters taken after it, in order
   pub text : EndsIdle ds
       → wordsOf (drop (synchronizedAfter mode ds) es)
@@ -100,7 +102,7 @@ module _ (mode : Mode) where
   module _ (begins : Bool) (m : Model) (e : didBy mode begins m .burst ≡ false) where
     ms-idle : (ends : Bool) (x : ℕ) → msBy mode begins ends m x .onLine ≡ Idle
     unfolding didBy msBy oneGone closed
-    ms-idle ends x = ap (λ (on : OnLine). closed ends (oneGone on)) (idle-of (loadBy begins mode m .onLine) e)
+    ms-idle ends x = ap (λ (on : OnLine). closed mode ends (oneGone on)) (idle-of (loadBy begins mode m .onLine) e)
 
     ms-quiet : didBy mode begins m .sent ≡ 0
     unfolding didBy levelOn
@@ -179,8 +181,8 @@ module _ (mode : Mode) (L : LawsOf mode) where
       → allChars (l .taken) ≡ true
   unfolding allAtMost
   begins-chars stays = refl
-  begins-chars (shifts part c cs s w e) = refl
-  begins-chars (owns part c cs s w e) = one-char c (w .char-in)
+  begins-chars (shifts k i) = refl
+  begins-chars (owns part o c cs s w e) = one-char c (w .char-in)
 
   taken-chars : (steps : List Told) (m : Model) → Fine mode m → allChars (takenIn (toldDoes mode m steps)) ≡ true
   unfolding toldDoes didBy takenIn allAtMost
@@ -209,20 +211,21 @@ module _ (mode : Mode) (L : LawsOf mode) where
     text-by true e z =
         follows mode L next m r f (rw idle (L .at-once e (m .sender) r between)) (ends z)
         ∙ ap (λ (on : OnLine). words mode r (left on) ++ normalForm a (takenIn ds)) idle
-    text-by false e z = follows-after mode L next m r f (rw idle (record { between = between; due = tt })) (ends z)
+    text-by false e z = follows-after mode L e next m r f (rw idle (record { between = between; due = tt })) (ends z)
 
     before-by : (b : Bool) → atOnce a ≡ b
-        → length (takenIn (take (cond b 0 (untilSynchronized mode ds)) ds)) ≤ mostBefore a
+        → (length (takenIn (take (cond b 0 (untilSynchronized mode ds)) ds)) ≤ mostBefore a) × ShiftFirst mode ds
     unfolding takenIn
-    before-by true e = omega arith
-    before-by false e = bound mode L e next m (mostBefore a) f (rw idle (L .room-most (m .sender)))
+    before-by true e = (omega arith, λ t. absurd (true≢false (sym e ∙ ap atOnce t)))
+    before-by false e = bound mode L e next m (mostBefore a) f (rw idle (omega arith))
 
     reads : Reads mode ds (events mode r (sentIn ds))
     reads =
         let w = text-by (atOnce a) refl in
         let k = synchronizedAfter mode ds in
         let chars = normal-form-chars a (takenIn (drop k ds)) (taken-drop k ds (taken-chars next m f)) in
-        record { before = before-by (atOnce a) refl; text = w; no-fault = λ z. rw (w z) chars }
+        let early = before-by (atOnce a) refl in
+        record { before = early .0; shift-first = early .1; text = w; no-fault = λ z. rw (w z) chars }
 
 -- ---- from a fresh model on
 

@@ -15,7 +15,8 @@ use Rattle.demand3.specs.Model.{Model, Did, freshModel, modelAfter, does
 use Rattle.demand3.specs.Reading.{NoBurst, EndsIdle}
 use Rattle.demand3.specs.Calls.{Call, opened, sentBy, stepsBy}
 use Rattle.demand3.specs.Demand3.{Lists, theMode, theAlphabet, stepsA, stepsB, didsA, between, Premises, followsA}
-use Rattle.demand3.specs.Demand3.{lastForty, synchronized, wordsBefore, wordsDue, Conclusion, SendsAsModel}
+use Rattle.demand3.specs.Demand3.{lastForty, synchronized, wordsBefore, wordsDue, Conclusion, OpensWithShift}
+use Rattle.demand3.specs.Demand3.{SendsAsModel}
 use Rattle.demand3.proofs.Told.{Told, toldAfter, toldDoes, toldHeard}
 use Rattle.demand3.proofs.Cuts.{behind, idle-later}
 use Rattle.demand3.proofs.OneClock.{Clock, OneClock, ReadsOn, followsIn, wordsIn, reads-on}
@@ -127,10 +128,15 @@ module _ (d : Lists) where
     follows-are : followsIn mode (clockOf d) toldA ≡ followsA d
     follows-are = ap (between (d .openA) (d .start + 300) (d .asked + 1)) dids-are
 
+    reads : ReadsOn mode (clockOf d) toldB (followsA d)
+    reads = subst (ReadsOn mode (clockOf d) toldB) follows-are (reads-on mode (clockOf d) toldA toldB one-clock)
+
+    pub opens-with-shift : OpensWithShift d
+    opens-with-shift = reads .shift-first
+
     pub concludes : Conclusion d
     concludes =
-        let r : ReadsOn mode (clockOf d) toldB (followsA d) =
-        subst (ReadsOn mode (clockOf d) toldB) follows-are (reads-on mode (clockOf d) toldA toldB one-clock) in
+        let r = reads in
         let k = synchronized d in
         let due = same-words (normalForm (theAlphabet d) (takenIn (drop k (followsA d)))) in
         let point = d .start + 300 + k in

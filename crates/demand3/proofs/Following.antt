@@ -6,21 +6,24 @@ use mathlib.Core.List.{List, [], _∷_, _++_, append-nil, append-assoc}
 use Prim.Native.Nat.{ℕ, suc}
 use lib.ListN.{drop}
 use Rattle.lists.specs.Steps.{stateAfter, outputs}
+use Rattle.lists.proofs.Lists.{by-test}
 use Rattle.alphabet.specs.declared.Mode.{Mode}
 use Rattle.alphabet.specs.Modes.{alphabetOf}
 use Rattle.alphabet.specs.Normal.{normal, normalForm}
 use Rattle.alphabet_theorems.proofs.Normal.{normal-append}
 use Rattle.baudot.specs.declared.Sender.{Sender}
+use Rattle.signal.specs.Signal.{signal}
+use Rattle.burst.specs.Rules.{senderAfterOwn}
 use Rattle.reader.specs.declared.Event.{Event}
 use Rattle.reader.specs.declared.Reader.{Reader}
 use Rattle.reader.specs.Reader.{hear}
 use Rattle.reader.specs.Words.{wordOf, wordsOf, readerAfter, events, words}
 use Rattle.line_theorems.specs.Silence.{Settled}
-use Rattle.demand3.specs.Model.{OnLine, Idle, Sending, Model, Loaded, Did, offered, loadBy}
+use Rattle.demand3.specs.Model.{OwnCode, OnLine, Idle, Sending, Model, Loaded, Did, offered, loadBy}
 use Rattle.demand3.specs.Model.{levelOn, oneGone, ended, sentIn, takenIn}
-use Rattle.demand3.specs.Reading.{synchronizes, endsSynchronizing, untilSynchronized}
+use Rattle.demand3.specs.Reading.{synchronizes, atOnce, endsSynchronizing, untilSynchronized}
 use Rattle.demand3.proofs.Told.{Told, offer, ms, didBy, msBy, toldAfter, toldDoes}
-use Rattle.demand3.proofs.Laws.{SenderIn, Synchronized, LawsOf}
+use Rattle.demand3.proofs.Laws.{Synchronized, OwnFirst, LawsOf}
 use Rattle.demand3.proofs.Views.{left, Opens, opens, goes-on, Begins, stays, shifts, owns, Closes, closes, keeps}
 use Rattle.demand3.proofs.Views.{closed-view, Fine, fine-offered, fine-ms, load-view}
 
@@ -66,15 +69,15 @@ module _ (mode : Mode) (L : LawsOf mode) where
 
   -- a code begins: with what it takes, the words are those of what was taken
   begins-after : {waiting : List ℕ} {on : OnLine} {s : Sender} {l : Loaded} (r : Reader) → Begins mode waiting on s l
-      → SenderIn (alphabetOf mode) s → After s r on
+      → After s r on
       → After (l .sender) r (l .onLine)
       × (words mode r (left (l .onLine)) ≡ words mode r (left on) ++ normals (l .taken))
   unfolding stateAfter outputs wordsOf normalForm
-  begins-after r stays i h = (h, sym (append-nil _))
-  begins-after r (shifts part c cs s w e) i h =
-      let g = L .shift-law s c w i e r (L .between s r h) in
+  begins-after r stays h = (h, sym (append-nil _))
+  begins-after {s = s} r (shifts k q) h =
+      let g = L .shift-law k q r (L .between s r h) in
       (g .after, g .heard)
-  begins-after r (owns part c cs s w e) i h =
+  begins-after r (owns part o c cs s w e) h =
       let g = L .own-law s c w e r h in
       (g .after, g .heard ∙ sym (append-nil (normal (alphabetOf mode) c)))
 
@@ -107,10 +110,10 @@ module _ (mode : Mode) (L : LawsOf mode) where
   followed begins ends m x r f h =
       let v = load-view mode L begins m f in
       let o = opens-after (m .sender) r (v .1) h in
-      let b = begins-after r (v .2) (f .sender-in) (o .0) in
+      let b = begins-after r (v .2) (o .0) in
       let l = loadBy begins mode m in
       let g = gone-after (l .sender) r (l .onLine) (b .0) in
-      let c = closes-left (closed-view ends (oneGone (l .onLine))) in
+      let c = closes-left (closed-view mode ends (oneGone (l .onLine))) in
       record { then = rw c (g .0); text = rw (c, ← (o .1)) (g .1 ∙ b .1) }
 
   -- what is heard first and what is taken first stand in front
@@ -159,17 +162,6 @@ module _ (mode : Mode) (L : LawsOf mode) where
   }
   opens-before s r goes-on h = h
 
-  begins-before : {waiting : List ℕ} {on : OnLine} {s : Sender} {l : Loaded} (r : Reader) → Begins mode waiting on s l
-      → SenderIn (alphabetOf mode) s → Before s r on → Before (l .sender) r (l .onLine)
-  unfolding stateAfter
-  begins-before r stays i h = h
-  begins-before r (shifts part c cs s w e) i h =
-      let g = L .shift-law s c w i e r (h .between) in
-      record { between = L .between _ _ (g .after); due = λ y. g .after }
-  begins-before r (owns part c cs s w e) i h =
-      let b = h .between in
-      record { between = L .own-between c w r b; due = λ y. L .own-synchronizes y _ c w r b }
-
   gone-before : (s : Sender) (r : Reader) (on : OnLine) → Before s r on → Before s (next r (levelOn on)) (oneGone on)
   unfolding stateAfter levelOn oneGone
   gone-before s r Idle h =
@@ -197,62 +189,81 @@ module _ (mode : Mode) (L : LawsOf mode) where
     pub at-last : endsSynchronizing mode (d .ended) ≡ true
         → After (m′ .sender) (next r (d .sent)) (m′ .onLine) × (left (m′ .onLine) ≡ [])
 
-  awaited : (begins ends : Bool) (m : Model) (x : ℕ) (r : Reader) → Fine mode m → Before (m .sender) r (m .onLine)
-      → Awaited (msBy mode begins ends m x) (didBy mode begins m) r
-  unfolding msBy didBy
-  awaited begins ends m x r f h =
-      let v = load-view mode L begins m f in
-      let l = loadBy begins mode m in
-      let b = begins-before r (v .2) (f .sender-in) (opens-before (m .sender) r (v .1) h) in
-      let g = gone-before (l .sender) r (l .onLine) b in
-      let c = closed-view ends (oneGone (l .onLine)) in
-      let k = closes-left c in
-      record {
-        before = closes-before (l .sender) _ c g;
-        at-last = λ e. let a = ends-before (l .sender) _ (oneGone (l .onLine)) g e in (rw k (a .0), k ∙ a .1);
-      }
-
   -- the words after the first synchronizing code are those of what is taken after it
   abbrev ReadAfter : List Did → List Event → Type 0
   ReadAfter ds es =
       let k = untilSynchronized mode ds in wordsOf (drop k es) ≡ normals (takenIn (drop k ds))
 
-  -- so it is up to no burst
-  pub follows-after : (steps : List Told) (m : Model) (r : Reader) → Fine mode m → Before (m .sender) r (m .onLine)
-      → toldAfter mode m steps .onLine ≡ Idle
-      → let ds = toldDoes mode m steps in ReadAfter ds (events mode r (sentIn ds))
-  unfolding toldAfter toldDoes offered takenIn normalForm outputs wordsOf untilSynchronized
-  follows-after [] m r f h z = refl
-  follows-after (offer cs ∷ steps) m r f h z =
-      follows-after steps (offered mode cs m) r (fine-offered mode cs m f) h z
-  follows-after (ms begins ends x ∷ steps) m r f h z = go (endsSynchronizing mode (d .ended)) at-last
-      (follows-after steps m′ q (fine-ms mode L begins ends m x f) (g .before) z)
-    where
-      m′ : Model
-      m′ = msBy mode begins ends m x
+  module _ (later : atOnce (alphabetOf mode) ≡ false) where
+    -- a code begins: after it the reader is synchronized
+    begins-before : {waiting : List ℕ} {on : OnLine} {s : Sender} {l : Loaded} (r : Reader)
+        → Begins mode waiting on s l → Before s r on → Before (l .sender) r (l .onLine)
+    unfolding stateAfter
+    begins-before r stays h = h
+    begins-before r (shifts k q) h =
+        let g = L .shift-law k q r (h .between) .after in
+        record { between = L .between _ _ g; due = λ y. g }
+    begins-before r (owns part o c cs s w e) h = record { between = L .between _ _ g; due = λ y. g }
+      where
+        first : synchronizes (alphabetOf mode) part ≡ false → OwnFirst (alphabetOf mode) part
+        first n = record { later = later; not-opening = o; not-yet = n }
 
-      d : Did
-      d = didBy mode begins m
+        g : After (senderAfterOwn (alphabetOf mode) s) r (Sending OwnCode (signal mode (w .code .0)))
+        g =
+            by-test (synchronizes (alphabetOf mode) part) (λ y. L .own-law s c w e r (h .due y) .after)
+            (λ n. L .first-law part (first n) _ c w r (h .between))
 
-      q : Reader
-      q = next r (d .sent)
+    awaited : (begins ends : Bool) (m : Model) (x : ℕ) (r : Reader) → Fine mode m → Before (m .sender) r (m .onLine)
+        → Awaited (msBy mode begins ends m x) (didBy mode begins m) r
+    unfolding msBy didBy
+    awaited begins ends m x r f h =
+        let v = load-view mode L begins m f in
+        let l = loadBy begins mode m in
+        let b = begins-before r (v .2) (opens-before (m .sender) r (v .1) h) in
+        let g = gone-before (l .sender) r (l .onLine) b in
+        let c = closed-view mode ends (oneGone (l .onLine)) in
+        let k = closes-left c in
+        record {
+          before = closes-before (l .sender) _ c g;
+          at-last = λ e. let a = ends-before (l .sender) _ (oneGone (l .onLine)) g e in (rw k (a .0), k ∙ a .1);
+        }
 
-      ds : List Did
-      ds = toldDoes mode m′ steps
+    -- so it is up to no burst
+    pub follows-after : (steps : List Told) (m : Model) (r : Reader) → Fine mode m → Before (m .sender) r (m .onLine)
+        → toldAfter mode m steps .onLine ≡ Idle
+        → let ds = toldDoes mode m steps in ReadAfter ds (events mode r (sentIn ds))
+    unfolding toldAfter toldDoes offered takenIn normalForm outputs wordsOf untilSynchronized
+    follows-after [] m r f h z = refl
+    follows-after (offer cs ∷ steps) m r f h z =
+        follows-after steps (offered mode cs m) r (fine-offered mode cs m f) h z
+    follows-after (ms begins ends x ∷ steps) m r f h z = go (endsSynchronizing mode (d .ended)) at-last
+        (follows-after steps m′ q (fine-ms mode L begins ends m x f) (g .before) z)
+      where
+        m′ : Model
+        m′ = msBy mode begins ends m x
 
-      g : Awaited m′ d r
-      g = awaited begins ends m x r f h
+        d : Did
+        d = didBy mode begins m
 
-      at-last : endsSynchronizing mode (d .ended) ≡ true → words mode q (sentIn ds) ≡ normals (takenIn ds)
-      at-last e =
-          let a = g .at-last e in
-          follows steps m′ q (fine-ms mode L begins ends m x f) (a .0) z
-          ∙ ap (λ (l : List ℕ). words mode q l ++ normals (takenIn ds)) (a .1)
+        q : Reader
+        q = next r (d .sent)
 
-      go : (b : Bool) → (b ≡ true → words mode q (sentIn ds) ≡ normals (takenIn ds))
-          → ReadAfter ds (events mode q (sentIn ds))
-          → let k = cond b 1 (suc (untilSynchronized mode ds)) in
-          wordsOf (drop k (hear mode r (d .sent) .event ∷ events mode q (sentIn ds)))
-          ≡ normals (takenIn (drop k (d ∷ ds)))
-      go true p i = p refl
-      go false p i = i
+        ds : List Did
+        ds = toldDoes mode m′ steps
+
+        g : Awaited m′ d r
+        g = awaited begins ends m x r f h
+
+        at-last : endsSynchronizing mode (d .ended) ≡ true → words mode q (sentIn ds) ≡ normals (takenIn ds)
+        at-last e =
+            let a = g .at-last e in
+            follows steps m′ q (fine-ms mode L begins ends m x f) (a .0) z
+            ∙ ap (λ (l : List ℕ). words mode q l ++ normals (takenIn ds)) (a .1)
+
+        go : (b : Bool) → (b ≡ true → words mode q (sentIn ds) ≡ normals (takenIn ds))
+            → ReadAfter ds (events mode q (sentIn ds))
+            → let k = cond b 1 (suc (untilSynchronized mode ds)) in
+            wordsOf (drop k (hear mode r (d .sent) .event ∷ events mode q (sentIn ds)))
+            ≡ normals (takenIn (drop k (d ∷ ds)))
+        go true p i = p refl
+        go false p i = i

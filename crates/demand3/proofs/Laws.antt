@@ -3,11 +3,11 @@ use mathlib.Core.Path.{_≡_, _∙_, refl, sym, ap, subst}
 use mathlib.Core.Bool.{Bool, true, false, cond, true≢false, false≢true}
 use mathlib.Core.Logic.{_⊎_, inl, inr, ⊎-elim}
 use mathlib.Core.List.{List, [], _∷_, _++_, append-nil}
-use Prim.Native.Nat.{ℕ, suc, _+_, _/_, _%_, _-_, _<_, _≤_}
+use Prim.Native.Nat.{ℕ, _/_, _%_, _<_, _≤_}
 use native.Mathlib.Omega.{arith}
 use lib.Dec.{eqb}
 use lib.ListN.{length, getD, replicate, length-append, length-replicate}
-use borrow.Author.Tests.{eqb-true, eq-eqb, le-leb}
+use borrow.Author.Tests.{eqb-true, eq-eqb, ne-eqb, le-leb}
 use Rattle.lists.specs.Lists.{allAtMost}
 use Rattle.lists.specs.Steps.{stateAfter, outputs}
 use Rattle.lists.proofs.Tables.{tabulate-length}
@@ -26,7 +26,7 @@ use Rattle.alphabet.specs.Normal.{sends, reads, charsOf, readBack, normal, norm
 use Rattle.alphabet_theorems.proofs.Rule.{ReadBack, rule-of}
 use Rattle.alphabet_theorems.proofs.Normal.{own-shift, normal-code}
 use Rattle.baudot.specs.declared.Sender.{Sender}
-use Rattle.baudot.specs.Sending.{wanted, shiftCode, shifted, counted, codesFor, senderFor, codesOf, senderAfter}
+use Rattle.baudot.specs.Sending.{sender, wanted, shiftCode, counted, codesFor, senderFor, codesOf, senderAfter}
 use Rattle.baudot.specs.Sending.{Running}
 use Rattle.baudot.specs.Reading.{shiftBy, textOf, shiftAfter}
 use Rattle.baudot.proofs.SendingRule.{NoneAhead, ahead, codes-none, sender-none}
@@ -43,8 +43,8 @@ use Rattle.line_theorems.specs.Silence.{Settled}
 use Rattle.line_theorems.proofs.Chain.{Gives, none, marks-pass}
 use Rattle.line_theorems.proofs.BaudotChain.{codes-read, code-45, code-50, code-edt}
 use Rattle.line_theorems.proofs.DtmfChain.{keys-given, shape-keys, row-shape, row-read}
-use Rattle.burst.specs.Rules.{shiftWanted, senderAfterOwn}
-use Rattle.demand3.specs.Model.{Preamble, ShiftCode, OwnCode}
+use Rattle.burst.specs.Rules.{opensWithShift, openingShift, shiftWanted, senderAfterOwn}
+use Rattle.demand3.specs.Model.{Part, Preamble, ShiftCode, OwnCode, isOpening}
 use Rattle.demand3.specs.Reading.{synchronizes, atOnce, mostBefore}
 
 -- a character that can wait: it sends a code
@@ -84,11 +84,17 @@ Synchronized Baudot s r = InShift s r
 Synchronized dtmf s r = (r .keys ≡ ready) × (r .prefix ≡ 0)
 Synchronized edt s r = r .frame ≡ hunting
 
--- at most n characters more are taken before the synchronizing code
-abbrev pub Room : Alphabet → Sender → ℕ → Type 0
-Room Baudot s n = 72 ≤ n + s .count
-Room dtmf s n = 1 ≤ n
-Room edt s n = Unit {0}
+-- a shift that a shift code can have: in Baudot letters and figures
+abbrev pub ShiftIn : Alphabet → ℕ → Type 0
+ShiftIn Baudot k = (1 ≤ k) × (k ≤ 2)
+ShiftIn dtmf k = ⊥
+ShiftIn edt k = ⊥
+
+-- an own code that begins behind this part is the first code, and no end of an idle period has synchronized: in DTMF
+pub record OwnFirst (a : Alphabet) (part : Part) : Type 0 where
+  pub later : atOnce a ≡ false
+  pub not-opening : isOpening a part ≡ false
+  pub not-yet : synchronizes a part ≡ false
 
 -- What has to hold of a mode, its alphabet a, and its readers that are between codes.
 pub record Laws (mode : Mode) (a : Alphabet) (Between : Reader → Type 0) : Type 0 where
@@ -98,30 +104,27 @@ pub record Laws (mode : Mode) (a : Alphabet) (Between : Reader → Type 0) : Typ
   pub quiet-passes : (r : Reader) → Between r → Gives mode r (0 ∷ []) [] r
   pub preamble-passes : (r : Reader) → Between r → Gives mode r (preamble mode) [] r
   pub preamble-not : synchronizes a Preamble ≡ false
-  -- a shift code that is wanted synchronizes, and gives no word
-  pub shift-law : (s : Sender) (c : ℕ) (w : Waits a c) → SenderIn a s → eqb (shiftWanted a s (w .own)) 0 ≡ false
-      → (r : Reader) → Between r
-      → let k = shiftWanted a s (w .own) in Makes mode r (signal mode (shiftCode k)) [] (Synchronized a (shifted s k))
-  pub shift-sender : (s : Sender) (c : ℕ) (w : Waits a c) → SenderIn a s → eqb (shiftWanted a s (w .own)) 0 ≡ false
-      → SenderIn a (shifted s (shiftWanted a s (w .own)))
-  pub shift-synchronizes : (s : Sender) (own : ℕ) → eqb (shiftWanted a s own) 0 ≡ false
-      → synchronizes a ShiftCode ≡ true
-  -- an own code ahead of which none is wanted: a synchronized reader reads its normal form, another one something
+  -- the shift of the code that opens a burst, and of one that is wanted, is one that a shift code can have
+  pub opening-in : opensWithShift a ≡ true → (s : Sender) → SenderIn a s → ShiftIn a (openingShift s)
+  pub wanted-in : (s : Sender) (c : ℕ) (w : Waits a c) → SenderIn a s → eqb (shiftWanted a s (w .own)) 0 ≡ false
+      → ShiftIn a (shiftWanted a s (w .own))
+  -- a shift code synchronizes, and gives no word
+  pub shift-law : (k : ℕ) → ShiftIn a k → (r : Reader) → Between r
+      → Makes mode r (signal mode (shiftCode k)) [] (Synchronized a (sender k 0))
+  pub shift-sender : (k : ℕ) → ShiftIn a k → SenderIn a (sender k 0)
+  pub shift-synchronizes : (k : ℕ) → ShiftIn a k → synchronizes a ShiftCode ≡ true
+  -- an own code ahead of which none is wanted: a synchronized reader reads its normal form
   pub own-law : (s : Sender) (c : ℕ) (w : Waits a c) → eqb (shiftWanted a s (w .own)) 0 ≡ true
       → (r : Reader) → Synchronized a s r
       → Makes mode r (signal mode (w .code .0)) (normal a c) (Synchronized a (senderAfterOwn a s))
   pub own-sender : (s : Sender) (c : ℕ) (w : Waits a c) → SenderIn a s → eqb (shiftWanted a s (w .own)) 0 ≡ true
       → SenderIn a (senderAfterOwn a s)
-  pub own-between : (c : ℕ) (w : Waits a c) (r : Reader) → Between r
-      → Between (readerAfter mode r (signal mode (w .code .0)))
-  pub own-synchronizes : synchronizes a OwnCode ≡ true → (s : Sender) (c : ℕ) (w : Waits a c) (r : Reader) → Between r
+  pub own-synchronizes : atOnce a ≡ false → synchronizes a OwnCode ≡ true
+  -- one that is the first code synchronizes any reader between codes, and its character is within the bound
+  pub first-law : (part : Part) → OwnFirst a part → (s : Sender) (c : ℕ) (w : Waits a c) (r : Reader) → Between r
       → Synchronized a s (readerAfter mode r (signal mode (w .code .0)))
-  -- the bound
+  pub first-room : (part : Part) → OwnFirst a part → 1 ≤ mostBefore a
   pub code-long : (k : ℕ) → 0 < length (signal mode k)
-  pub room-most : (s : Sender) → Room a s (mostBefore a)
-  pub own-room : (s : Sender) (c : ℕ) (w : Waits a c) (n : ℕ) → SenderIn a s → eqb (shiftWanted a s (w .own)) 0 ≡ true
-      → Room a s n → atOnce a ≡ false
-      → (m : ℕ) × (n ≡ suc m) × (synchronizes a OwnCode ≡ false → Room a (senderAfterOwn a s) m)
 
 abbrev pub LawsOf : Mode → Type 0
 LawsOf mode = Laws mode (alphabetOf mode) (Settled mode)
@@ -165,11 +168,6 @@ module _ (s : Sender) (own : ℕ) (lo : 1 ≤ own) (hi : own ≤ 3) where
       ⊎-elim (λ n. absurd (true≢false (sym (eq-eqb (wanted s own) 0 (n .none)) ∙ e))) (λ a. (a .low, a .high))
       (ahead s own r lo hi)
 
-  wanted-running : BaudotSender s → eqb (wanted s own) 0 ≡ false → Running (shifted s (wanted s own))
-  wanted-running b e =
-      let w = wanted-range b e in
-      rw e (record { shift-low = w .0; shift-in = w .1; count-in = omega arith })
-
   none-wanted : (r : Running s) → eqb (wanted s own) 0 ≡ true → NoneAhead s own r lo hi
   none-wanted r e =
       let z = eqb-true (wanted s own) 0 e in
@@ -179,14 +177,27 @@ module _ (s : Sender) (own : ℕ) (lo : 1 ≤ own) (hi : own ≤ 3) where
   then-running (inl z) e = let w = fresh-wants z in let v = eqb-true (wanted s own) 0 e in absurd (omega arith)
   then-running (inr r) e = r
 
-  below-72 : BaudotSender s → eqb (wanted s own) 0 ≡ true → s .count < 72
-  below-72 b e = none-wanted (then-running b e) e .below
-
   counted-running : BaudotSender s → eqb (wanted s own) 0 ≡ true → Running (counted s)
   counted-running b e =
       let r = then-running b e in
-      let l = below-72 b e in
+      let l = none-wanted r e .below in
       record { shift-low = r .shift-low; shift-in = r .shift-in; count-in = omega arith }
+
+opening-range : (s : Sender) → BaudotSender s → (1 ≤ openingShift s) × (openingShift s ≤ 2)
+opening-range s (inl z) = rw (eq-eqb (s .shift) 0 z) (omega arith, omega arith)
+opening-range s (inr r) =
+    let l = r .shift-low in
+    rw (ne-eqb (s .shift) 0 (λ (z : s .shift ≡ 0). omega arith)) (l, r .shift-in)
+
+shift-running : (k : ℕ) → (1 ≤ k) × (k ≤ 2) → Running (sender k 0)
+shift-running k i = record { shift-low = i .0; shift-in = i .1; count-in = omega arith }
+
+-- no own code is the first of a burst
+pub none-first : (part : Part) → OwnFirst Baudot part → ⊥
+unfolding synchronizes
+none-first Preamble f = true≢false (f .not-opening)
+none-first ShiftCode f = true≢false (f .not-yet)
+none-first OwnCode f = true≢false (f .not-yet)
 
 -- what a code of Baudot gives a reader that hunts, in any shift
 abbrev CodeReads : Mode → Type 0
@@ -201,25 +212,20 @@ rule-at {a} {c} w = rule-of a c (w .char-in) (w .own) (w .code) (w .sent)
 -- the modes of Baudot
 module _ (mode : Mode) (code : CodeReads mode) where
   -- a shift code, in any shift
-  baudot-shift : (s : Sender) (c : ℕ) (w : Waits Baudot c) → BaudotSender s → eqb (wanted s (w .own)) 0 ≡ false
-      → (r : Reader) → r .frame ≡ hunting
-      → let k = wanted s (w .own) in Makes mode r (signal mode (shiftCode k)) [] (InShift (shifted s k))
+  baudot-shift : (k : ℕ) → (1 ≤ k) × (k ≤ 2) → (r : Reader) → r .frame ≡ hunting
+      → Makes mode r (signal mode (shiftCode k)) [] (InShift (sender k 0))
   unfolding reads
-  baudot-shift s c w b f r u =
-      let k = wanted s (w .own) in
-      let a = rule-at w in
-      let i = wanted-range s (w .own) (a .shift-least) (a .shift-most) b f in
+  baudot-shift k i r u =
       let g = code (r .keys) (r .shift) (r .prefix) (shiftCode k) (five (eqb k 2)) in
       let none = rw (reads-shift-code (r .shift) k (i .0) (i .1)) at g in
-      let running = wanted-running s (w .own) (a .shift-least) (a .shift-most) b f in
-      makes mode (InShift (shifted s k)) (gives-by mode (hunts-is r u) none)
-      (record { hunts = refl; running = running; shift-is = rw f refl })
+      makes mode (InShift (sender k 0)) (gives-by mode (hunts-is r u) none)
+      (record { hunts = refl; running = shift-running k i; shift-is = refl })
     where
       five : (b : Bool) → cond b 0b11011 0b11111 < codes Baudot
       five true = omega arith
       five false = omega arith
 
-  -- an own code, in the sender's shift and in any
+  -- an own code, in the sender's shift
   module _ (s : Sender) (c : ℕ) (w : Waits Baudot c) (n : eqb (wanted s (w .own)) 0 ≡ true) (u : Running s) where
     abbrev k : ℕ
     k = w .code .0
@@ -276,28 +282,17 @@ module _ (mode : Mode) (code : CodeReads mode) where
       makes mode (InShift (counted s)) (code-gives s c w n u r (v .hunts) (v .shift-is))
       (record { hunts = refl; running = running; shift-is = shift-same s c w n u })
 
-  baudot-between : (c : ℕ) (w : Waits Baudot c) (r : Reader) → r .frame ≡ hunting
-      → readerAfter mode r (signal mode (w .code .0)) .frame ≡ hunting
-  baudot-between c w r u =
-      let g = code (r .keys) (r .shift) (r .prefix) (w .code .0) (rule-at w .code-in) in
-      ap (λ (x : Reader). x .frame) (gives-by mode (hunts-is r u) g .after)
-
 -- what the sending rule leaves, for a character that waits
 module _ (s : Sender) (c : ℕ) (w : Waits Baudot c) where
   abbrev a : ReadBack Baudot (w .own) (w .code)
   a = rule-at w
 
-  baudot-shifted : BaudotSender s → eqb (wanted s (w .own)) 0 ≡ false → BaudotSender (shifted s (wanted s (w .own)))
-  baudot-shifted b f = inr (wanted-running s (w .own) (a .shift-least) (a .shift-most) b f)
+  baudot-wanted : BaudotSender s → eqb (wanted s (w .own)) 0 ≡ false
+      → (1 ≤ wanted s (w .own)) × (wanted s (w .own) ≤ 2)
+  baudot-wanted = wanted-range s (w .own) (a .shift-least) (a .shift-most)
 
   baudot-counted : BaudotSender s → eqb (wanted s (w .own)) 0 ≡ true → BaudotSender (counted s)
   baudot-counted b f = inr (counted-running s (w .own) (a .shift-least) (a .shift-most) b f)
-
-  baudot-room : (n : ℕ) → BaudotSender s → eqb (wanted s (w .own)) 0 ≡ true → 72 ≤ n + s .count
-      → (m : ℕ) × (n ≡ suc m) × (72 ≤ m + (s .count + 1))
-  baudot-room n b f r =
-      let l = below-72 s (w .own) (a .shift-least) (a .shift-most) b f in
-      (n - 1, omega arith, omega arith)
 
 -- DTMF
 keys-are : (r : Reader) → r .keys ≡ ready → r ≡ reader (r .frame) ready (r .shift) (r .prefix)
@@ -371,16 +366,17 @@ module _ (mode : Mode) (law : (r : Reader) (x : ℕ) → hear mode r x ≡ hearF
     quiet-passes = quiet-frames mode law;
     preamble-passes = marks-frames mode law (preambleOf mode);
     preamble-not = refl;
+    opening-in = λ e. opening-range;
+    wanted-in = baudot-wanted;
     shift-law = baudot-shift mode code;
-    shift-sender = baudot-shifted;
-    shift-synchronizes = λ s own e. refl;
+    shift-sender = λ k i. inr (shift-running k i);
+    shift-synchronizes = λ k i. refl;
     own-law = baudot-own mode code;
     own-sender = baudot-counted;
-    own-between = baudot-between mode code;
-    own-synchronizes = λ e s c w r h. absurd (false≢true e);
+    own-synchronizes = λ e. refl;
+    first-law = λ part f. absurd (none-first part f);
+    first-room = λ part f. absurd (none-first part f);
     code-long = long mode;
-    room-most = λ s. omega arith;
-    own-room = λ s c w n b e r z. let m = baudot-room s c w n b e r in (m .0, m .1, λ y. m .2);
   }
 
 pub laws : (mode : Mode) → LawsOf mode
@@ -393,18 +389,19 @@ laws Dtmf = record {
   quiet-passes = quiet-keys;
   preamble-passes = λ r h. none Dtmf r;
   preamble-not = refl;
-  shift-law = λ s c w b e r h. absurd (true≢false e);
-  shift-sender = λ s c w b e. absurd (true≢false e);
+  opening-in = λ e. absurd (false≢true e);
+  wanted-in = λ s c w b e. absurd (true≢false e);
+  shift-law = λ k i. absurd i;
+  shift-sender = λ k i. absurd i;
+  shift-synchronizes = λ k i. absurd i;
   own-law = λ s c w e r h. makes Dtmf (Synchronized dtmf s) (dtmf-own c w r (h .0) (h .1)) h;
-  own-between = λ c w r h. ap (λ (x : Reader). x .keys) (dtmf-any c w r h);
-  own-synchronizes = λ e s c w r h.
+  own-sender = λ s c w b e. tt;
+  own-synchronizes = λ e. refl;
+  first-law = λ part f s c w r h.
       let q = dtmf-any c w r h in
       (ap (λ (x : Reader). x .keys) q, ap (λ (x : Reader). x .prefix) q);
-  own-sender = λ s c w b e. tt;
-  room-most = λ s. omega arith;
+  first-room = λ part f. omega arith;
   code-long = long Dtmf;
-  shift-synchronizes = λ s own e. absurd (true≢false e);
-  own-room = λ s c w n b e r z. (n - 1, omega arith, λ y. absurd (true≢false y));
 }
 laws Edt = record {
   between = λ s r h. h;
@@ -412,14 +409,15 @@ laws Edt = record {
   quiet-passes = quiet-frames Edt (λ r x. refl);
   preamble-passes = marks-frames Edt (λ r x. refl) (preambleOf Edt);
   preamble-not = refl;
-  shift-law = λ s c w b e r h. absurd (true≢false e);
-  shift-sender = λ s c w b e. absurd (true≢false e);
+  opening-in = λ e. absurd (false≢true e);
+  wanted-in = λ s c w b e. absurd (true≢false e);
+  shift-law = λ k i. absurd i;
+  shift-sender = λ k i. absurd i;
+  shift-synchronizes = λ k i. absurd i;
   own-law = λ s c w e r h. makes Edt (Synchronized edt s) (edt-own c w r h) h;
-  own-between = λ c w r h. subst (Settled Edt) (sym (edt-own c w r h .after)) h;
-  own-synchronizes = λ e s c w r h. absurd (false≢true e);
   own-sender = λ s c w b e. tt;
-  room-most = λ s. tt;
+  own-synchronizes = λ e. absurd (true≢false e);
+  first-law = λ part f. absurd (true≢false (f .later));
+  first-room = λ part f. absurd (true≢false (f .later));
   code-long = long Edt;
-  shift-synchronizes = λ s own e. absurd (true≢false e);
-  own-room = λ s c w n b e r z. absurd (true≢false z);
 }

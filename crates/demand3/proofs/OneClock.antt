@@ -30,6 +30,7 @@ use Rattle.demand3.proofs.Told.{Told, toldAfter, toldDoes, toldHeard, t
 use Rattle.demand3.proofs.Cuts.{between-is, between-length, idle-left, idle-right, sent-append, heard-append, ms-append}
 use Rattle.demand3.proofs.Cuts.{none-right, after-append, events-append, does-length, events-length}
 use Rattle.demand3.proofs.Cuts.{Cut, cut-after, does-cut}
+use Rattle.demand3.proofs.Bound.{ShiftFirst}
 use Rattle.demand3.proofs.Core.{Reads, reads-after-idle}
 use Rattle.demand3.proofs.Inhibited.{inhibited-most, inhibited-same, inhibited-less, told-in, events-are}
 
@@ -69,6 +70,7 @@ wordsIn mode t stepsB now = wordsOf (take (now - t .openB) (toldEvents mode fres
 -- The conclusion, where A did ds after the idle period.
 pub record ReadsOn (mode : Mode) (t : Clock) (stepsB : List Told) (ds : List Did) : Type 0 where
   pub before : length (takenIn (take (synchronizedAfter mode ds) ds)) ≤ mostBefore (alphabetOf mode)
+  pub shift-first : ShiftFirst mode ds
   pub text : EndsIdle ds
       → wordsIn mode t stepsB (t .asked + 1)
       ≡ wordsIn mode t stepsB (t .start + 300 + synchronizedAfter mode ds)
@@ -335,6 +337,7 @@ module _ (mode : Mode) (t : Clock) (stepsA stepsB : List Told) (p : OneClock mod
       let words = words-after k (omega arith) in
       record {
         before = r .before;
+        shift-first = r .shift-first;
         text = λ z. words ∙ ap (λ (l : List ℕ). wordsIn mode t stepsB (t .start + 300 + k) ++ l) (r .text z);
         no-fault = λ z. subst (λ (l : List ℕ). allChars l ≡ true) (r .text z) (r .no-fault z);
       }

@@ -1,25 +1,27 @@
 -- A burst of the send model begins only with characters waiting, and its preamble takes none: it ends with a code, as
 -- document 01 says.
 use mathlib.Core.Path.{_≡_, refl}
-use mathlib.Core.Bool.{Bool, true, false, cond}
+use mathlib.Core.Bool.{Bool, true, false}
 use mathlib.Core.List.{List, [], _∷_, _++_}
 use Prim.Native.Nat.{ℕ, _≤_}
 use native.Mathlib.Omega.{arith}
 use lib.Dec.{eqb, leb, ltb}
 use lib.ListN.{length, length-append}
 use borrow.Author.Tests.{ltb-true, ne-eqb}
-use Rattle.lists.proofs.Lists.{and-left}
+use Rattle.lists.proofs.Lists.{either, and-left}
 use Rattle.alphabet.specs.declared.Mode.{Mode}
 use Rattle.alphabet.specs.declared.Sends.{Sends}
 use Rattle.alphabet.specs.declared.Sends.the-variants.{Nothing, Code}
 use Rattle.alphabet.specs.Modes.{alphabetOf}
 use Rattle.alphabet.specs.Normal.{sends}
 use Rattle.baudot.specs.declared.Sender.{Sender}
-use Rattle.burst.specs.Rules.{freeMs, mayBegin, mayEnd, shiftWanted}
+use Rattle.burst.specs.Rules.{freeMs, mayBegin, mayEnd, openingShift, shiftWanted}
 use Rattle.queue.specs.Queue.{waiters}
-use Rattle.demand3.specs.Model.{Part, Preamble, ShiftCode, OwnCode, OnLine, Idle, Sending, Model, Step, Offer, Ms}
-use Rattle.demand3.specs.Model.{freshModel, offered, begun, ownBegins, shiftBegins, codeBegins, nextCode, oneGone, ended}
-use Rattle.demand3.specs.Model.{closed, beginsIn, load, endsIn, did, msAfter, modelAfter}
+use Rattle.demand3.specs.Model.{Part, Preamble, ShiftCode, OwnCode, OnLine, Idle, Sending, Model, Loaded}
+use Rattle.demand3.specs.Model.{Step, Offer, Ms, freshModel, offered, begun, ownBegins, shiftBegins, codeBegins}
+use Rattle.demand3.specs.Model.{frontBegins, isOpening, nextCode, oneGone, ended, beginsIn, load, endsIn, did}
+use Rattle.demand3.specs.Model.{msAfter, modelAfter}
+use Rattle.demand3.proofs.Views.{Closes, closes, keeps, closed-view}
 
 -- in a preamble some wait
 Opening : OnLine → List ℕ → Type 0
@@ -46,36 +48,39 @@ begun-opening mode Idle ws silence h = go (mayBegin (length ws) silence) refl
         omega arith
     go false e = tt
 
-code-opening : (mode : Mode) (c : ℕ) (cs : List ℕ) (s : Sender) (x : Sends)
-    → Opening (codeBegins mode c cs s x .onLine) (codeBegins mode c cs s x .waiting)
+abbrev OpeningBy : Loaded → Type 0
+OpeningBy l = Opening (l .onLine) (l .waiting)
+
+code-opening : (mode : Mode) (c : ℕ) (cs : List ℕ) (s : Sender) (x : Sends) → OpeningBy (codeBegins mode c cs s x)
 unfolding Opening codeBegins
 code-opening mode c cs s Nothing = tt
-code-opening mode c cs s (Code own k) = go (eqb w 0)
-  where
-    w : ℕ
-    w = shiftWanted (alphabetOf mode) s own
+code-opening mode c cs s (Code own k) =
+    let w = shiftWanted (alphabetOf mode) s own in
+    either OpeningBy (eqb w 0) (ownBegins mode c cs s k) (shiftBegins mode (c ∷ cs) w) tt tt
 
-    go : (b : Bool) → let l = cond b (ownBegins mode c cs s k) (shiftBegins mode c cs s w) in
-        Opening (l .onLine) (l .waiting)
-    go true = tt
-    go false = tt
+front-opening : (mode : Mode) (ws : List ℕ) (part : Part) (s : Sender) → Opening (Sending part []) ws
+    → OpeningBy (frontBegins mode ws part s)
+front-opening mode [] part s h = h
+front-opening mode (c ∷ cs) part s h = code-opening mode c cs s (sends (alphabetOf mode) c)
 
-next-opening : (mode : Mode) (ws : List ℕ) (on : OnLine) (s : Sender) → Opening on ws
-    → Opening (nextCode mode ws on s .onLine) (nextCode mode ws on s .waiting)
-unfolding nextCode
+next-opening : (mode : Mode) (ws : List ℕ) (on : OnLine) (s : Sender) → Opening on ws → OpeningBy (nextCode mode ws on s)
+unfolding Opening nextCode
 next-opening mode ws Idle s h = h
 next-opening mode ws (Sending part (x ∷ left)) s h = h
-next-opening mode [] (Sending part []) s h = h
-next-opening mode (c ∷ cs) (Sending part []) s h = code-opening mode c cs s (sends (alphabetOf mode) c)
+next-opening mode ws (Sending part []) s h =
+    either OpeningBy (isOpening (alphabetOf mode) part) (shiftBegins mode ws (openingShift s)) (frontBegins mode ws part s)
+    tt (front-opening mode ws part s h)
 
-gone-opening : (ends : Bool) (on : OnLine) (ws : List ℕ) → Opening on ws → Opening (closed ends (oneGone on)) ws
-unfolding Opening oneGone closed
-gone-opening ends Idle ws h = h
-gone-opening true (Sending part []) ws h = tt
-gone-opening false (Sending part []) ws h = h
-gone-opening true (Sending part (x ∷ [])) ws h = tt
-gone-opening false (Sending part (x ∷ [])) ws h = any-left part (x ∷ []) [] ws h
-gone-opening ends (Sending part (x ∷ y ∷ left)) ws h = any-left part (x ∷ y ∷ left) (y ∷ left) ws h
+gone-opening : (on : OnLine) (ws : List ℕ) → Opening on ws → Opening (oneGone on) ws
+unfolding oneGone
+gone-opening Idle ws h = h
+gone-opening (Sending part []) ws h = h
+gone-opening (Sending part (x ∷ left)) ws h = any-left part (x ∷ left) left ws h
+
+closes-opening : {on on′ : OnLine} (ws : List ℕ) → Closes on on′ → Opening on ws → Opening on′ ws
+unfolding Opening
+closes-opening ws closes h = tt
+closes-opening ws keeps h = h
 
 append-opening : (on : OnLine) (ws vs : List ℕ) → Opening on ws → Opening on (ws ++ vs)
 unfolding Opening
@@ -88,7 +93,7 @@ abbrev OpeningIn : Model → Type 0
 OpeningIn m = Opening (m .onLine) (m .waiting)
 
 module _ (mode : Mode) where
-  load-opening : (m : Model) → OpeningIn m → Opening (load mode m .onLine) (load mode m .waiting)
+  load-opening : (m : Model) → OpeningIn m → OpeningBy (load mode m)
   unfolding load
   load-opening m h =
       next-opening mode (m .waiting) (begun mode (beginsIn m) (m .onLine)) (m .sender)
@@ -100,8 +105,10 @@ module _ (mode : Mode) where
   opening (Offer cs ∷ steps) m h =
       opening steps (offered mode cs m) (append-opening (m .onLine) (m .waiting) (waiters (alphabetOf mode) cs) h)
   opening (Ms heard ∷ steps) m h =
+      let l = load mode m in
       opening steps (msAfter mode m heard)
-      (gone-opening (endsIn mode m) (load mode m .onLine) (load mode m .waiting) (load-opening m h))
+      (closes-opening (l .waiting) (closed-view mode (endsIn mode m) (oneGone (l .onLine)))
+      (gone-opening (l .onLine) (l .waiting) (load-opening m h)))
 
   -- after any steps, no burst ends with the last ms of a preamble
   pub preamble-waits : (steps : List Step) → let m = modelAfter mode freshModel steps in

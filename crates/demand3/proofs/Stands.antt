@@ -9,6 +9,7 @@ use lib.Dec.{eqb, leb, ltb}
 use lib.ListN.{length, getD, drop, drop-of-length-le}
 use lib.Seq.{drop-cons}
 use borrow.Author.Tests.{leb-true, leb-false, ltb-true, ltb-false, lt-ltb}
+use Rattle.lists.proofs.Lists.{by-test}
 use Rattle.alphabet.specs.declared.Alphabet.{Alphabet}
 use Rattle.alphabet.specs.declared.Mode.{Mode}
 use Rattle.alphabet.specs.declared.Sends.{Sends}
@@ -16,16 +17,16 @@ use Rattle.alphabet.specs.declared.Sends.the-variants.{Nothing, Code}
 use Rattle.alphabet.specs.Modes.{alphabetOf}
 use Rattle.alphabet.specs.Normal.{sends, isCode}
 use Rattle.baudot.specs.declared.Sender.{Sender}
-use Rattle.baudot.specs.Sending.{shiftCode, shifted}
+use Rattle.baudot.specs.Sending.{shiftCode}
 use Rattle.signal.specs.Signal.{preamble}
 use Rattle.burst.specs.declared.OnLine.{OnLine as Line}
 use Rattle.burst.specs.declared.Loaded.{Loaded as LoadedLine}
-use Rattle.burst.specs.Rules.{shiftWanted, senderAfterOwn}
+use Rattle.burst.specs.Rules.{opensWithShift, openingShift, shiftWanted, senderAfterOwn}
 use Rattle.burst.specs.Line as line
 use Rattle.burst.specs.Line.{onLine, idle, partMs}
 use Rattle.demand3.specs.Model.{Part, Preamble, ShiftCode, OwnCode, OnLine, Idle, Sending, Loaded}
-use Rattle.demand3.specs.Model.{begun, loaded, ownBegins, shiftBegins, codeBegins, nextCode, levelOn, inBurst}
-use Rattle.demand3.specs.Model.{oneGone, closed}
+use Rattle.demand3.specs.Model.{begun, loaded, ownBegins, shiftBegins, codeBegins, frontBegins, isOpening, nextCode}
+use Rattle.demand3.specs.Model.{levelOn, inBurst, oneGone, closed}
 
 -- the number of a part
 pub data PartNo : Part → ℕ → Type 0 where
@@ -37,6 +38,11 @@ part-some : {part : Part} {n : ℕ} → PartNo part n → not (eqb n 0) ≡ true
 part-some preamble-1 = refl
 part-some shift-2 = refl
 part-some own-2 = refl
+
+opening-same : {part : Part} {n : ℕ} → PartNo part n → (a : Alphabet) → (eqb n 1 && opensWithShift a) ≡ isOpening a part
+opening-same preamble-1 a = refl
+opening-same shift-2 a = refl
+opening-same own-2 a = refl
 
 -- the numbers stand for what the model has on the line
 pub data Stands (mode : Mode) : Line → OnLine → Type 0 where
@@ -88,30 +94,38 @@ module _ (mode : Mode) where
 
   -- the burst ends, or goes on
   stays-closed : (ends : Bool) (part : Part) (ms : List ℕ) (at : ℕ) → at < length ms
-      → closed ends (Sending part (drop at ms)) ≡ Sending part (drop at ms)
+      → closed mode ends (Sending part (drop at ms)) ≡ Sending part (drop at ms)
   unfolding closed
   stays-closed ends part ms at h = rw (drop-cons ms at 0 h) refl
 
   over-closed : (ends : Bool) (part : Part) (ms : List ℕ) (at : ℕ) → length ms ≤ at
-      → closed ends (Sending part (drop at ms)) ≡ cond ends Idle (Sending part (drop at ms))
+      → closed mode ends (Sending part (drop at ms))
+      ≡ cond (ends && not (isOpening (alphabetOf mode) part)) Idle (Sending part (drop at ms))
   unfolding closed
   over-closed ends part ms at h = rw (drop-of-length-le ms h) refl
 
   pub closed-stands : {l : Line} {on : OnLine} (ends : Bool) → Stands mode l on
-      → Stands mode (line.closed mode ends l) (closed ends on)
+      → Stands mode (line.closed mode ends l) (closed mode ends on)
   unfolding line.closed line.isOver closed
   closed-stands ends no-burst = no-burst
   closed-stands ends (sending {part} {n} p code at) =
-      rw (part-some p) (go (leb (length ms) at) refl ends refl)
+      rw (part-some p, opening-same p (alphabetOf mode)) (go (leb (length ms) at) refl)
     where
       ms : List ℕ
       ms = partMs mode (onLine n code at)
 
-      go : (b : Bool) → leb (length ms) at ≡ b → (c : Bool) → ends ≡ c
-          → Stands mode (cond (b && c) idle (onLine n code at)) (closed ends (Sending part (drop at ms)))
-      go true e true f = rw (over-closed ends part ms at (leb-true (length ms) at e), f) no-burst
-      go true e false f = rw (over-closed ends part ms at (leb-true (length ms) at e), f) (sending p code at)
-      go false e c f = rw (stays-closed ends part ms at (leb-false (length ms) at e)) (sending p code at)
+      opening : Bool
+      opening = isOpening (alphabetOf mode) part
+
+      both : (c : Bool) → Stands mode (cond c idle (onLine n code at)) (cond c Idle (Sending part (drop at ms)))
+      both true = no-burst
+      both false = sending p code at
+
+      go : (b : Bool) → leb (length ms) at ≡ b
+          → Stands mode (cond (b && ends && not opening) idle (onLine n code at))
+          (closed mode ends (Sending part (drop at ms)))
+      go true e = rw (over-closed ends part ms at (leb-true (length ms) at e)) (both (ends && not opening))
+      go false e = rw (stays-closed ends part ms at (leb-false (length ms) at e)) (sending p code at)
 
   -- a burst begins, or what is on the line goes on
   preamble-stands : Stands mode (onLine 1 0 0) (Sending Preamble (preamble mode))
@@ -132,6 +146,10 @@ module _ (mode : Mode) where
     pub sender-is : x .sender ≡ y .sender
     pub waiting-is : y .waiting ≡ cond (x .takes) (drop 1 ws) ws
 
+  shift-like : (ws : List ℕ) (w : ℕ) → LoadedLike ws (line.shiftBegins w) (shiftBegins mode ws w)
+  unfolding partMs
+  shift-like ws w = record { line-is = sending shift-2 (shiftCode w) 0; sender-is = refl; waiting-is = refl }
+
   -- a code begins: the front character sends one
   begins-like : (c : ℕ) (cs : List ℕ) (l : Line) (s : Sender) (x : Sends) → isCode x ≡ true
       → LoadedLike (c ∷ cs) (line.codeBegins (alphabetOf mode) l s x) (codeBegins mode c cs s x)
@@ -145,29 +163,16 @@ module _ (mode : Mode) where
       own-code : LoadedLine
       own-code = line.loaded (onLine 2 (k .0) 0) (senderAfterOwn (alphabetOf mode) s) true
 
-      shift-code : LoadedLine
-      shift-code = line.loaded (onLine 2 (shiftCode w) 0) (shifted s w) false
-
       go : (b : Bool)
-          → LoadedLike (c ∷ cs) (cond b own-code shift-code)
-          (cond b (ownBegins mode c cs s k) (shiftBegins mode c cs s w))
+          → LoadedLike (c ∷ cs) (cond b own-code (line.shiftBegins w))
+          (cond b (ownBegins mode c cs s k) (shiftBegins mode (c ∷ cs) w))
       go true = record { line-is = sending own-2 (k .0) 0; sender-is = refl; waiting-is = refl }
-      go false = record { line-is = sending shift-2 (shiftCode w) 0; sender-is = refl; waiting-is = refl }
+      go false = shift-like (c ∷ cs) w
 
   stays-next : (ws : List ℕ) (part : Part) (ms : List ℕ) (at : ℕ) (s : Sender) → at < length ms
       → nextCode mode ws (Sending part (drop at ms)) s ≡ loaded ws (Sending part (drop at ms)) s []
   unfolding nextCode
   stays-next ws part ms at s h = rw (drop-cons ms at 0 h) refl
-
-  over-none : (part : Part) (ms : List ℕ) (at : ℕ) (s : Sender) → length ms ≤ at
-      → nextCode mode [] (Sending part (drop at ms)) s ≡ loaded [] (Sending part (drop at ms)) s []
-  unfolding nextCode
-  over-none part ms at s h = rw (drop-of-length-le ms h) refl
-
-  over-some : (c : ℕ) (cs : List ℕ) (part : Part) (ms : List ℕ) (at : ℕ) (s : Sender) → length ms ≤ at
-      → nextCode mode (c ∷ cs) (Sending part (drop at ms)) s ≡ codeBegins mode c cs s (sends (alphabetOf mode) c)
-  unfolding nextCode
-  over-some c cs part ms at s h = rw (drop-of-length-le ms h) refl
 
   -- a number and a front character stand for those waiting; each sends a code
   pub data Heads : ℕ → ℕ → List ℕ → Type 0 where
@@ -178,25 +183,43 @@ module _ (mode : Mode) where
       → Stands mode l on → LoadedLike ws (line.nextCode mode waiting front l s) (nextCode mode ws on s)
   unfolding line.nextCode line.isOver nextCode
   next-like s h no-burst = record { line-is = no-burst; sender-is = refl; waiting-is = refl }
-  next-like s h (sending {part} {n} p code at) = rw (part-some p) (go h (leb (length ms) at) refl)
+  next-like {waiting = waiting} {front} {ws} s h (sending {part} {n} p code at) =
+      rw (part-some p, opening-same p a) (go (leb (length ms) at) refl)
     where
+      a : Alphabet
+      a = alphabetOf mode
+
       ms : List ℕ
       ms = partMs mode (onLine n code at)
 
       l : Line
       l = onLine n code at
 
-      a : Alphabet
-      a = alphabetOf mode
-
       goes-on : (ws : List ℕ) → LoadedLike ws (line.loaded l s false) (loaded ws (Sending part (drop at ms)) s [])
       goes-on ws = record { line-is = sending p code at; sender-is = refl; waiting-is = refl }
 
-      go : {waiting front : ℕ} {ws : List ℕ} → Heads waiting front ws → (b : Bool) → leb (length ms) at ≡ b
-          → LoadedLike ws (cond (b && ltb 0 waiting) (line.codeBegins a l s (sends a front)) (line.loaded l s false))
+      -- the next for those that wait
+      front-line : ℕ → ℕ → LoadedLine
+      front-line waiting front = cond (ltb 0 waiting) (line.codeBegins a l s (sends a front)) (line.loaded l s false)
+
+      front-like : {waiting front : ℕ} {ws : List ℕ} → Heads waiting front ws → length ms ≤ at
+          → LoadedLike ws (front-line waiting front) (frontBegins mode ws part s)
+      front-like (none front) e = rw (drop-of-length-le ms e) at (goes-on [])
+      front-like (some c cs g) e = rw (lt-ltb 0 (suc (length cs)) (omega arith)) (begins-like c cs l s (sends a c) g)
+
+      -- with no ms left
+      over-like : length ms ≤ at
+          → LoadedLike ws (cond (isOpening a part) (line.shiftBegins (openingShift s)) (front-line waiting front))
+          (nextCode mode ws (Sending part []) s)
+      over-like e =
+          by-test (isOpening a part) (λ o. rw o (shift-like ws (openingShift s))) (λ o. rw o (front-like h e))
+
+      go : (b : Bool) → leb (length ms) at ≡ b
+          → LoadedLike ws
+          (cond b (cond (isOpening a part) (line.shiftBegins (openingShift s)) (front-line waiting front))
+          (line.loaded l s false))
           (nextCode mode ws (Sending part (drop at ms)) s)
-      go {ws = ws} h false e = rw (stays-next ws part ms at s (leb-false (length ms) at e)) (goes-on ws)
-      go (none front) true e = rw (over-none part ms at s (leb-true (length ms) at e)) (goes-on [])
-      go (some c cs g) true e =
-          rw (lt-ltb 0 (suc (length cs)) (omega arith), over-some c cs part ms at s (leb-true (length ms) at e))
-          (begins-like c cs l s (sends a c) g)
+      go true e =
+          let over = leb-true (length ms) at e in
+          rw (drop-of-length-le ms over) (over-like over)
+      go false e = rw (stays-next ws part ms at s (leb-false (length ms) at e)) (goes-on ws)

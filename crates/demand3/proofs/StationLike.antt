@@ -193,7 +193,7 @@ module _ (mode : Mode) (s : Station) (m : Model) (r : Reader) (h : Like mode s m
           mode-is = h .mode-is;
           waiting-is = waiting-after ends heard;
           line-is =
-              subst (λ (l : Line). Stands mode l (closed ends (oneGone (y .onLine))))
+              subst (λ (l : Line). Stands mode l (closed mode ends (oneGone (y .onLine))))
               (λ j. line.closed (sym mode-same j) ends (line.oneGone (sym mode-same j) (x .line)))
               (closed-stands mode ends (gone-stands mode (settled-like .line-is)));
           sender-is = settled-like .sender-is;

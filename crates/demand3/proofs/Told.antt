@@ -26,7 +26,7 @@ unfoldable pub inhibitedBy : Mode → Bool → Model → Bool
 inhibitedBy mode begins m = inhibitedFrom m (loadBy begins mode m)
 
 unfoldable pub msBy : Mode → Bool → Bool → Model → ℕ → Model
-msBy mode begins ends m heard = modelFrom ends m (loadBy begins mode m) heard
+msBy mode begins ends m heard = modelFrom mode ends m (loadBy begins mode m) heard
 
 -- The model after some steps, what each of their ms does, the levels heard in them.
 unfoldable pub toldAfter : Mode → Model → List Told → Model

@@ -1,13 +1,13 @@
 -- What a ms of a model that is told can begin with and end in: views that every proof over it goes by. In them it is
 -- left open when a burst begins and ends.
 use mathlib.Core.Path.{_≡_, refl, sym, subst}
-use mathlib.Core.Bool.{Bool, true, false, cond, true≢false}
+use mathlib.Core.Bool.{Bool, true, false, not, _&&_, true≢false, false≢true}
 use mathlib.Core.List.{List, [], _∷_, _++_}
 use Prim.Native.Nat.{ℕ}
 use native.Mathlib.Omega.{arith}
 use lib.Dec.{eqb, leb}
 use borrow.Author.Tests.{leb-true}
-use Rattle.lists.proofs.Lists.{and-left, and-right}
+use Rattle.lists.proofs.Lists.{either, either-by, and-left, and-right}
 use Rattle.alphabet.specs.declared.Alphabet.{Alphabet}
 use Rattle.alphabet.specs.declared.Mode.{Mode}
 use Rattle.alphabet.specs.declared.Sends.{Sends}
@@ -16,14 +16,14 @@ use Rattle.alphabet.specs.Modes.{alphabetOf}
 use Rattle.alphabet.specs.Normal.{sends, isCode}
 use Rattle.baudot.specs.declared.Sender.{Sender}
 use Rattle.signal.specs.Signal.{preamble}
-use Rattle.burst.specs.Rules.{shiftWanted}
+use Rattle.burst.specs.Rules.{opensWithShift, openingShift, shiftWanted}
 use Rattle.queue.specs.Queue.{waits, waiters, allWait}
 use Rattle.queue.proofs.Laws.{waiters-wait}
-use Rattle.demand3.specs.Model.{Part, Preamble, OnLine, Idle, Sending, Model, Loaded}
-use Rattle.demand3.specs.Model.{begun, loaded, shiftBegins, ownBegins, codeBegins, nextCode, closed}
-use Rattle.demand3.specs.Model.{offered, loadBy}
+use Rattle.demand3.specs.Model.{Part, Preamble, ShiftCode, OwnCode, OnLine, Idle, Sending, Model, Loaded}
+use Rattle.demand3.specs.Model.{begun, loaded, shiftBegins, ownBegins, codeBegins, frontBegins, isOpening, nextCode}
+use Rattle.demand3.specs.Model.{closed, offered, loadBy}
 use Rattle.demand3.proofs.Told.{Told, offer, ms, msBy, toldAfter}
-use Rattle.demand3.proofs.Laws.{Waits, SenderIn, LawsOf}
+use Rattle.demand3.proofs.Laws.{Waits, SenderIn, ShiftIn, LawsOf}
 
 -- the ms that are left of what is on the line
 abbrev pub left : OnLine → List ℕ
@@ -42,10 +42,10 @@ pub data Opens (mode : Mode) : OnLine → OnLine → Type 0 where
 -- a code begins, or what is on the line goes on
 pub data Begins (mode : Mode) : List ℕ → OnLine → Sender → Loaded → Type 0 where
   stays : {waiting : List ℕ} {on : OnLine} {s : Sender} → Begins mode waiting on s (loaded waiting on s [])
-  shifts : (part : Part) (c : ℕ) (cs : List ℕ) (s : Sender) (w : Waits (alphabetOf mode) c)
-      → eqb (shiftWanted (alphabetOf mode) s (w .own)) 0 ≡ false
-      → Begins mode (c ∷ cs) (Sending part []) s (shiftBegins mode c cs s (shiftWanted (alphabetOf mode) s (w .own)))
-  owns : (part : Part) (c : ℕ) (cs : List ℕ) (s : Sender) (w : Waits (alphabetOf mode) c)
+  shifts : {waiting : List ℕ} {part : Part} {s : Sender} (k : ℕ) → ShiftIn (alphabetOf mode) k
+      → Begins mode waiting (Sending part []) s (shiftBegins mode waiting k)
+  owns : (part : Part) → isOpening (alphabetOf mode) part ≡ false
+      → (c : ℕ) (cs : List ℕ) (s : Sender) (w : Waits (alphabetOf mode) c)
       → eqb (shiftWanted (alphabetOf mode) s (w .own)) 0 ≡ true
       → Begins mode (c ∷ cs) (Sending part []) s (ownBegins mode c cs s (w .code))
 
@@ -60,39 +60,13 @@ begun-view mode true Idle = opens
 begun-view mode false Idle = goes-on
 begun-view mode begins (Sending part xs) = goes-on
 
-code-view : (mode : Mode) (part : Part) (c : ℕ) (cs : List ℕ) (s : Sender) (w : Waits (alphabetOf mode) c)
-    → Begins mode (c ∷ cs) (Sending part []) s (codeBegins mode c cs s (sends (alphabetOf mode) c))
-unfolding codeBegins
-code-view mode part c cs s w =
-    subst (λ (x : Sends). Begins mode (c ∷ cs) (Sending part []) s (codeBegins mode c cs s x)) (sym (w .sent))
-    (go (eqb wanted 0) refl)
-  where
-    wanted : ℕ
-    wanted = shiftWanted (alphabetOf mode) s (w .own)
-
-    go : (b : Bool) → eqb wanted 0 ≡ b
-        → Begins mode (c ∷ cs) (Sending part []) s
-        (cond b (ownBegins mode c cs s (w .code)) (shiftBegins mode c cs s wanted))
-    go true e = owns part c cs s w e
-    go false e = shifts part c cs s w e
-
-next-view : (mode : Mode) (waiting : List ℕ) (on : OnLine) (s : Sender) → AllWait mode waiting
-    → Begins mode waiting on s (nextCode mode waiting on s)
-unfolding nextCode
-next-view mode waiting Idle s h = stays
-next-view mode waiting (Sending part (x ∷ xs)) s h = stays
-next-view mode [] (Sending part []) s h = stays
-next-view mode (c ∷ cs) (Sending part []) s h = code-view mode part c cs s (h .0)
-
-pub closed-view : (ends : Bool) (on : OnLine) → Closes on (closed ends on)
+pub closed-view : (mode : Mode) (ends : Bool) (on : OnLine) → Closes on (closed mode ends on)
 unfolding closed
-closed-view ends Idle = keeps
-closed-view ends (Sending part (x ∷ xs)) = keeps
-closed-view ends (Sending part []) = go ends
-  where
-    go : (b : Bool) → Closes (Sending part []) (cond b Idle (Sending part []))
-    go true = closes
-    go false = keeps
+closed-view mode ends Idle = keeps
+closed-view mode ends (Sending part (x ∷ xs)) = keeps
+closed-view mode ends (Sending part []) =
+    let last = ends && not (isOpening (alphabetOf mode) part) in
+    either (Closes (Sending part [])) last Idle (Sending part []) closes keeps
 
 -- what each ms keeps: those that wait send something, and the sender is one that the rule can have
 pub record Fine (mode : Mode) (m : Model) : Type 0 where
@@ -126,19 +100,49 @@ fine-offered mode cs m f =
     let all = all-wait mode ws (waiters-wait (alphabetOf mode) cs) in
     record { waits = waits-append mode (m .waiting) ws (f .waits) all; sender-in = f .sender-in }
 
+opens-shift : (a : Alphabet) (part : Part) → isOpening a part ≡ true → opensWithShift a ≡ true
+opens-shift a Preamble e = e
+opens-shift a ShiftCode e = absurd (false≢true e)
+opens-shift a OwnCode e = absurd (false≢true e)
+
 module _ (mode : Mode) (L : LawsOf mode) where
+  abbrev a : Alphabet
+  a = alphabetOf mode
+
+  code-view : (part : Part) → isOpening a part ≡ false → (c : ℕ) (cs : List ℕ) (s : Sender) → SenderIn a s
+      → (w : Waits a c) → Begins mode (c ∷ cs) (Sending part []) s (codeBegins mode c cs s (sends a c))
+  unfolding codeBegins
+  code-view part o c cs s i w =
+      subst (λ (x : Sends). Begins mode (c ∷ cs) (Sending part []) s (codeBegins mode c cs s x)) (sym (w .sent))
+      (either-by (Begins mode (c ∷ cs) (Sending part []) s) (eqb (shiftWanted a s (w .own)) 0)
+      (owns part o c cs s w) (λ e. shifts (shiftWanted a s (w .own)) (L .wanted-in s c w i e)))
+
+  front-view : (waiting : List ℕ) (part : Part) → isOpening a part ≡ false → (s : Sender) → SenderIn a s
+      → AllWait mode waiting → Begins mode waiting (Sending part []) s (frontBegins mode waiting part s)
+  front-view [] part o s i h = stays
+  front-view (c ∷ cs) part o s i h = code-view part o c cs s i (h .0)
+
+  next-view : (waiting : List ℕ) (on : OnLine) (s : Sender) → SenderIn a s → AllWait mode waiting
+      → Begins mode waiting on s (nextCode mode waiting on s)
+  unfolding nextCode
+  next-view waiting Idle s i h = stays
+  next-view waiting (Sending part (x ∷ xs)) s i h = stays
+  next-view waiting (Sending part []) s i h =
+      either-by (Begins mode waiting (Sending part []) s) (isOpening a part)
+      (λ o. shifts (openingShift s) (L .opening-in (opens-shift a part o) s i)) (λ o. front-view waiting part o s i h)
+
   fine-begins : {waiting : List ℕ} {on : OnLine} {s : Sender} {l : Loaded} → Begins mode waiting on s l
       → AllWait mode waiting → SenderIn (alphabetOf mode) s
       → AllWait mode (l .waiting) × SenderIn (alphabetOf mode) (l .sender)
   fine-begins stays h i = (h, i)
-  fine-begins (shifts part c cs s w e) h i = (h, L .shift-sender s c w i e)
-  fine-begins (owns part c cs s w e) h i = (h .1, L .own-sender s c w i e)
+  fine-begins (shifts k r) h i = (h, L .shift-sender k r)
+  fine-begins (owns part o c cs s w e) h i = (h .1, L .own-sender s c w i e)
 
   pub load-view : (begins : Bool) (m : Model) → Fine mode m
       → (on : OnLine) × Opens mode (m .onLine) on × Begins mode (m .waiting) on (m .sender) (loadBy begins mode m)
   load-view begins m f =
       let on = begun mode begins (m .onLine) in
-      (on, begun-view mode begins (m .onLine), next-view mode (m .waiting) on (m .sender) (f .waits))
+      (on, begun-view mode begins (m .onLine), next-view (m .waiting) on (m .sender) (f .sender-in) (f .waits))
 
   pub fine-ms : (begins ends : Bool) (m : Model) (x : ℕ) → Fine mode m → Fine mode (msBy mode begins ends m x)
   unfolding msBy

@@ -5,15 +5,18 @@
 use Prim.Native.Nat.{ℕ, _+_, _-_, _≤_, _<_}
 use mathlib.Core.Path.{_≡_}
 use mathlib.Core.Bool.{true}
+use mathlib.Core.Logic.{_⊎_}
 use mathlib.Core.List.{List, [], _∷_, _++_, map}
 use lib.ListN.{length, take, drop}
 use Rattle.alphabet.specs.declared.Alphabet.{Alphabet}
+use Rattle.alphabet.specs.declared.Alphabet.the-variants.{Baudot}
 use Rattle.alphabet.specs.declared.Mode.{Mode}
 use Rattle.alphabet.specs.Modes.{modeOf, alphabetOf}
 use Rattle.alphabet.specs.Normal.{normalForm, allChars}
 use Rattle.reader.specs.Words.{characterWord}
-use Rattle.demand3.specs.Model.{Step, Did, freshModel, modelAfter, does, heardIn, msIn, OffersNone, sentIn, takenIn}
-use Rattle.demand3.specs.Reading.{synchronizedAfter, mostBefore, NoBurst, EndsIdle}
+use Rattle.demand3.specs.Model.{ShiftCode, Step, Did, freshModel, modelAfter, does, heardIn, msIn, OffersNone}
+use Rattle.demand3.specs.Model.{sentIn, takenIn}
+use Rattle.demand3.specs.Reading.{synchronizingCode, synchronizedAfter, mostBefore, NoBurst, EndsIdle}
 use Rattle.demand3.specs.Calls.{Call, RunCall, opened, succeeds, leftBy, sentBy, wordsBy, stepsBy, upTo}
 
 -- D3: "every list of offers and runs on station A and every such list on station B, refused calls among them",
@@ -121,7 +124,8 @@ handedOut d = drop (length (wordsBefore d (d .start + 300 + synchronized d))) (w
 
 -- D3: "Then".
 pub record Conclusion (d : Lists) : Type 0 where
-  -- D3: "At most 72 characters in Baudot, one in DTMF and none in EDT precede that point"; in a burst, too.
+  -- D3: "At most 72 characters in Baudot, one in DTMF and none in EDT precede that point"; in a burst, too. (Document
+  -- 02, #101: "the 72 becomes none".)
   pub before : length (takenIn (take (synchronized d) (followsA d))) ≤ mostBefore (theAlphabet d)
   -- D3: "at which A is in no burst, the words B has handed out after the settling code are exactly" these.
   pub text : EndsIdle (followsA d)
@@ -129,6 +133,13 @@ pub record Conclusion (d : Lists) : Type 0 where
   -- D3: "with no fault". Each word that is due is a character, of kind 0; and so is each that B has handed out.
   pub no-fault-due : EndsIdle (followsA d) → allChars (wordsDue d) ≡ true
   pub no-fault : EndsIdle (followsA d) → allChars (handedOut d) ≡ true
+
+-- Document 02, #101: "Each Baudot burst opens, after its lead, with the case code in force". So in Baudot the
+-- synchronizing code is a shift code, once it has ended.
+abbrev pub OpensWithShift : Lists → Type 0
+OpensWithShift d =
+    let code = synchronizingCode (theMode d) (followsA d) in
+    theAlphabet d ≡ Baudot → (code ≡ []) ⊎ (code ≡ ShiftCode ∷ [])
 
 -- 01: "each sent ms is the line signal of the book's lead or code, and quiet outside a burst". For each station by
 -- itself.

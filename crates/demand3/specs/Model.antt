@@ -2,10 +2,11 @@
 -- that succeed and heard ms alone, and never looks at a station.
 use Prim.Native.Nat.{ℕ, suc}
 use mathlib.Core.Path.{_≡_}
-use mathlib.Core.Bool.{Bool, true, false, cond}
+use mathlib.Core.Bool.{Bool, true, false, cond, not, _&&_}
 use mathlib.Core.List.{List, [], _∷_, _++_, map}
 use lib.Dec.{eqb}
 use lib.ListN.{length}
+use Rattle.alphabet.specs.declared.Alphabet.{Alphabet}
 use Rattle.alphabet.specs.declared.LineCode.{LineCode}
 use Rattle.alphabet.specs.declared.Mode.{Mode}
 use Rattle.alphabet.specs.declared.Sends.{Sends}
@@ -13,9 +14,10 @@ use Rattle.alphabet.specs.declared.Sends.the-variants.{Nothing, Code}
 use Rattle.alphabet.specs.Modes.{alphabetOf}
 use Rattle.alphabet.specs.Normal.{sends}
 use Rattle.baudot.specs.declared.Sender.{Sender}
-use Rattle.baudot.specs.Sending.{fresh, shiftCode, shifted}
+use Rattle.baudot.specs.Sending.{sender, fresh, shiftCode}
 use Rattle.signal.specs.Signal.{quiet, signal, preamble}
-use Rattle.burst.specs.Rules.{freeMs, mayBegin, mayEnd, shiftWanted, senderAfterOwn, isInhibited, inhibitedAfter, isSilent}
+use Rattle.burst.specs.Rules.{freeMs, mayBegin, mayEnd, opensWithShift, openingShift, shiftWanted, senderAfterOwn}
+use Rattle.burst.specs.Rules.{isInhibited, inhibitedAfter, isSilent}
 use Rattle.queue.specs.Queue.{waiters}
 
 -- What is on the line in a burst: the preamble (there: lead), a shift code (there: case code), a character's own code.
@@ -63,29 +65,42 @@ pub record Loaded : Type 0 where
   pub taken : List ℕ
 
 abbrev pub loaded : List ℕ → OnLine → Sender → List ℕ → Loaded
-loaded waiting onLine sender taken = record { waiting = waiting; onLine = onLine; sender = sender; taken = taken }
+loaded waiting on s taken = record { waiting = waiting; onLine = on; sender = s; taken = taken }
 
--- A shift code takes no character; an own code takes its own.
-abbrev pub shiftBegins : Mode → ℕ → List ℕ → Sender → ℕ → Loaded
-shiftBegins mode c cs s w = loaded (c ∷ cs) (Sending ShiftCode (signal mode (shiftCode w))) (shifted s w) []
+-- A shift code takes no character, and the count starts again at it; an own code takes its own.
+abbrev pub shiftBegins : Mode → List ℕ → ℕ → Loaded
+shiftBegins mode waiting w = loaded waiting (Sending ShiftCode (signal mode (shiftCode w))) (sender w 0) []
 
 abbrev pub ownBegins : Mode → ℕ → List ℕ → Sender → LineCode → Loaded
 ownBegins mode c cs s k = loaded cs (Sending OwnCode (signal mode (k .0))) (senderAfterOwn (alphabetOf mode) s) (c ∷ [])
 
--- The next code: a shift code where one is wanted ahead of the front character, else its own code. (A character that
--- sends nothing never waits.)
+-- The front character is next: a shift code where one is wanted ahead of it, else its own code. (A character that sends
+-- nothing never waits.)
 unfoldable pub codeBegins : Mode → ℕ → List ℕ → Sender → Sends → Loaded
 codeBegins mode c cs s Nothing = loaded cs (Sending OwnCode []) s (c ∷ [])
 codeBegins mode c cs s (Code own k) =
     let w = shiftWanted (alphabetOf mode) s own in
-    cond (eqb w 0) (ownBegins mode c cs s k) (shiftBegins mode c cs s w)
+    cond (eqb w 0) (ownBegins mode c cs s k) (shiftBegins mode (c ∷ cs) w)
 
--- In a burst with no ms of a part left, the next code begins in that ms.
+-- The next code for those that wait, behind a part; none if none waits.
+abbrev pub frontBegins : Mode → List ℕ → Part → Sender → Loaded
+frontBegins mode [] part s = loaded [] (Sending part []) s []
+frontBegins mode (c ∷ cs) part s = codeBegins mode c cs s (sends (alphabetOf mode) c)
+
+-- Document 02, #101: a shift code is to open the burst behind this part.
+abbrev pub isOpening : Alphabet → Part → Bool
+isOpening a Preamble = opensWithShift a
+isOpening a ShiftCode = false
+isOpening a OwnCode = false
+
+-- In a burst with no ms of a part left, the next code begins in that ms: the one that opens the burst, or the next for
+-- those that wait.
 unfoldable pub nextCode : Mode → List ℕ → OnLine → Sender → Loaded
 nextCode mode waiting Idle s = loaded waiting Idle s []
 nextCode mode waiting (Sending part (x ∷ left)) s = loaded waiting (Sending part (x ∷ left)) s []
-nextCode mode [] (Sending part []) s = loaded [] (Sending part []) s []
-nextCode mode (c ∷ cs) (Sending part []) s = codeBegins mode c cs s (sends (alphabetOf mode) c)
+nextCode mode waiting (Sending part []) s =
+    cond (isOpening (alphabetOf mode) part) (shiftBegins mode waiting (openingShift s))
+    (frontBegins mode waiting part s)
 
 -- A ms is told when a burst begins and ends: `begins`, one is to begin now if there is none; `ends`, this one is to end
 -- with this code. Within each ms, sending is settled first.
@@ -114,12 +129,12 @@ ended Idle = []
 ended (Sending part []) = part ∷ []
 ended (Sending part (x ∷ left)) = []
 
--- If a code's last ms has come, the burst ends with that ms where it is to end. (After a preamble characters wait, so
--- that it is not to end: `preamble-waits` in proofs/Opening.antt.)
-unfoldable pub closed : Bool → OnLine → OnLine
-closed ends Idle = Idle
-closed ends (Sending part []) = cond ends Idle (Sending part [])
-closed ends (Sending part (x ∷ left)) = Sending part (x ∷ left)
+-- If a code's last ms has come, the burst ends with that ms where it is to end. (It never ends with a preamble's: a
+-- shift code is to open it, or characters wait, `preamble-waits` in proofs/Opening.antt.)
+unfoldable pub closed : Mode → Bool → OnLine → OnLine
+closed mode ends Idle = Idle
+closed mode ends (Sending part []) = cond (ends && not (isOpening (alphabetOf mode) part)) Idle (Sending part [])
+closed mode ends (Sending part (x ∷ left)) = Sending part (x ∷ left)
 
 -- Then silence grows by that ms if it was heard as 0 or is inhibited; otherwise it is 0 again.
 abbrev pub silenceAfter : Bool → ℕ → ℕ
@@ -144,10 +159,10 @@ didFrom l = record {
 abbrev pub inhibitedFrom : Model → Loaded → Bool
 inhibitedFrom m l = isInhibited (inBurst (l .onLine)) (m .inhibitedMs)
 
-abbrev pub modelFrom : Bool → Model → Loaded → ℕ → Model
-modelFrom ends m l heard = record {
+abbrev pub modelFrom : Mode → Bool → Model → Loaded → ℕ → Model
+modelFrom mode ends m l heard = record {
   waiting = l .waiting;
-  onLine = closed ends (oneGone (l .onLine));
+  onLine = closed mode ends (oneGone (l .onLine));
   sender = l .sender;
   silence = silenceAfter (isSilent (inhibitedFrom m l) heard) (m .silence);
   inhibitedMs = inhibitedAfter (inBurst (l .onLine)) (m .inhibitedMs);
@@ -168,7 +183,7 @@ unfoldable pub did : Mode → Model → Did
 did mode m = didFrom (load mode m)
 
 unfoldable pub msAfter : Mode → Model → ℕ → Model
-msAfter mode m heard = modelFrom (endsIn mode m) m (load mode m) heard
+msAfter mode m heard = modelFrom mode (endsIn mode m) m (load mode m) heard
 
 -- What a model is kept from: an offer that succeeds, and a ms with the level heard.
 pub data Step : Type 0 where

@@ -1,5 +1,5 @@
--- Document 01, demand 3: the synchronizing code (there: the settling code) after an idle period (there: a rest), by
--- what the send model does.
+-- Document 01, demand 3, and document 02, #101: the synchronizing code (there: the settling code) after an idle period
+-- (there: a rest), by what the send model does.
 use Prim.Native.Nat.{ℕ, suc}
 use mathlib.Core.Path.{_≡_}
 use mathlib.Core.Bool.{Bool, true, false, cond}
@@ -10,12 +10,12 @@ use Rattle.alphabet.specs.declared.Mode.{Mode}
 use Rattle.alphabet.specs.Modes.{alphabetOf}
 use Rattle.demand3.specs.Model.{Part, Preamble, ShiftCode, OwnCode, Did}
 
--- It is the first shift code (Baudot); the first own code, which is the first digit with the quiet after its key
--- (DTMF).
+-- It is the first code, of whatever kind (Baudot); the first own code, which is the first digit with the quiet after
+-- its key (DTMF).
 unfoldable pub synchronizes : Alphabet → Part → Bool
 synchronizes Baudot Preamble = false
 synchronizes Baudot ShiftCode = true
-synchronizes Baudot OwnCode = false
+synchronizes Baudot OwnCode = true
 synchronizes Dtmf Preamble = false
 synchronizes Dtmf ShiftCode = false
 synchronizes Dtmf OwnCode = true
@@ -29,7 +29,7 @@ atOnce Edt = true
 
 -- At most so many characters are taken before that point.
 abbrev pub mostBefore : Alphabet → ℕ
-mostBefore Baudot = 72
+mostBefore Baudot = 0
 mostBefore Dtmf = 1
 mostBefore Edt = 0
 
@@ -45,6 +45,11 @@ untilSynchronized mode (d ∷ ds) = cond (endsSynchronizing mode (d .ended)) 1 (
 
 abbrev pub synchronizedAfter : Mode → List Did → ℕ
 synchronizedAfter mode ds = cond (atOnce (alphabetOf mode)) 0 (untilSynchronized mode ds)
+
+-- That code, if it has ended.
+unfoldable pub synchronizingCode : Mode → List Did → List Part
+synchronizingCode mode [] = []
+synchronizingCode mode (d ∷ ds) = cond (endsSynchronizing mode (d .ended)) (d .ended) (synchronizingCode mode ds)
 
 -- In none of the ms there is a burst.
 unfoldable pub NoBurst : List Did → Type 0

@@ -4,7 +4,7 @@ use Rattle.alphabet_theorems.proofs.Normal.{normal-form-twice}
 use Rattle.demand3_claim.specs.Claim.{Demand3}
 use Rattle.demand3.proofs.Accepts.{succeeds-as-model}
 use Rattle.demand3.proofs.CutInTwo.{cut-in-two}
-use Rattle.demand3.proofs.Demand3.{sends-as-model, concludes}
+use Rattle.demand3.proofs.Demand3.{sends-as-model, concludes, opens-with-shift}
 use Rattle.demand3_claim.proofs.Examples.{all-hold}
 
 pub demand-3 : Demand3
@@ -12,6 +12,7 @@ demand-3 = record {
   succeeds = succeeds-as-model;
   sends = sends-as-model;
   reads = concludes;
+  opens-with-shift = opens-with-shift;
   cut-in-two = cut-in-two;
   normal-twice = λ mode. normal-form-twice (alphabetOf mode);
   examples = all-hold;

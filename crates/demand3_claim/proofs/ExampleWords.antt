@@ -42,7 +42,7 @@ pub record HandsOut (e : Example) (k : ℕ) : Type 0 where
   pub earlier : wordsBefore (e .lists) (e .lists .start + 300 + k) ≡ e .earlier
   pub all : wordsBefore (e .lists) (e .lists .asked + 1) ≡ e .earlier ++ e .words
 
-pub words-45 : HandsOut baudot45 810
+pub words-45 : HandsOut baudot45 315
 unfolding baudot45 callsB45 line45
     chars allAtMost stateAfter outputs joined sends reads signal signals
     waiters allWait room offered queueIn mayBegin mayEnd partMs isOver begun codeBegins nextCode levelOn oneGone closed

@@ -257,7 +257,7 @@ module _ (e : Example) (k : ℕ) (c : Passes e k) where
 
 -- ---- the instances
 
-passes-45 : Passes baudot45 810
+passes-45 : Passes baudot45 315
 unfolding allTrue tests premiseTests noBurst endsIdle same offersNone frontMs backMs accepts modelSteps
     baudot45 callsA45 line45 callsB45
     chars waiters heardIn offered mayBegin mayEnd begun codeBegins nextCode load levelOn oneGone ended closed did
@@ -265,7 +265,7 @@ unfolding allTrue tests premiseTests noBurst endsIdle same offersNone frontMs ba
     wanted sendBaudot printedAt leftRows rightRows rows bits bitsFrom a2 digits held baudotSignal
 passes-45 = refl
 
-passes-50 : Passes baudot50 10_950
+passes-50 : Passes baudot50 300
 unfolding allTrue tests premiseTests noBurst endsIdle same offersNone frontMs backMs accepts modelSteps
     baudot50 callsA50 line50 laterLine50 lastLine50 callsB50
     chars waiters heardIn offered mayBegin mayEnd begun codeBegins nextCode load levelOn oneGone ended closed did
@@ -312,8 +312,8 @@ eventsIn50 steps = toldEvents Baudot50 freshModel fresh (toldOf Baudot50 freshMo
 
 reads50 : List Event → Bool
 reads50 es =
-    same (wordsOf (take 11_500 es)) (baudot50 .earlier)
-    && same (wordsOf (take 12_251 es)) (baudot50 .earlier ++ baudot50 .words)
+    same (wordsOf (take 850 es)) (baudot50 .earlier)
+    && same (wordsOf (take 11_951 es)) (baudot50 .earlier ++ baudot50 .words)
 
 reads-50 : reads50 (eventsIn50 (modelSteps Baudot50 freshModel callsB50)) ≡ true
 unfolding reads50 same accepts modelSteps baudot50 line50 laterLine50 lastLine50 callsB50
@@ -323,23 +323,23 @@ unfolding reads50 same accepts modelSteps baudot50 line50 laterLine50 lastLine50
     toldOf toldEvents msBy inhibitedBy hear inhibited wordsOf placed sampleAt samplesOf sampled frameStep baudotKinds
 reads-50 = refl
 
-words-50 : HandsOut baudot50 10_950
+words-50 : HandsOut baudot50 300
 unfolding reads50 baudot50
 words-50 =
     let d = baudot50 .lists in
     let es = eventsIn50 (stepsB d) in
     let c : reads50 es ≡ true = ap (λ (l : List Step). reads50 (eventsIn50 l)) (steps-are 2 callsB50) ∙ reads-50 in
-    let earlier = same (wordsOf (take 11_500 es)) (baudot50 .earlier) in
-    let all = same (wordsOf (take 12_251 es)) (baudot50 .earlier ++ baudot50 .words) in
+    let earlier = same (wordsOf (take 850 es)) (baudot50 .earlier) in
+    let all = same (wordsOf (take 11_951 es)) (baudot50 .earlier ++ baudot50 .words) in
     record {
-      earlier = words-are d 11_700 ∙ same-by _ _ (and-left earlier all c);
-      all = words-are d 12_451 ∙ same-by _ _ (and-right earlier all c);
+      earlier = words-are d 1_200 ∙ same-by _ _ (and-left earlier all c);
+      all = words-are d 12_301 ∙ same-by _ _ (and-right earlier all c);
     }
 
 pub all-hold : AllHold
 all-hold = record {
-  baudot45-holds = holds baudot45 810 passes-45 words-45;
-  baudot50-holds = holds baudot50 10_950 passes-50 words-50;
+  baudot45-holds = holds baudot45 315 passes-45 words-45;
+  baudot50-holds = holds baudot50 300 passes-50 words-50;
   dtmf-holds = holds dtmf 120 passes-dtmf words-dtmf;
   edt-holds = holds edt 0 passes-edt words-edt;
   dtmf-inhibited = dtmf-inhibited;

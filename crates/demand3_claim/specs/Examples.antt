@@ -37,8 +37,8 @@ run heard = RunCall heard (ms (length heard) 0) (ms (length heard) 0)
 
 -- Baudot 45.45. A's burst of e ends with ms 1479. A byte above 127, a level that is none and a sent slice that is too
 -- short are refused. B is opened in the idle period and hears 11011, then space: it is in figures, and in a frame when
--- the line falls quiet. It gives a fault, takes TOO for 599, and is right from the shift code ahead of 1 on. Offers to
--- it are refused or empty.
+-- the line falls quiet. It gives a fault, and is right from the shift code on that opens A's next burst: it reads TOO,
+-- and not 599. Offers to it are refused or empty.
 unfoldable pub callsA45 : List Call
 callsA45 =
     OfferCall (chars "e") ∷
@@ -50,14 +50,15 @@ callsA45 =
     run (ms 600 2) ∷
     RunCall (ms 600 0) (ms 599 0) (ms 600 0) ∷
     run (ms 600 1) ∷
-    run (ms 106 2) ∷
+    run (ms 271 2) ∷
     []
 
 -- what A sends from ms 1740 on
 unfoldable pub line45 : List ℕ
 line45 =
     ms 40 0 ++ preamble Baudot45
-    ++ signals Baudot45 (0b10000 ∷ 0b11000 ∷ 0b11000 ∷ 0b11011 ∷ 0b10111 ∷ 0b11111 ∷ 0b00011 ∷ []) ++ 0 ∷ []
+    ++ signals Baudot45 (0b11111 ∷ 0b10000 ∷ 0b11000 ∷ 0b11000 ∷ 0b11011 ∷ 0b10111 ∷ 0b11111 ∷ 0b00011 ∷ [])
+    ++ 0 ∷ []
 
 unfoldable pub callsB45 : List Call
 callsB45 =
@@ -78,44 +79,44 @@ baudot45 = record {
     openA = 1_000;
     openB = 1_500;
     start = 1_480;
-    asked = 3_085;
+    asked = 3_250;
   };
-  before = chars "too";
-  earlier = faultWord ∷ chars "599";
-  words = chars "1A";
+  before = [];
+  earlier = faultWord ∷ [];
+  words = chars "TOO1A";
 }
 
--- Baudot 50. More characters than there is space for are refused, and so are more than 4,096 ms. After e and 71 more,
--- the shift code is repeated ahead of the 73rd: B, in figures, takes the 71 for 3 and is right from there on. DEL has
--- put it in letters before it heard 11011.
+-- Baudot 50. More characters than there is space for are refused, and so are more than 4,096 ms. A's burst of 1 ends
+-- with ms 599, in figures. Its next one opens with 11011, and the count starts again at it: 72 characters follow, and
+-- 11011 is repeated ahead of the 73rd. B has heard 11011, but DEL has put it in letters since: it reads 3, and not E,
+-- from the first code on.
 unfoldable pub callsA50 : List Call
 callsA50 =
-    OfferCall (chars "e") ∷
-    run (ms 750 0) ∷
-    OfferCall (ms 257 0x65) ∷
-    OfferCall (ms 71 0x65 ++ chars "too1") ∷
+    OfferCall (chars "1") ∷
+    run (ms 900 0) ∷
+    OfferCall (ms 257 0x33) ∷
+    OfferCall (ms 73 0x33) ∷
     run (ms 4_096 0) ∷
     run (ms 4_097 0) ∷
     run (ms 4_096 2) ∷
-    run (ms 3_509 1) ∷
+    run (ms 3_209 1) ∷
     []
 
--- what A sends from ms 710 on: in three parts
+-- what A sends from ms 860 on: in three parts
 unfoldable pub line50 : List ℕ
-line50 = ms 40 0 ++ preamble Baudot50 ++ signals Baudot50 (ms 24 0b00001)
+line50 = ms 40 0 ++ preamble Baudot50 ++ signals Baudot50 (0b11011 ∷ ms 24 0b00001)
 
 unfoldable pub laterLine50 : List ℕ
 laterLine50 = signals Baudot50 (ms 26 0b00001)
 
 unfoldable pub lastLine50 : List ℕ
-lastLine50 =
-    signals Baudot50 (ms 21 0b00001 ++ 0b11111 ∷ 0b10000 ∷ 0b11000 ∷ 0b11000 ∷ 0b11011 ∷ 0b10111 ∷ []) ++ 0 ∷ []
+lastLine50 = signals Baudot50 (ms 22 0b00001 ++ 0b11011 ∷ 0b00001 ∷ []) ++ 0 ∷ []
 
 unfoldable pub callsB50 : List Call
 callsB50 =
+    run (signals Baudot50 (0b11011 ∷ [])) ∷
     OfferCall (0x7f ∷ []) ∷
-    run (signals Baudot50 (0b11011 ∷ []) ++ ms 100 0) ∷
-    run (ms 260 2) ∷
+    run (ms 100 0 ++ ms 260 2) ∷
     run line50 ∷
     OfferCall (ms 257 0x65) ∷
     run laterLine50 ∷
@@ -129,13 +130,13 @@ baudot50 = record {
     callsA = callsA50;
     callsB = callsB50;
     openA = 0;
-    openB = 200;
-    start = 450;
-    asked = 12_450;
+    openB = 350;
+    start = 600;
+    asked = 12_300;
   };
-  before = ms 71 0x65;
-  earlier = faultWord ∷ ms 71 0x33;
-  words = chars "TOO1";
+  before = [];
+  earlier = faultWord ∷ [];
+  words = ms 73 0x33;
 }
 
 -- DTMF. A is opened in the idle period. Key 17 is refused. B has heard **; its own burst of b ends with ms 779, so that
