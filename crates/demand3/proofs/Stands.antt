@@ -100,7 +100,7 @@ module _ (mode : Mode) where
 
   over-closed : (ends : Bool) (part : Part) (ms : List ℕ) (at : ℕ) → length ms ≤ at
       → closed mode ends (Sending part (drop at ms))
-      ≡ cond (ends && not (isOpening (alphabetOf mode) part)) Idle (Sending part (drop at ms))
+      ≡ cond (not (isOpening (alphabetOf mode) part) && ends) Idle (Sending part (drop at ms))
   unfolding closed
   over-closed ends part ms at h = rw (drop-of-length-le ms h) refl
 
@@ -122,9 +122,9 @@ module _ (mode : Mode) where
       both false = sending p code at
 
       go : (b : Bool) → leb (length ms) at ≡ b
-          → Stands mode (cond (b && ends && not opening) idle (onLine n code at))
+          → Stands mode (cond (b && not opening && ends) idle (onLine n code at))
           (closed mode ends (Sending part (drop at ms)))
-      go true e = rw (over-closed ends part ms at (leb-true (length ms) at e)) (both (ends && not opening))
+      go true e = rw (over-closed ends part ms at (leb-true (length ms) at e)) (both (not opening && ends))
       go false e = rw (stays-closed ends part ms at (leb-false (length ms) at e)) (sending p code at)
 
   -- a burst begins, or what is on the line goes on

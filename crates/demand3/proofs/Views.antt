@@ -65,7 +65,7 @@ unfolding closed
 closed-view mode ends Idle = keeps
 closed-view mode ends (Sending part (x ∷ xs)) = keeps
 closed-view mode ends (Sending part []) =
-    let last = ends && not (isOpening (alphabetOf mode) part) in
+    let last = not (isOpening (alphabetOf mode) part) && ends in
     either (Closes (Sending part [])) last Idle (Sending part []) closes keeps
 
 -- what each ms keeps: those that wait send something, and the sender is one that the rule can have

@@ -133,7 +133,7 @@ ended (Sending part (x ∷ left)) = []
 -- shift code is to open it, or characters wait, `preamble-waits` in proofs/Opening.antt.)
 unfoldable pub closed : Mode → Bool → OnLine → OnLine
 closed mode ends Idle = Idle
-closed mode ends (Sending part []) = cond (ends && not (isOpening (alphabetOf mode) part)) Idle (Sending part [])
+closed mode ends (Sending part []) = cond (not (isOpening (alphabetOf mode) part) && ends) Idle (Sending part [])
 closed mode ends (Sending part (x ∷ left)) = Sending part (x ∷ left)
 
 -- Then silence grows by that ms if it was heard as 0 or is inhibited; otherwise it is 0 again.
