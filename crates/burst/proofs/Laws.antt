@@ -23,6 +23,7 @@ use Rattle.burst.specs.declared.Loaded.{Loaded}
 use Rattle.burst.specs.Rules.{openingShift, shiftWanted, senderAfterOwn}
 use Rattle.burst.specs.Line.{onLine, further, idle, partMs, isOver, loaded, shiftBegins, codeBegins, isOpening, nextCode}
 use Rattle.burst.specs.Line.{levelOn, oneGone, closed}
+use Rattle.burst.specs.code.Next.{shiftAhead, nextFor}
 
 -- behind the end of a list
 getD-over : (l : List ℕ) (n : ℕ) → length l ≤ n → getD l n 0 ≡ 0
@@ -80,25 +81,19 @@ opening-some s =
 
 -- the code that begins, with characters waiting: none, an own code, a shift code
 module _ (a : Alphabet) (l : OnLine) (s : Sender) where
-  abbrev pub nextFor : Sends → Loaded
-  nextFor x = cond (isOpening a l && isCode x) (shiftBegins (openingShift s)) (codeBegins a l s x)
-
-  pub no-code : (x : Sends) → x ≡ Nothing → nextFor x ≡ loaded l s true
+  pub no-code : (x : Sends) → x ≡ Nothing → nextFor a l s x ≡ loaded l s true
   unfolding codeBegins
   no-code x e = rw (e, and-false) refl
 
   module _ (x : Sends) (own : ℕ) (k : LineCode) (e : x ≡ Code own k) where
-    abbrev ahead : ℕ
-    ahead = cond (isOpening a l) (openingShift s) (shiftWanted a s own)
-
-    pub own-code : ahead ≡ 0 → nextFor x ≡ loaded (onLine 2 (k .0) 0) (senderAfterOwn a s) true
+    pub own-code : shiftAhead a l s own ≡ 0 → nextFor a l s x ≡ loaded (onLine 2 (k .0) 0) (senderAfterOwn a s) true
     unfolding codeBegins
     own-code =
         by-test (isOpening a l)
         (λ o z. absurd (opening-some s (rw o at z)))
         (λ o z. rw (e, o, rw o at z) refl)
 
-    pub shift-code : (ahead ≡ 0 → ⊥) → nextFor x ≡ shiftBegins ahead
+    pub shift-code : (shiftAhead a l s own ≡ 0 → ⊥) → nextFor a l s x ≡ shiftBegins (shiftAhead a l s own)
     unfolding codeBegins
     shift-code =
         by-test (isOpening a l) (λ o n. rw (e, o) refl)

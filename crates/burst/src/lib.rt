@@ -7,17 +7,17 @@ use alphabet::Sends;
 use baudot::Sender;
 ghost use mathlib.Core.Path.{_≡_};
 ghost use Prim.Native.Nat.{_+_, _≤_, _<_};
-ghost use mathlib.Core.Bool.{cond, not, _&&_};
+ghost use mathlib.Core.Bool.{not, _&&_};
 ghost use lib.Dec.{eqb};
 ghost use lib.ListN.{length};
 ghost use Rattle.alphabet.specs.Modes.{alphabetOf};
-ghost use Rattle.alphabet.specs.Normal.{isCode as sendsCode};
 ghost use Rattle.baudot.specs.Sending.{wanted};
 ghost use Rattle.burst.specs.Rules.{opensWithShift, openingShift, shiftWanted, senderAfterOwn};
-ghost use Rattle.burst.specs.Line.{idle, isCode, partMs, isOver, begun, shiftBegins, codeBegins, isOpening, nextCode, levelOn, oneGone, ended, closed};
+ghost use Rattle.burst.specs.Line.{idle, isCode, partMs, isOver, begun, shiftBegins, isOpening, nextCode, levelOn, oneGone, ended, closed};
 ghost use Rattle.burst.specs.Range.{isCodeOf, codeIn, lineIn};
 ghost use Rattle.baudot.specs.code.Bounds.{SenderIn};
 ghost use Rattle.burst.specs.code.Bounds.{LineIn, SendsIn};
+ghost use Rattle.burst.specs.code.Next.{shiftAhead, nextFor};
 
 pub mod rules;
 
@@ -179,7 +179,7 @@ pub fn is_opening(a: Alphabet, l: OnLine) -> bool
 fn shift_ahead(a: Alphabet, l: OnLine, s: Sender, own: u8) -> u8
     requires { ⌜ SenderIn s ⌝ }
     requires { ⌜ (1 ≤ own) × (own ≤ 3) ⌝ }
-    ensures { λ r. ⌜ r ≡ cond (isOpening a l) (openingShift s) (shiftWanted a s own) ⌝ }
+    ensures { λ r. ⌜ r ≡ shiftAhead a l s own ⌝ }
 {
     if is_opening(a, l) {
         return opening_shift(s);
@@ -191,7 +191,7 @@ fn shift_ahead(a: Alphabet, l: OnLine, s: Sender, own: u8) -> u8
 pub fn code_begins(a: Alphabet, l: OnLine, s: Sender, sends: Sends) -> Loaded
     requires { ⌜ SenderIn s ⌝ }
     requires { ⌜ SendsIn a sends ⌝ }
-    ensures { λ r. ⌜ r ≡ cond (isOpening a l && sendsCode sends) (shiftBegins (openingShift s)) (codeBegins a l s sends) ⌝ }
+    ensures { λ r. ⌜ r ≡ nextFor a l s sends ⌝ }
 {
     let Sends::Code { shift: own, code } = sends else {
         return Loaded {

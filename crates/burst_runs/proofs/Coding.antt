@@ -30,7 +30,8 @@ use Rattle.burst.specs.Line.{frontIsNext, ended, closed}
 use Rattle.half_duplex.specs.Core.{core, modeIn, settled, waitingAfter}
 use Rattle.baudot.specs.code.Bounds.{SenderIn}
 use Rattle.burst.specs.code.Bounds.{SendsIn}
-use Rattle.burst.proofs.Laws.{code-ms, nextFor, waiting-next}
+use Rattle.burst.specs.code.Next.{nextFor}
+use Rattle.burst.proofs.Laws.{code-ms, waiting-next}
 use Rattle.burst.proofs.Range.{blank-in, sends-in, begins-in, shift-starts, opening-in}
 use Rattle.queue.proofs.Moves.{moved-place}
 use Rattle.queue.specs.Queue.{waits, allWait, waitingOf, movedBy, inRange as queueIn}

@@ -63,13 +63,15 @@ front-opening : (mode : Mode) (ws : List ℕ) (part : Part) (s : Sender) → Ope
 front-opening mode [] part s h = h
 front-opening mode (c ∷ cs) part s h = code-opening mode c cs s (sends (alphabetOf mode) c)
 
-next-opening : (mode : Mode) (ws : List ℕ) (on : OnLine) (s : Sender) → Opening on ws → OpeningBy (nextCode mode ws on s)
+next-opening : (mode : Mode) (ws : List ℕ) (on : OnLine) (s : Sender) → Opening on ws
+    → OpeningBy (nextCode mode ws on s)
 unfolding Opening nextCode
 next-opening mode ws Idle s h = h
 next-opening mode ws (Sending part (x ∷ left)) s h = h
 next-opening mode ws (Sending part []) s h =
-    either OpeningBy (isOpening (alphabetOf mode) part) (shiftBegins mode ws (openingShift s)) (frontBegins mode ws part s)
-    tt (front-opening mode ws part s h)
+    let opens = shiftBegins mode ws (openingShift s) in
+    either OpeningBy (isOpening (alphabetOf mode) part) opens (frontBegins mode ws part s) tt
+    (front-opening mode ws part s h)
 
 gone-opening : (on : OnLine) (ws : List ℕ) → Opening on ws → Opening (oneGone on) ws
 unfolding oneGone

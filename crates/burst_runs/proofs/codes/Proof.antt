@@ -20,7 +20,7 @@ use Rattle.half_duplex.specs.Core.{modeIn}
 use Rattle.burst.specs.code.Bounds.{SendsIn}
 use Rattle.half_duplex.specs.code.Bounds.{CoreIn}
 use Rattle.signal.proofs.Lengths.{within-longest}
-use Rattle.burst.proofs.Laws.{nextFor}
+use Rattle.burst.specs.code.Next.{nextFor}
 use Rattle.burst.proofs.Range.{sends-in}
 use Rattle.queue.specs.Queue.{movedBy}
 use Rattle.queue.proofs.Moves.{moved-by-length, moved-place}
