@@ -1,6 +1,6 @@
 -- What the functions of this crate need of the definitions.
-use mathlib.Core.Path.{_≡_, _∙_, refl, sym, ap}
-use mathlib.Core.Bool.{Bool, true, false, cond, _&&_, and-false}
+use mathlib.Core.Path.{_≡_, _∙_, refl, ap}
+use mathlib.Core.Bool.{Bool, true, false, and-false}
 use mathlib.Core.List.{List, [], _∷_}
 use Prim.Native.Nat.{ℕ, zero, suc, _≤_, _<_}
 use native.Mathlib.Omega.{arith}
@@ -19,9 +19,8 @@ use Rattle.signal.specs.Signal.{signal, preamble}
 use Rattle.baudot.specs.declared.Sender.{Sender}
 use Rattle.baudot.specs.Sending.{sender, shiftCode}
 use Rattle.burst.specs.declared.OnLine.{OnLine}
-use Rattle.burst.specs.declared.Loaded.{Loaded}
 use Rattle.burst.specs.Rules.{openingShift, shiftWanted, senderAfterOwn}
-use Rattle.burst.specs.Line.{onLine, further, idle, partMs, isOver, loaded, shiftBegins, codeBegins, isOpening, nextCode}
+use Rattle.burst.specs.Line.{onLine, further, partMs, isOver, loaded, shiftBegins, codeBegins, isOpening, nextCode}
 use Rattle.burst.specs.Line.{levelOn, oneGone, closed}
 use Rattle.burst.specs.code.Next.{shiftAhead, nextFor}
 

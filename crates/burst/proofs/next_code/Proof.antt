@@ -1,6 +1,6 @@
 -- `next_code` meets its contract: ms of the part are left, a shift code opens the burst, none waits, a code begins.
 use mathlib.Core.Path.{_≡_, _∙_, sym, ap, subst}
-use mathlib.Core.Bool.{true, false}
+use mathlib.Core.Bool.{true}
 use native.Mathlib.Omega.{arith}
 use borrow.Author.Tests.{not-true, not-false}
 use Rattle.alphabet.specs.declared.Alphabet.{Alphabet}
