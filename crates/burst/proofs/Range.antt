@@ -129,8 +129,8 @@ baudot-wants Baudot s own e = refl
 baudot-wants Dtmf s own e = absurd (false≢true (sym e))
 baudot-wants Edt s own e = absurd (false≢true (sym e))
 
-pub opening-in : (s : Sender) → SenderIn s → openingShift s ≤ 2
-opening-in s i = either (λ (w : ℕ). w ≤ 2) (eqb (s .shift) 0) 1 (s .shift) (omega arith) (i .shift-in)
+pub opening-in : (s : Sender) → s .shift ≤ 2 → openingShift s ≤ 2
+opening-in s i = either (λ (w : ℕ). w ≤ 2) (eqb (s .shift) 0) 1 (s .shift) (omega arith) i
 
 shift-code-is : (a : Alphabet) → opensWithShift a ≡ true → (w : ℕ) → isCodeOf a (shiftCode w) ≡ true
 unfolding isCodeOf
@@ -202,7 +202,7 @@ module _ (mode : Mode) (l : OnLine) (s : Sender) (i : LineIn mode l) (j : Sender
   next-in waiting front h =
       by-next mode (LoadedIn mode) waiting front l s
       (record { line-in = i; sender-in = j })
-      (λ e. shift-starts mode e (openingShift s) (opening-in s j))
+      (λ e. shift-starts mode e (openingShift s) (opening-in s (j .shift-in)))
       (λ n. begins-in (sends (alphabetOf mode) front) (sends-in (alphabetOf mode) front (h n)))
 
 pub begun-in : (mode : Mode) (may : Bool) (l : OnLine) → LineIn mode l → LineIn mode (begun may l)

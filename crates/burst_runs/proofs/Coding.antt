@@ -158,7 +158,7 @@ begins mode l s j (Code own k) e h =
     either-by (Begins mode) (isOpening a l && true)
     (λ o.
     let opens = and-right (eqb (l .part) 1) (opensWithShift a) (and-left (isOpening a l) true o) in
-    let i = shift-starts mode opens (openingShift s) (opening-in s j) in
+    let i = shift-starts mode opens (openingShift s) (opening-in s (j .shift-in)) in
     record { at-0 = refl; part-2 = refl; code-in = i .line-in .code-in; sender-in = i .sender-in })
     (λ o.
     let i = begins-in mode (onLine 0 0 0) s (blank-in mode 0 (omega arith)) j (Code own k) h in

@@ -44,6 +44,8 @@ use Rattle.line_theorems.proofs.Chain.{Gives, none, marks-pass}
 use Rattle.line_theorems.proofs.BaudotChain.{codes-read, code-45, code-50, code-edt}
 use Rattle.line_theorems.proofs.DtmfChain.{keys-given, shape-keys, row-shape, row-read}
 use Rattle.burst.specs.Rules.{opensWithShift, openingShift, shiftWanted, senderAfterOwn}
+use Rattle.burst.proofs.Laws.{opening-some}
+use Rattle.burst.proofs.Range.{opening-in}
 use Rattle.demand3.specs.Model.{Part, Preamble, ShiftCode, OwnCode, isOpening}
 use Rattle.demand3.specs.Reading.{synchronizes, atOnce, mostBefore}
 
@@ -184,10 +186,9 @@ module _ (s : Sender) (own : ℕ) (lo : 1 ≤ own) (hi : own ≤ 3) where
       record { shift-low = r .shift-low; shift-in = r .shift-in; count-in = omega arith }
 
 opening-range : (s : Sender) → BaudotSender s → (1 ≤ openingShift s) × (openingShift s ≤ 2)
-opening-range s (inl z) = rw (eq-eqb (s .shift) 0 z) (omega arith, omega arith)
-opening-range s (inr r) =
-    let l = r .shift-low in
-    rw (ne-eqb (s .shift) 0 (λ (z : s .shift ≡ 0). omega arith)) (l, r .shift-in)
+opening-range s b =
+    let some = opening-some s in
+    (omega (arith, some), opening-in s (⊎-elim (λ (z : s .shift ≡ 0). omega arith) (λ r. r .shift-in) b))
 
 shift-running : (k : ℕ) → (1 ≤ k) × (k ≤ 2) → Running (sender k 0)
 shift-running k i = record { shift-low = i .0; shift-in = i .1; count-in = omega arith }
