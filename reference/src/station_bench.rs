@@ -20,17 +20,22 @@ const ROUNDS: usize = 100;
 /// The ms of a short call.
 const SHORT: usize = 20;
 
-/// What a station has to do: the text it was offered, and what it hears.
+/// The characters of a short burst.
+const TURN: usize = 20;
+
+/// What a station has to do: the text it was offered, the text it is offered ahead of each `MOST_MS`
+/// ms, and what it hears.
 struct Work {
     name: &'static str,
     mode: Mode,
     text: Vec<u8>,
+    turns: Vec<u8>,
     heard: Vec<u8>,
 }
 
-fn works(mode: Mode) -> [Work; 4] {
+fn works(mode: Mode) -> [Work; 5] {
     let random = &mut Random::new(18);
-    let work = |name, text, heard| Work { name, mode, text, heard };
+    let work = |name, text, heard| Work { name, mode, text, turns: Vec::new(), heard };
     let mut reading = preamble(mode);
     while reading.len() < LENGTH {
         for code in text_codes(mode, &random.english(100)) {
@@ -44,11 +49,14 @@ fn works(mode: Mode) -> [Work; 4] {
     text.truncate(MOST_WAITING);
     let noise = random.uniform(LENGTH, usize::from(mode.highest_level()) + 1);
     let none = Vec::new;
+    let turns = text[..TURN].to_vec();
+    let bursts = Work { turns, ..work("bursts of 20 characters", none(), vec![QUIET; LENGTH]) };
     [
         work("idle", none(), vec![QUIET; LENGTH]),
         work("sending", text, vec![QUIET; LENGTH]),
         work("reading", none(), reading),
         work("noise", none(), noise),
+        bursts,
     ]
 }
 
@@ -149,7 +157,10 @@ impl<S: Entries> Pass<S> {
         let mut station = black_box(&self.station).clone();
         self.count = 0;
         let calls = black_box(&work.heard).chunks(call).zip(self.sent.chunks_mut(call));
-        for (heard, sent) in calls {
+        for (number, (heard, sent)) in calls.enumerate() {
+            if !work.turns.is_empty() && number * call % MOST_MS < call {
+                assert_eq!(station.offer(&work.turns), SUCCESS);
+            }
             let ran = station.run(heard, sent, &mut self.words[self.count..]);
             assert_eq!(ran.answer, SUCCESS);
             self.count += ran.words;

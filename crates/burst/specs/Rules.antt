@@ -33,8 +33,7 @@ opensWithShift Edt = false
 abbrev pub openingShift : Sender → ℕ
 openingShift s = cond (eqb (s .shift) 0) letters (s .shift)
 
--- The shift code that the sending rule wants ahead of an own code, 0 for none, and the sender
--- after an own code.
+-- The shift code that the sending rule wants ahead of an own code, 0 for none, and the sender after an own code.
 abbrev pub shiftWanted : Alphabet → Sender → ℕ → ℕ
 shiftWanted Baudot s own = wanted s own
 shiftWanted Dtmf s own = 0

@@ -10,9 +10,10 @@ ghost use Prim.Native.Nat.{_+_, _≤_, _<_};
 ghost use mathlib.Core.Bool.{not, _&&_};
 ghost use lib.Dec.{eqb};
 ghost use lib.ListN.{length};
+ghost use Rattle.alphabet.specs.declared.Alphabet.the-variants.{Baudot};
 ghost use Rattle.alphabet.specs.Modes.{alphabetOf};
 ghost use Rattle.baudot.specs.Sending.{wanted};
-ghost use Rattle.burst.specs.Rules.{opensWithShift, openingShift, shiftWanted, senderAfterOwn};
+ghost use Rattle.burst.specs.Rules.{opensWithShift, openingShift, senderAfterOwn};
 ghost use Rattle.burst.specs.Line.{idle, isCode, partMs, isOver, begun, shiftBegins, isOpening, nextCode, levelOn, oneGone, ended, closed};
 ghost use Rattle.burst.specs.Range.{isCodeOf, codeIn, lineIn};
 ghost use Rattle.baudot.specs.code.Bounds.{SenderIn};
@@ -105,19 +106,6 @@ fn baudot_wanted(s: Sender, own: u8) -> u8
     baudot::sending::wanted(s, own)
 }
 
-// The same in any alphabet.
-fn shift_wanted(a: Alphabet, s: Sender, own: u8) -> u8
-    requires { ⌜ SenderIn s ⌝ }
-    requires { ⌜ (1 ≤ own) × (own ≤ 3) ⌝ }
-    ensures { λ r. ⌜ r ≡ shiftWanted a s own ⌝ }
-{
-    match a {
-        Alphabet::Baudot => baudot_wanted(s, own),
-        Alphabet::Dtmf => 0,
-        Alphabet::Edt => 0,
-    }
-}
-
 // The sender after an own code.
 fn sender_after_own(a: Alphabet, s: Sender) -> Sender
     requires { ⌜ SenderIn s ⌝ }
@@ -175,16 +163,30 @@ pub fn is_opening(a: Alphabet, l: OnLine) -> bool
     opens_with_shift(a)
 }
 
-// The shift code that goes ahead of an own code, 0 for none: the one that opens the burst, or the one that is wanted.
+// The shift code that goes ahead of an own code in Baudot, 0 for none: the one that opens the burst, or the one that is
+// wanted.
+fn baudot_ahead(l: OnLine, s: Sender, own: u8) -> u8
+    requires { ⌜ SenderIn s ⌝ }
+    requires { ⌜ (1 ≤ own) × (own ≤ 3) ⌝ }
+    ensures { λ r. ⌜ r ≡ shiftAhead Baudot l s own ⌝ }
+{
+    if l.part == PREAMBLE {
+        return opening_shift(s);
+    }
+    baudot_wanted(s, own)
+}
+
+// The same in any alphabet.
 fn shift_ahead(a: Alphabet, l: OnLine, s: Sender, own: u8) -> u8
     requires { ⌜ SenderIn s ⌝ }
     requires { ⌜ (1 ≤ own) × (own ≤ 3) ⌝ }
     ensures { λ r. ⌜ r ≡ shiftAhead a l s own ⌝ }
 {
-    if is_opening(a, l) {
-        return opening_shift(s);
+    match a {
+        Alphabet::Baudot => baudot_ahead(l, s, own),
+        Alphabet::Dtmf => 0,
+        Alphabet::Edt => 0,
     }
-    shift_wanted(a, s, own)
 }
 
 // The next code, with characters waiting: a shift code where one goes ahead of the front character, else its own.

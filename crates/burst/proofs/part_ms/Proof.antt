@@ -1,6 +1,5 @@
 use Rattle.burst.proofs.Laws.{code-ms}
 use mathlib.Core.Path.{_∙_, sym}
-use lib.ListN.{length}
 -- `part_ms` meets its contract.
 use Rattle.burst.specs.Line.{partMs}
 use lib.ListN.{length-replicate}
