@@ -50,7 +50,7 @@ fn works(mode: Mode) -> [Work; 5] {
     let noise = random.uniform(LENGTH, usize::from(mode.highest_level()) + 1);
     let none = Vec::new;
     let turns = text[..TURN].to_vec();
-    let bursts = Work { turns, ..work("bursts of 20 characters", none(), vec![QUIET; LENGTH]) };
+    let bursts = Work { turns, ..work("bursts of 20", none(), vec![QUIET; LENGTH]) };
     [
         work("idle", none(), vec![QUIET; LENGTH]),
         work("sending", text, vec![QUIET; LENGTH]),
