@@ -4,6 +4,7 @@
  *     make lib
  *     gcc -std=c99 -Iinclude examples/line.c target/staticlib/libcuyrapaq.a -o target/line
  *     printf 'HELLO 73' | target/line send baudot45            the sent ms as run lengths, LEVEL MS in each line
+ *     target/line send baudot45 'GA' 'OK 73' 'SK'              the same of several turns, a burst for each
  *     printf '11 70\n0 50\n2 70\n' | target/line read dtmf     the words, each with its ms; then the text
  *     printf 'E' | target/line svg baudot45 >e.svg             the burst as a picture
  *     target/line svg edt 41 >code.svg                         one code as a picture
@@ -17,9 +18,11 @@
 #include <stdlib.h>
 #include <string.h>
 
-#define LONGEST 1000         /* characters of a text */
-#define MOST_SENT 500000     /* ms of a burst: above 1,000 characters of 480 ms in DTMF, of 330 in Baudot */
-#define MOST_PIECES 2002     /* preamble, the shift code behind it, and two codes for each character */
+#define LONGEST 1000         /* characters of a text, or of all turns */
+#define MOST_TURNS 16        /* each with a preamble and, in Baudot, a shift code behind it */
+#define GAP 300              /* quiet ms between two turns */
+#define MOST_SENT 500000     /* ms: above 1,000 characters of 480 in DTMF, of 330 in Baudot, and what the turns bring */
+#define MOST_PIECES (2 * LONGEST + 2 * MOST_TURNS) /* two codes for each character, and the heads of the turns */
 #define MOST_RUN 1000000     /* ms of one line of input */
 #define MOST_HEARD 10000000  /* ms of the whole input */
 #define MOST_DRAWN 20000     /* ms of a picture */
@@ -41,6 +44,7 @@ static const struct mode modes[] = {
 #define MODES (sizeof modes / sizeof modes[0])
 
 static const char usage[] = "usage: line send MODE <text         the ms that a station sends, LEVEL MS in each line\n"
+                            "       line send MODE TEXT..        the same of several turns, a burst for each\n"
                             "       line read MODE <runs         the words read from such lines, and the text\n"
                             "       line svg MODE <text          a picture of the burst\n"
                             "       line svg MODE CODE           a picture of one code: 00001, **4 or 41 (EDT: hex)\n"
@@ -108,13 +112,10 @@ static void send_ms(cq_station *station, struct burst *burst)
     burst->piece[burst->pieces - 1].to = burst->ms;
 }
 
-/* The burst of a text. Characters are offered as soon as there is space for them, so there is one burst. */
-static void send_text(const struct mode *mode, const uint8_t *text, size_t length, struct burst *burst)
+/* The burst of a turn. Characters are offered as soon as there is space for them, so there is one burst. */
+static void send_turn(cq_station *station, const uint8_t *text, size_t length, struct burst *burst)
 {
-    cq_station fresh, *station = &fresh;
     size_t offered = 0;
-    ran_well(cq_station_open(station, mode->number));
-    burst->ms = burst->pieces = 0;
     do {
         while (offered < length && cq_station_offer(station, text + offered, 1) == CQ_OK) {
             offered++;
@@ -125,10 +126,19 @@ static void send_text(const struct mode *mode, const uint8_t *text, size_t lengt
     } while (station->core.waiting > 0 || station->core.line.part != 0);
 }
 
-/* Standard input as text; gives back its length. */
-static size_t read_text(uint8_t text[LONGEST + 1])
+/* The burst of a text, from a fresh station. */
+static void send_text(const struct mode *mode, const uint8_t *text, size_t length, struct burst *burst)
 {
-    size_t i, length = fread(text, 1, LONGEST + 1, stdin);
+    cq_station station;
+    ran_well(cq_station_open(&station, mode->number));
+    burst->ms = burst->pieces = 0;
+    send_turn(&station, text, length, burst);
+}
+
+/* Ends with what is wrong with a text, if something is. */
+static void check_text(const uint8_t *text, size_t length)
+{
+    size_t i;
     if (length > LONGEST) {
         stop("the text is longer than %d characters", LONGEST);
     }
@@ -138,7 +148,41 @@ static size_t read_text(uint8_t text[LONGEST + 1])
                  (unsigned long)i + 1, (unsigned)text[i]);
         }
     }
+}
+
+/* Standard input as text; gives back its length. */
+static size_t read_text(uint8_t text[LONGEST + 1])
+{
+    size_t length = fread(text, 1, LONGEST + 1, stdin);
+    check_text(text, length);
     return length;
+}
+
+/* The bursts of several turns of one station, with quiet between them. */
+static void send_turns(const struct mode *mode, char *const *turns, int count, struct burst *burst)
+{
+    cq_station station;
+    uint32_t word;
+    size_t words, ms, all = 0;
+    int i;
+    if (count > MOST_TURNS) {
+        stop("there are more than %d turns", MOST_TURNS);
+    }
+    ran_well(cq_station_open(&station, mode->number));
+    burst->ms = burst->pieces = 0;
+    for (i = 0; i < count; i++) {
+        const uint8_t *text = (const uint8_t *)turns[i];
+        size_t length = strlen(turns[i]);
+        check_text(text, length);
+        all += length;
+        if (all > LONGEST) {
+            stop("the turns have more than %d characters", LONGEST);
+        }
+        for (ms = 0; i > 0 && ms < GAP; ms++) {
+            burst->levels[burst->ms++] = run_ms(&station, CQ_LEVEL_QUIET, &word, &words);
+        }
+        send_turn(&station, text, length, burst);
+    }
 }
 
 /* The end of the run of equal levels that begins at a ms. */
@@ -585,13 +629,18 @@ int main(int argc, char **argv)
     const char *verb = argc > 1 ? argv[1] : "";
     int svg = strcmp(verb, "svg") == 0, send = strcmp(verb, "send") == 0, read = strcmp(verb, "read") == 0;
     const struct mode *mode;
-    if (!(svg || send || read) || argc < 3 || argc > (svg ? 4 : 3)) {
+    if (!(svg || send || read) || argc < 3 || (svg && argc > 4) || (read && argc > 3)) {
         fputs(usage, stderr);
         return 2;
     }
     mode = mode_of(argv[2]);
     if (read) {
         do_read(mode);
+        return 0;
+    }
+    if (send && argc > 3) {
+        send_turns(mode, argv + 3, argc - 3, &burst);
+        do_send(&burst);
         return 0;
     }
     if (argc == 4) {
