@@ -154,7 +154,7 @@ fn opening_shift(s: Sender) -> u8
 }
 
 // Is a shift code to open the burst, behind its preamble?
-pub fn is_opening(a: Alphabet, l: OnLine) -> bool
+fn is_opening(a: Alphabet, l: OnLine) -> bool
     ensures { λ r. ⌜ r ≡ isOpening a l ⌝ }
 {
     if l.part != PREAMBLE {
