@@ -11,7 +11,6 @@ use lib.ListN.{length}
 use lib.Text.{eqt, eqt→eq}
 use borrow.Author.Tests.{eqb-true, ne-eqb, leb-true, ltb-true, ltb-false, le-leb, lt-ltb}
 use Rattle.lists.proofs.Lists.{either, and-left, and-right}
-use Rattle.alphabet.specs.declared.Alphabet.the-variants.{Dtmf}
 use Rattle.alphabet.specs.declared.Sends.{Sends}
 use Rattle.alphabet.specs.declared.Sends.the-variants.{Nothing, Code}
 use Rattle.alphabet.specs.Print.{Row, rows, keys}
@@ -20,8 +19,6 @@ use Rattle.alphabet.specs.TableB2.{b2}
 use Rattle.alphabet.specs.Baudot.{printedAt}
 use Rattle.alphabet.specs.Dtmf.{isDigit, isMark, withMark, isDtmfCode, codeFrom, codeOfKeys, marksThenDigit, isCode}
 use Rattle.alphabet.specs.Dtmf.{among, notStruck, remaining, drawn, sendIn, hasRow, sendFrom, sendDtmf}
-use Rattle.alphabet.specs.Normal.{sends}
-use Rattle.alphabet.specs.Modes.{codes}
 
 -- the tests on a key, taken apart
 pub digit-bounds : (k : ℕ) → isDigit k ≡ true → (1 ≤ k) × (k ≤ 10)

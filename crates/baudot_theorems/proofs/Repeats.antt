@@ -5,7 +5,7 @@ use mathlib.Core.Bool.{true, false}
 use mathlib.Core.List.{List, [], _∷_, _++_}
 use Prim.Native.Nat.{ℕ, zero, suc, _+_, _*_, _%_, _≤_, _<_}
 use native.Mathlib.Omega.{arith}
-use lib.Dec.{eqb, leb}
+use lib.Dec.{leb}
 use borrow.Author.Tests.{ne-eqb, eq-eqb, le-leb, leb-true, leb-false, not-true}
 use Rattle.lists.proofs.Lists.{by-test, and-left, and-right}
 use Rattle.alphabet.specs.declared.Alphabet.the-variants.{Baudot}

@@ -132,7 +132,7 @@ baudot-wants Edt s own e = absurd (false≢true (sym e))
 pub opening-in : (s : Sender) → s .shift ≤ 2 → openingShift s ≤ 2
 opening-in s i = either (λ (w : ℕ). w ≤ 2) (eqb (s .shift) 0) 1 (s .shift) (omega arith) i
 
-shift-code-is : (a : Alphabet) → opensWithShift a ≡ true → (w : ℕ) → isCodeOf a (shiftCode w) ≡ true
+pub shift-code-is : (a : Alphabet) → opensWithShift a ≡ true → (w : ℕ) → isCodeOf a (shiftCode w) ≡ true
 unfolding isCodeOf
 shift-code-is Baudot e w = either (λ (n : ℕ). ltb n 32 ≡ true) (eqb w 2) 0b11011 0b11111 refl refl
 shift-code-is Dtmf e w = absurd (false≢true e)

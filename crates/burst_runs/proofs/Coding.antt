@@ -2,7 +2,7 @@
 use mathlib.Core.Path.{_≡_, _∙_, refl, sym, ap, subst}
 use mathlib.Core.Bool.{Bool, true, false, cond, not, _&&_, and-false, false≢true}
 use mathlib.Core.List.{List, [], _∷_, _++_}
-use Prim.Native.Nat.{ℕ, zero, suc, _+_, _-_, _/_, _≤_, _<_}
+use Prim.Native.Nat.{ℕ, zero, suc, _+_, _-_, _≤_, _<_}
 use native.Mathlib.Omega.{arith}
 use lib.Dec.{eqb, leb, ltb}
 use lib.ListN.{length, getD, take, drop, drop-of-length-le}
@@ -12,14 +12,13 @@ use Rattle.lists.specs.Tables.{tabulate}
 use Rattle.lists.proofs.Lists.{sets-append, either, either-by, and-left, and-right}
 use Rattle.alphabet.specs.declared.Alphabet.{Alphabet}
 use Rattle.alphabet.specs.declared.Mode.{Mode}
-use Rattle.alphabet.specs.declared.Mode.the-variants.{Baudot45, Baudot50, Dtmf, Edt}
 use Rattle.alphabet.specs.declared.Sends.{Sends}
 use Rattle.alphabet.specs.declared.Sends.the-variants.{Nothing, Code}
 use Rattle.alphabet.specs.Modes.{alphabetOf, codes}
 use Rattle.alphabet.specs.Normal.{sends, isCode}
 use Rattle.baudot.specs.declared.Sender.{Sender}
 use Rattle.signal.specs.Signal.{signal}
-use Rattle.signal.proofs.Lengths.{baudot-165, baudot-150, edt-100, dtmf-120, keyCount, key-count}
+use Rattle.signal.proofs.Lengths.{some-ms}
 use Rattle.reader.specs.declared.Reader.{Reader}
 use Rattle.half_duplex.specs.declared.Core.{Core}
 use Rattle.burst.specs.declared.OnLine.{OnLine}
@@ -47,7 +46,6 @@ use Rattle.station_stretches.specs.code.Stretches.{between, Stretches}
 use Rattle.half_duplex_runs.proofs.Laws.{silence-full, silence-none, deaf-some, burst-some}
 use Rattle.station_stretches.proofs.Laws.{begun-same, left-burst, left-over, gone-over}
 use Rattle.station_stretches.proofs.Joining.{between-length, begin-stretch, send-stretch}
-use Rattle.alphabet.proofs.Ranges.{few-codes}
 use Rattle.signal_runs.proofs.Elements.{code-levels}
 use Rattle.station.proofs.Cuts.{after-none, sent-none, words-none}
 
@@ -174,23 +172,6 @@ begins mode l s j (Code own k) e h =
 
     w : ℕ
     w = shiftWanted a s own
-
-some-count : (p : ℕ) → 1 ≤ keyCount p
-some-count p = go (eqb p 0) (ltb p 3) (ltb p 7) (ltb p 15)
-  where
-    go : (a b c d : Bool) → 1 ≤ cond a 1 (cond b 2 (cond c 3 (cond d 4 1)))
-    go true b c d = omega arith
-    go false true c d = omega arith
-    go false false true d = omega arith
-    go false false false true = omega arith
-    go false false false false = omega arith
-
--- every signal has a ms
-pub some-ms : (mode : Mode) (k : ℕ) → k < 256 → 1 ≤ length (signal mode k)
-some-ms Baudot45 k h = let n = baudot-165 k in omega arith
-some-ms Baudot50 k h = let n = baudot-150 k in omega arith
-some-ms Dtmf k h = let n = dtmf-120 k in let m = key-count k h in let f = some-count (k / 16) in omega arith
-some-ms Edt k h = let n = edt-100 k in omega arith
 
 -- a list by its places
 pub tabulate-drop : (xs : List ℕ) (a n i : ℕ) → a + i + n ≡ length xs
@@ -337,9 +318,7 @@ module _ (heard chars sent₀ : List ℕ) (c : Core) (i : ℕ) (within : i ≤ l
           (sent' : List ℕ) (es : sent' ≡ sets sent₁ at (signal (modeIn c) (q .line .code .0))) where
         some : 1 ≤ ms
         some =
-            let f = few-codes (alphabetOf (modeIn c)) in
-            let k = q-begins .code-in in
-            let o = some-ms (modeIn c) (q .line .code .0) (omega arith) in
+            let o = some-ms (modeIn c) (q .line .code .0) in
             omega arith
 
         part-length : length (partMs (modeIn c) (q .line)) ≡ ms

@@ -13,6 +13,7 @@ use Rattle.alphabet.specs.declared.Mode.{Mode}
 use Rattle.alphabet.specs.Modes.{alphabetOf}
 use Rattle.baudot.specs.declared.Sender.{Sender}
 use Rattle.baudot.specs.Sending.{shiftCode}
+use Rattle.signal.proofs.Lengths.{some-ms}
 use Rattle.demand3.specs.Model.{Part, ShiftCode, OnLine, Idle, Sending, Model, Loaded, Did}
 use Rattle.demand3.specs.Model.{offered, loadBy, oneGone, ended, takenIn}
 use Rattle.demand3.specs.Reading.{synchronizes, atOnce, mostBefore, endsSynchronizing, untilSynchronized}
@@ -87,14 +88,14 @@ module _ (mode : Mode) where
         → RoomOn on n → (m : ℕ) × (n ≡ length (l .taken) + m) × RoomOn (l .onLine) m
     begins-room n stays h = (n, omega arith, h)
     begins-room n (shifts k i) h =
-        (n, omega arith, rw (L .shift-synchronizes k i) (L .code-long (shiftCode k), λ t. refl))
+        (n, omega arith, rw (L .shift-synchronizes k i) (some-ms mode (shiftCode k), λ t. refl))
     begins-room n (owns part o c cs s w e) h =
         let none = none-left (synchronizes a part) part n h in
         let first : OwnFirst a part = record { later = later; not-opening = o; not-yet = none .0 } in
         let one = L .first-room part first in
         let most = none .1 in
         let never : a ≡ Baudot → ⊥ = λ t. none-first part (subst (λ (a : Alphabet). OwnFirst a part) t first) in
-        (n - 1, omega arith, rw (L .own-synchronizes later) (L .code-long (w .code .0), λ t. absurd (never t)))
+        (n - 1, omega arith, rw (L .own-synchronizes later) (some-ms mode (w .code .0), λ t. absurd (never t)))
 
     -- one ms
     ms-room : (begins ends : Bool) (m : Model) (x n : ℕ) → Fine mode m → RoomOn (m .onLine) n

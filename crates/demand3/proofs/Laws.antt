@@ -1,16 +1,15 @@
 -- What a reader makes of the parts of a burst, as laws of a mode, and the four modes' laws.
 use mathlib.Core.Path.{_≡_, _∙_, refl, sym, ap, subst}
-use mathlib.Core.Bool.{Bool, true, false, cond, true≢false, false≢true}
+use mathlib.Core.Bool.{true, false, true≢false, false≢true}
 use mathlib.Core.Logic.{_⊎_, inl, inr, ⊎-elim}
 use mathlib.Core.List.{List, [], _∷_, _++_, append-nil}
-use Prim.Native.Nat.{ℕ, _/_, _%_, _<_, _≤_}
+use Prim.Native.Nat.{ℕ, _<_, _≤_}
 use native.Mathlib.Omega.{arith}
 use lib.Dec.{eqb}
-use lib.ListN.{length, getD, replicate, length-append, length-replicate}
+use lib.ListN.{replicate}
 use borrow.Author.Tests.{eqb-true, eq-eqb, le-leb}
 use Rattle.lists.specs.Lists.{allAtMost}
 use Rattle.lists.specs.Steps.{stateAfter, outputs}
-use Rattle.lists.proofs.Tables.{tabulate-length}
 use Rattle.alphabet.specs.declared.Alphabet.{Alphabet}
 use Rattle.alphabet.specs.declared.Alphabet.the-variants.{Baudot, Dtmf as dtmf, Edt as edt}
 use Rattle.alphabet.specs.declared.LineCode.{LineCode}
@@ -20,8 +19,8 @@ use Rattle.alphabet.specs.declared.Reads.the-variants.{Character}
 use Rattle.alphabet.specs.declared.Sends.{Sends}
 use Rattle.alphabet.specs.declared.Sends.the-variants.{Code}
 use Rattle.alphabet.specs.Print.{keys}
-use Rattle.alphabet.specs.Dtmf.{prefixes, keysOf, readDtmf}
-use Rattle.alphabet.specs.Modes.{elementOf, preambleOf, alphabetOf, codes}
+use Rattle.alphabet.specs.Dtmf.{keysOf, readDtmf}
+use Rattle.alphabet.specs.Modes.{preambleOf, alphabetOf, codes}
 use Rattle.alphabet.specs.Normal.{sends, reads, charsOf, readBack, normal, normalForm}
 use Rattle.alphabet_theorems.proofs.Rule.{ReadBack, rule-of}
 use Rattle.alphabet_theorems.proofs.Normal.{own-shift, normal-code}
@@ -38,14 +37,15 @@ use Rattle.reader.specs.declared.Reader.{Reader}
 use Rattle.reader.specs.declared.Reading.{Reading}
 use Rattle.reader.specs.Reader.{reader, eventOf, hearFrame, hear, keyEvent, prefixAfter}
 use Rattle.reader.specs.Words.{wordOf, wordsOf, readerAfter, words}
-use Rattle.signal.specs.Signal.{signal, signals, preamble, held, heldKeys, baudotSignal, edtSignal}
+use Rattle.signal.specs.Signal.{signal, signals, preamble}
 use Rattle.line_theorems.specs.Silence.{Settled}
 use Rattle.line_theorems.proofs.Chain.{Gives, none, marks-pass}
 use Rattle.line_theorems.proofs.BaudotChain.{codes-read, code-45, code-50, code-edt}
 use Rattle.line_theorems.proofs.DtmfChain.{keys-given, shape-keys, row-shape, row-read}
 use Rattle.burst.specs.Rules.{opensWithShift, openingShift, shiftWanted, senderAfterOwn}
 use Rattle.burst.proofs.Laws.{opening-some}
-use Rattle.burst.proofs.Range.{opening-in}
+use Rattle.burst.proofs.Codes.{code-few}
+use Rattle.burst.proofs.Range.{opening-in, shift-code-is}
 use Rattle.demand3.specs.Model.{Part, Preamble, ShiftCode, OwnCode, isOpening}
 use Rattle.demand3.specs.Reading.{synchronizes, atOnce, mostBefore}
 
@@ -126,7 +126,6 @@ pub record Laws (mode : Mode) (a : Alphabet) (Between : Reader → Type 0) : Typ
   pub first-law : (part : Part) → OwnFirst a part → (s : Sender) (c : ℕ) (w : Waits a c) (r : Reader) → Between r
       → Synchronized a s (readerAfter mode r (signal mode (w .code .0)))
   pub first-room : (part : Part) → OwnFirst a part → 1 ≤ mostBefore a
-  pub code-long : (k : ℕ) → 0 < length (signal mode k)
 
 abbrev pub LawsOf : Mode → Type 0
 LawsOf mode = Laws mode (alphabetOf mode) (Settled mode)
@@ -217,14 +216,11 @@ module _ (mode : Mode) (code : CodeReads mode) where
       → Makes mode r (signal mode (shiftCode k)) [] (InShift (sender k 0))
   unfolding reads
   baudot-shift k i r u =
-      let g = code (r .keys) (r .shift) (r .prefix) (shiftCode k) (five (eqb k 2)) in
+      let five = code-few Baudot (shiftCode k) (shift-code-is Baudot refl k) in
+      let g = code (r .keys) (r .shift) (r .prefix) (shiftCode k) five in
       let none = rw (reads-shift-code (r .shift) k (i .0) (i .1)) at g in
       makes mode (InShift (sender k 0)) (gives-by mode (hunts-is r u) none)
       (record { hunts = refl; running = shift-running k i; shift-is = refl })
-    where
-      five : (b : Bool) → cond b 0b11011 0b11111 < codes Baudot
-      five true = omega arith
-      five false = omega arith
 
   -- an own code, in the sender's shift
   module _ (s : Sender) (c : ℕ) (w : Waits Baudot c) (n : eqb (wanted s (w .own)) 0 ≡ true) (u : Running s) where
@@ -340,23 +336,6 @@ edt-own c w r u =
     let back = ap (λ (x : Sends). charsOf (readBack edt x)) (w .sent) in
     gives-by Edt q (record { after = g .after ∙ sym q; heard = g .heard ∙ sym back })
 
--- every code has a ms
-long-baudot : (e n : ℕ) → 0 < e → 0 < length (baudotSignal e n)
-unfolding baudotSignal held
-long-baudot e n h = simp (length-append, length-replicate) (omega arith)
-
-long-keys : (on off : ℕ) → 0 < on → (ks : List ℕ) (k : ℕ) → 0 < length (heldKeys on off (ks ++ (k ∷ [])))
-unfolding heldKeys
-long-keys on off h [] k = simp (length-append, length-replicate) (omega arith)
-long-keys on off h (j ∷ ks) k = simp (length-append, length-replicate) (omega arith)
-
-long : (mode : Mode) (n : ℕ) → 0 < length (signal mode n)
-unfolding signal edtSignal keysOf
-long Baudot45 n = long-baudot (elementOf Baudot45) n (omega arith)
-long Baudot50 n = long-baudot (elementOf Baudot50) n (omega arith)
-long Dtmf n = long-keys _ _ (omega arith) (keys (getD prefixes (n / 16) "")) (n % 16)
-long Edt n = subst (λ (l : ℕ). 0 < l) (sym (tabulate-length _ _ 0)) (omega arith)
-
 -- the laws
 module _ (mode : Mode) (law : (r : Reader) (x : ℕ) → hear mode r x ≡ hearFrame mode r x) (code : CodeReads mode) where
   laws-baudot : Laws mode Baudot (λ r. r .frame ≡ hunting)
@@ -377,7 +356,6 @@ module _ (mode : Mode) (law : (r : Reader) (x : ℕ) → hear mode r x ≡ hearF
     own-synchronizes = λ e. refl;
     first-law = λ part f. absurd (none-first part f);
     first-room = λ part f. absurd (none-first part f);
-    code-long = long mode;
   }
 
 pub laws : (mode : Mode) → LawsOf mode
@@ -402,7 +380,6 @@ laws Dtmf = record {
       let q = dtmf-any c w r h in
       (ap (λ (x : Reader). x .keys) q, ap (λ (x : Reader). x .prefix) q);
   first-room = λ part f. omega arith;
-  code-long = long Dtmf;
 }
 laws Edt = record {
   between = λ s r h. h;
@@ -420,5 +397,4 @@ laws Edt = record {
   own-synchronizes = λ e. absurd (true≢false e);
   first-law = λ part f. absurd (true≢false (f .later));
   first-room = λ part f. absurd (true≢false (f .later));
-  code-long = long Edt;
 }

@@ -10,7 +10,6 @@ use Rattle.lists.specs.Tables.{passes}
 use Rattle.lists.proofs.Tables.{passes-at}
 use Rattle.frames.specs.declared.Sample.{Sample}
 use Rattle.frames.specs.declared.Sample.the-variants.{None, Digit}
-use Rattle.frames.specs.declared.Frame.{Frame}
 use Rattle.frames.specs.declared.Found.{Found}
 use Rattle.frames.specs.declared.Found.the-variants.{Nothing, Code}
 use Rattle.signal.specs.Signal.{levelOf, digits, held, baudotSignal}

@@ -1,14 +1,14 @@
 -- The whole chain in Baudot and EDT.
-use mathlib.Core.Path.{_≡_, _∙_, refl, ap}
+use mathlib.Core.Path.{_≡_, _∙_, refl}
 use mathlib.Core.Bool.{true}
 use mathlib.Core.List.{List, [], _∷_}
 use Prim.Native.Nat.{ℕ, _-_, _<_}
 use native.Mathlib.Omega.{arith}
-use lib.Dec.{eqb, leb}
+use lib.Dec.{eqb}
 use borrow.Author.Tests.{le-leb}
 use Rattle.lists.specs.Lists.{allAtMost}
 use Rattle.lists.proofs.Lists.{either, at-most-head, at-most-tail, at-most-append}
-use Rattle.alphabet.specs.declared.Alphabet.the-variants.{Baudot, Edt as edt}
+use Rattle.alphabet.specs.declared.Alphabet.the-variants.{Baudot}
 use Rattle.alphabet.specs.declared.Mode.{Mode}
 use Rattle.alphabet.specs.declared.Mode.the-variants.{Baudot45, Baudot50, Edt}
 use Rattle.alphabet.specs.declared.Sends.{Sends}
@@ -19,7 +19,7 @@ use Rattle.alphabet.specs.Baudot.{readBaudot}
 use Rattle.alphabet.specs.Normal.{sends, reads, charsOf, allChars}
 use Rattle.alphabet_theorems.proofs.Rule.{rule-of}
 use Rattle.baudot.specs.declared.Sender.{Sender}
-use Rattle.baudot.specs.Sending.{sender, shiftCode, shiftCodes, wanted, opened, codesAhead, codesFor, senderFor, codesOf}
+use Rattle.baudot.specs.Sending.{shiftCode, shiftCodes, wanted, opened, codesAhead, codesFor, senderFor, codesOf}
 use Rattle.baudot.specs.Reading.{shiftBy, textOf, shiftAfter}
 use Rattle.keys.specs.declared.Keys.{Keys}
 use Rattle.signal.specs.Signal.{signal, signals}

@@ -5,11 +5,10 @@ use mathlib.Core.List.{List, [], _∷_, _++_, append-nil, append-assoc}
 use Prim.Native.Nat.{ℕ, _+_, _-_, _/_, _≤_}
 use Prim.Native.String.{String}
 use native.Mathlib.Omega.{arith}
-use lib.Dec.{T, eqb, leb, ltb}
+use lib.Dec.{T, eqb, leb}
 use lib.ListN.{length, replicate}
 use borrow.Author.Tests.{eqb-true, le-ltb, ne-eqb}
 use Rattle.lists.proofs.Lists.{and-left, and-right}
-use Rattle.alphabet.specs.declared.Alphabet.the-variants.{Dtmf as dtmf}
 use Rattle.alphabet.specs.declared.Char.{Char}
 use Rattle.alphabet.specs.declared.Mode.the-variants.{Dtmf}
 use Rattle.alphabet.specs.declared.Reads.{Reads}
@@ -21,15 +20,13 @@ use Rattle.alphabet.specs.Normal.{reads}
 use Rattle.alphabet.proofs.DtmfCodes.{digit-bounds, mark-bounds, not-mark, prefix-few, keys-code}
 use Rattle.alphabet_theorems.proofs.Numbering.{code-keys}
 use Rattle.frames.specs.declared.Frame.{Frame}
-use Rattle.keys.specs.declared.Keys.{Keys}
-use Rattle.reader.specs.declared.Event.{Event}
 use Rattle.reader.specs.declared.Event.the-variants.{Fault, Nothing}
 use Rattle.reader.specs.declared.Outcome.{Outcome}
 use Rattle.signal.specs.Signal.{heldKeys, keysSignal, signal}
 use Rattle.keys.specs.Keys.{ready}
 use Rattle.keys.specs.code.Bounds.{isKey}
-use Rattle.reader.specs.Reader.{reader, eventOf, keyEvent, prefixAfter, hear}
-use Rattle.reader.specs.Words.{wordOf, wordsOf, events}
+use Rattle.reader.specs.Reader.{reader, eventOf, keyEvent, prefixAfter}
+use Rattle.reader.specs.Words.{wordOf, wordsOf}
 use Rattle.reader.proofs.Parts.{keysEvents, keysPrefix, keys-after, keys-events, kept-prefix, kept-keys}
 use Rattle.reader.proofs.Outcomes.{digit-outcome, mark-outcome, other-outcome}
 use Rattle.line_theorems.proofs.KeyRules.{KeysTake, key-counts}

@@ -14,7 +14,7 @@ use Rattle.alphabet.specs.declared.Mode.the-variants.{Baudot45, Baudot50, Dtmf,
 use Rattle.alphabet.specs.declared.Sends.{Sends}
 use Rattle.alphabet.specs.declared.Sends.the-variants.{Nothing, Code}
 use Rattle.alphabet.specs.Modes.{alphabetOf}
-use Rattle.alphabet.specs.Normal.{sends, reads, charsOf, readBack, normal, normalForm, allChars}
+use Rattle.alphabet.specs.Normal.{sends, reads, charsOf, readBack, normalForm, allChars}
 use Rattle.alphabet.specs.declared.LineCode.{LineCode}
 use Rattle.alphabet_theorems.proofs.Rule.{ReadBack, rule-of}
 use Rattle.alphabet_theorems.proofs.Normal.{own-shift}
@@ -23,7 +23,7 @@ use Rattle.baudot.specs.Sending.{codesOf, Running}
 use Rattle.baudot.specs.Reading.{textOf}
 use Rattle.baudot_theorems.proofs.RoundTrip.{round-trip-running, round-trip-fresh}
 use Rattle.reader.specs.declared.Reader.{Reader}
-use Rattle.signal.specs.Signal.{signal, signals, preamble}
+use Rattle.signal.specs.Signal.{signal, signals}
 use Rattle.frames.specs.Frames.{hunting}
 use Rattle.keys.specs.Keys.{ready}
 use Rattle.reader.specs.Reader.{reader, hear}

@@ -2,7 +2,7 @@
 use mathlib.Core.Path.{_≡_, _∙_, refl, sym, ap}
 use mathlib.Core.Bool.{Bool, cond, _&&_}
 use mathlib.Core.List.{List, [], _∷_, _++_}
-use Prim.Native.Nat.{ℕ, zero, suc, _+_, _*_, _/_, _<_, _≤_}
+use Prim.Native.Nat.{ℕ, zero, suc, _+_, _*_, _/_, _%_, _<_, _≤_}
 use native.Mathlib.Omega.{arith}
 use native.Mathlib.Nat.{mul-zero, mul-suc, add-comm}
 use lib.Dec.{T, eqb, leb, ltb, eqb→eq}
@@ -91,6 +91,17 @@ module _ (n : ℕ) (h : n < 256) where
   four-keys =
       let t = both-right (eqb (length (keysOf n)) (keyCount (n / 16))) (leb (length (keysOf n)) 4) both in
       leb-true _ 4 (is-true _ t)
+
+-- every signal has a ms
+some-keys : (n : ℕ) → 1 ≤ length (keysOf n)
+unfolding keysOf
+some-keys n = let a = length-append (keys (getD prefixes (n / 16) "")) (n % 16 ∷ []) in omega arith
+
+pub some-ms : (mode : Mode) (k : ℕ) → 0 < length (signal mode k)
+some-ms Baudot45 k = let n = baudot-165 k in omega arith
+some-ms Baudot50 k = let n = baudot-150 k in omega arith
+some-ms Dtmf k = let n = dtmf-120 k in let f = some-keys k in omega arith
+some-ms Edt k = let n = edt-100 k in omega arith
 
 -- no signal is longer than the longest of its mode
 pub within-longest : (mode : Mode) (k : ℕ) → k < 256 → length (signal mode k) ≤ longest mode

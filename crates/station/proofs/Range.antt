@@ -15,7 +15,7 @@ use Rattle.alphabet.specs.declared.Alphabet.{Alphabet}
 use Rattle.alphabet.specs.declared.Alphabet.the-variants.{Baudot, Dtmf as dtmf, Edt as edt}
 use Rattle.alphabet.specs.declared.Mode.{Mode}
 use Rattle.alphabet.specs.declared.Mode.the-variants.{Baudot45, Baudot50, Dtmf, Edt}
-use Rattle.alphabet.specs.Modes.{alphabetOf, highestLevel}
+use Rattle.alphabet.specs.Modes.{highestLevel}
 use Rattle.alphabet.specs.Normal.{sends, allChars}
 use Rattle.alphabet.specs.Normal.{isCode}
 use Rattle.reader.specs.declared.Reader.{Reader}

@@ -19,7 +19,7 @@ use Rattle.burst.specs.Line.{onLine, ended}
 use Rattle.half_duplex.specs.Core.{modeIn}
 use Rattle.burst.specs.code.Bounds.{SendsIn}
 use Rattle.half_duplex.specs.code.Bounds.{CoreIn}
-use Rattle.signal.proofs.Lengths.{within-longest}
+use Rattle.signal.proofs.Lengths.{some-ms, within-longest}
 use Rattle.burst.specs.code.Next.{nextFor}
 use Rattle.burst.proofs.Range.{sends-in}
 use Rattle.queue.specs.Queue.{movedBy}
@@ -27,7 +27,7 @@ use Rattle.queue.proofs.Moves.{moved-by-length, moved-place}
 use Rattle.station.specs.Station.{station}
 use Rattle.station.proofs.Range.{station-in}
 use Rattle.alphabet.proofs.Ranges.{few-codes}
-use Rattle.burst_runs.proofs.Coding.{Coded, Goes, goes, Begins, coded-start, char-in-range, q-begins, some-ms, coded-turn, goes-far, coded-stretch}
+use Rattle.burst_runs.proofs.Coding.{Coded, Goes, goes, Begins, coded-start, char-in-range, q-begins, coded-turn, goes-far, coded-stretch}
 use borrow.Author.Needs.{needs}
 use Rattle.burst_runs.proofs.codes.Statement.{statement}
 use Rattle.burst_runs.proofs.codes.Tie as tie
@@ -287,7 +287,7 @@ loop-less c =
     let b = begins-of d in
     let r = code-fits b in
     let m = ms d in
-    let y = some-ms (mode b) (code b) (code-byte b) in
+    let y = some-ms (mode b) (code b) in
     omega arith
 
 loop-again : tie.Need-loop-again Inv-loop μ-loop
