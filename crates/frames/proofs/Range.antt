@@ -1,11 +1,11 @@
 -- A frame in range: what question 1 says in facts, and that every step keeps it.
-use mathlib.Core.Path.{_≡_, _∙_, refl, ap}
+use mathlib.Core.Path.{_≡_, _∙_, refl, ap, subst}
 use mathlib.Core.Bool.{Bool, true, false, cond}
 use mathlib.Core.List.{List}
 use Prim.Native.Nat.{ℕ, _+_, _-_, _*_, _/_, _<_, _≤_}
 use native.Mathlib.Omega.{arith}
 use lib.Dec.{eqb, leb, ltb}
-use borrow.Author.Tests.{eqb-true, eqb-false, leb-true, ltb-true, le-leb, lt-ltb}
+use borrow.Author.Tests.{eqb-true, eqb-false, ne-eqb, leb-true, ltb-true, le-leb, lt-ltb}
 use Rattle.lists.proofs.Lists.{either, and-left, and-right}
 use Rattle.lists.proofs.Tables.{is-true}
 use Rattle.alphabet.specs.declared.Mode.{Mode}
@@ -13,16 +13,18 @@ use Rattle.alphabet.specs.declared.Mode.the-variants.{Baudot45, Baudot50, Dtmf,
 use Rattle.signal.specs.Signal.{parityOf}
 use Rattle.frames.specs.declared.Sample.{Sample}
 use Rattle.frames.specs.declared.Sample.the-variants.{None, Start, Digit, Parity, Stop, Last}
+use Rattle.frames.specs.declared.Cause.{Cause}
+use Rattle.frames.specs.declared.Cause.the-variants.{Quiet, StopNotMark, OddParity}
 use Rattle.frames.specs.declared.Frame.{Frame}
 use Rattle.frames.specs.declared.Found.the-variants.{Nothing, Code}
 use Rattle.frames.specs.declared.FrameRead.{FrameRead}
 use Rattle.frames.specs.code.Bounds.{FrameIn, FrameOf, Framed, FoundIn}
 use Rattle.frames.specs.Samples.{Placed, placed, sampleAt, samplesOf, baudotKinds, baudotPlace, baudotSamples, edtKinds, edtPlace, edtSamples}
-use Rattle.frames.specs.Frames.{inFrame, hunting, waiting, gives, goesOn, faulty, parityHeard, withDigit, sampled, frameStep}
+use Rattle.frames.specs.Frames.{inFrame, hunting, waiting, gives, goesOn, faulty, unlessQuiet, parityHeard, withDigit, sampled, frameStep}
 use Rattle.alphabet.specs.Modes.{frameCodes}
 use Rattle.alphabet.specs.code.Numbers.{lastSample}
 use Rattle.frames.specs.Range.{lastMs, frameIn}
-use Rattle.frames.proofs.Samples.{allKinds, kinds-pass, baudot-on}
+use Rattle.frames.proofs.Sampling.{allKinds, kinds-pass, baudot-on}
 
 -- the constant of a mode is the ms of its last sample
 pub last-is : (mode : Mode) → lastSample mode ≡ lastMs (samplesOf mode)
@@ -69,6 +71,13 @@ place-255 mode f h =
     let l = last-few mode in
     omega arith
 
+-- what holds of a fault and of a good sample holds of one that is tested
+tested : (P : FrameRead → Type 0) (m heard : ℕ) (test : Bool) (good : FrameRead) (cause : Cause)
+    → ((c : Cause) → P (faulty c m)) → P good → P (unlessQuiet m heard (cond test good (faulty cause m)))
+tested P m heard test good cause f g =
+    either P (eqb heard 0) (faulty Quiet m) (cond test good (faulty cause m)) (f Quiet)
+    (either P test good (faulty cause m) g (f cause))
+
 -- a code that is found has the digits of its frame
 module _ (n : ℕ) where
   abbrev Codes : FrameRead → Type 0
@@ -79,14 +88,13 @@ module _ (n : ℕ) where
   sampled-in None m digits heard h = tt
   sampled-in Start m digits heard h = either Codes (eqb heard 2) (goesOn m digits) (gives hunting Nothing) tt tt
   sampled-in (Digit top) m digits heard h =
-      either Codes (eqb heard 0) faulty (goesOn m (withDigit top digits heard)) tt tt
+      either Codes (eqb heard 0) (faulty Quiet m) (goesOn m (withDigit top digits heard)) tt tt
   sampled-in Parity m digits heard h =
-      let good = eqb (parityOf digits) (parityHeard heard) in
-      either Codes (eqb heard 0) faulty (cond good (goesOn m digits) faulty) tt
-      (either Codes good (goesOn m digits) faulty tt tt)
-  sampled-in Stop m digits heard h = either Codes (eqb heard 1) (goesOn m digits) faulty tt tt
+      tested Codes m heard (eqb (parityOf digits) (parityHeard heard)) (goesOn m digits) OddParity (λ c. tt) tt
+  sampled-in Stop m digits heard h =
+      tested Codes m heard (eqb heard 1) (goesOn m digits) StopNotMark (λ c. tt) tt
   sampled-in Last m digits heard h =
-      either Codes (eqb heard 1) (gives hunting (Code (record { 0 = digits }))) faulty h tt
+      tested Codes m heard (eqb heard 1) (gives hunting (Code (record { 0 = digits }))) StopNotMark (λ c. tt) h
 
   pub found-in : (samples : List Placed) (f : Frame) (heard : ℕ) → f .digits < n → Codes (frameStep samples f heard)
   unfolding frameStep
@@ -128,6 +136,12 @@ module _ (samples : List Placed) (n : ℕ) (pos : 1 ≤ n) (weigh : (m : ℕ) �
   digit-in : (top digits heard : ℕ) → 2 * top ≡ n → digits < n → withDigit top digits heard < n
   digit-in top digits heard w h = either (λ (x : ℕ). digits / 2 + x < n) (eqb heard 1) top 0 (omega arith) (omega arith)
 
+  at-last : (m digits heard : ℕ) → Kept (sampled Last m digits heard)
+  unfolding sampled
+  at-last m digits heard =
+      tested Kept m heard (eqb heard 1) (gives hunting (Code (record { 0 = digits }))) StopNotMark (λ c. waiting-in)
+      hunting-in
+
   -- ahead of the last ms
   ahead : (k : Sample) (m digits heard : ℕ) → weighs n k ≡ true → m < lastMs samples → digits < n
       → Kept (sampled k m digits heard)
@@ -136,20 +150,14 @@ module _ (samples : List Placed) (n : ℕ) (pos : 1 ≤ n) (weigh : (m : ℕ) �
   ahead Start m digits heard w h d =
       either Kept (eqb heard 2) (goesOn m digits) (gives hunting Nothing) (on-in m digits h d) hunting-in
   ahead (Digit top) m digits heard w h d =
-      either Kept (eqb heard 0) faulty (goesOn m (withDigit top digits heard)) waiting-in
+      either Kept (eqb heard 0) (faulty Quiet m) (goesOn m (withDigit top digits heard)) waiting-in
       (on-in m (withDigit top digits heard) h (digit-in top digits heard (eqb-true (2 * top) n w) d))
   ahead Parity m digits heard w h d =
-      let good = eqb (parityOf digits) (parityHeard heard) in
-      either Kept (eqb heard 0) faulty (cond good (goesOn m digits) faulty) waiting-in
-      (either Kept good (goesOn m digits) faulty (on-in m digits h d) waiting-in)
-  ahead Stop m digits heard w h d = either Kept (eqb heard 1) (goesOn m digits) faulty (on-in m digits h d) waiting-in
-  ahead Last m digits heard w h d =
-      either Kept (eqb heard 1) (gives hunting (Code (record { 0 = digits }))) faulty hunting-in waiting-in
-
-  at-last : (m digits heard : ℕ) → Kept (sampled Last m digits heard)
-  unfolding sampled
-  at-last m digits heard =
-      either Kept (eqb heard 1) (gives hunting (Code (record { 0 = digits }))) faulty hunting-in waiting-in
+      tested Kept m heard (eqb (parityOf digits) (parityHeard heard)) (goesOn m digits) OddParity (λ c. waiting-in)
+      (on-in m digits h d)
+  ahead Stop m digits heard w h d =
+      tested Kept m heard (eqb heard 1) (goesOn m digits) StopNotMark (λ c. waiting-in) (on-in m digits h d)
+  ahead Last m digits heard w h d = at-last m digits heard
 
   pub step-in : (f : Frame) (heard : ℕ) → In f → Kept (frameStep samples f heard)
   unfolding frameStep
@@ -200,3 +208,25 @@ next-in Baudot45 t f heard h = frame-baudot 22 (omega arith) f heard h
 next-in Baudot50 t f heard h = frame-baudot 20 (omega arith) f heard h
 next-in Dtmf t f heard h = absurd t
 next-in Edt t f heard h = step-in edtSamples 128 (omega arith) weigh-edt (omega arith) refl f heard h
+
+-- ---- in a frame
+
+pub in-frame : (samples : List Placed) (f : Frame) (heard : ℕ) → 2 ≤ f .place
+    → frameStep samples f heard ≡ sampled (sampleAt samples (f .place - 1)) (f .place - 1) (f .digits) heard
+unfolding frameStep
+in-frame samples f heard h =
+    rw (ne-eqb (f .place) 0 (λ e. omega arith), ne-eqb (f .place) 1 (λ e. omega arith)) refl
+
+pub framed-in : (mode : Mode) (f : Frame) → FrameOf mode f → 2 ≤ f .place → Framed mode
+unfolding samplesOf lastMs
+framed-in Baudot45 f h l = tt
+framed-in Baudot50 f h l = tt
+framed-in Dtmf f h l = let p = h .place-in in omega arith
+framed-in Edt f h l = tt
+
+-- a sample keeps the digits few
+pub digits-few : (mode : Mode) (f : Frame) (heard : ℕ) → FrameOf mode f → 2 ≤ f .place
+    → sampled (sampleAt (samplesOf mode) (f .place - 1)) (f .place - 1) (f .digits) heard .frame .digits < 128
+digits-few mode f heard h l =
+    subst (λ (r : FrameRead). r .frame .digits < 128) (in-frame (samplesOf mode) f heard l)
+    (digits-128 mode _ (next-in mode (framed-in mode f h l) f heard h))

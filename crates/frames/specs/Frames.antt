@@ -5,6 +5,8 @@ use mathlib.Core.List.{List}
 use lib.Dec.{eqb}
 use Rattle.frames.specs.declared.Sample.{Sample}
 use Rattle.frames.specs.declared.Sample.the-variants.{None, Start, Digit, Parity, Stop, Last}
+use Rattle.frames.specs.declared.Cause.{Cause}
+use Rattle.frames.specs.declared.Cause.the-variants.{Quiet, StopNotMark, OddParity}
 use Rattle.frames.specs.declared.Frame.{Frame}
 use Rattle.frames.specs.declared.Found.{Found}
 use Rattle.frames.specs.declared.Found.the-variants.{Nothing, Fault, Code}
@@ -32,9 +34,13 @@ gives f o = record { frame = f; found = o }
 abbrev pub goesOn : ℕ → ℕ → FrameRead
 goesOn m digits = gives (inFrame (m + 1) digits) Nothing
 
--- One fault, and from the next ms on the reader waits.
-abbrev pub faulty : FrameRead
-faulty = gives waiting Fault
+-- One fault, with its cause and the ms of the frame (document 02, #103), and from the next ms on the reader waits.
+abbrev pub faulty : Cause → ℕ → FrameRead
+faulty cause m = gives waiting (Fault cause m)
+
+-- Quiet at a sample is a fault, whatever else the sample is for.
+abbrev pub unlessQuiet : ℕ → ℕ → FrameRead → FrameRead
+unlessQuiet m heard r = cond (eqb heard quiet) (faulty Quiet m) r
 
 -- A digit comes in at the top, and those before it move down: the first of them ends lowest.
 abbrev pub withDigit : ℕ → ℕ → ℕ → ℕ
@@ -44,16 +50,17 @@ withDigit top digits heard = digits / 2 + cond (eqb heard mark) top 0
 abbrev pub parityHeard : ℕ → ℕ
 parityHeard heard = cond (eqb heard mark) 1 0
 
--- What a sample at ms m does. A start that is not space ends the frame without a word; quiet at a later sample, a stop
--- that is not mark, or odd parity gives a fault; after the last good sample the reader hunts again.
+-- What a sample at ms m does. A start that is not space ends the frame without a word; quiet at a later sample, odd
+-- parity, or a stop that is not mark gives a fault; after the last good sample the reader hunts again.
 unfoldable pub sampled : Sample → ℕ → ℕ → ℕ → FrameRead
 sampled None m digits heard = goesOn m digits
 sampled Start m digits heard = cond (eqb heard space) (goesOn m digits) (gives hunting Nothing)
-sampled (Digit top) m digits heard = cond (eqb heard quiet) faulty (goesOn m (withDigit top digits heard))
+sampled (Digit top) m digits heard = unlessQuiet m heard (goesOn m (withDigit top digits heard))
 sampled Parity m digits heard =
-    cond (eqb heard quiet) faulty (cond (eqb (parityOf digits) (parityHeard heard)) (goesOn m digits) faulty)
-sampled Stop m digits heard = cond (eqb heard mark) (goesOn m digits) faulty
-sampled Last m digits heard = cond (eqb heard mark) (gives hunting (Code (record { 0 = digits }))) faulty
+    unlessQuiet m heard (cond (eqb (parityOf digits) (parityHeard heard)) (goesOn m digits) (faulty OddParity m))
+sampled Stop m digits heard = unlessQuiet m heard (cond (eqb heard mark) (goesOn m digits) (faulty StopNotMark m))
+sampled Last m digits heard =
+    unlessQuiet m heard (cond (eqb heard mark) (gives hunting (Code (record { 0 = digits }))) (faulty StopNotMark m))
 
 -- One ms. Hunting, a space ms is ms 0 of a frame. Waiting, a ms that is not space ends the wait, and the ms after it is
 -- hunted in.

@@ -15,7 +15,7 @@ use Rattle.frames.specs.declared.Sample.the-variants.{None, Start, Digit, Parit
 use Rattle.frames.specs.Samples.{placed, sampleAt, samplesOf, baudotKinds, edtKinds}
 use Rattle.frames.specs.Range.{lastMs}
 use Rattle.frames.specs.code.Bounds.{FrameOf}
-use Rattle.frames.proofs.Samples.{baudot-on, edt-on}
+use Rattle.frames.proofs.Sampling.{baudot-on, edt-on}
 use Rattle.frames_runs.specs.declared.samples.Effect.{Effect}
 use Rattle.frames_runs.specs.code.Samples.{numberAt, sampleMs, kindOf, Does}
 use Rattle.frames_runs.specs.code.Passing.{frameAt}

@@ -15,7 +15,7 @@ use Rattle.frames.specs.declared.Found.the-variants.{Nothing, Code}
 use Rattle.signal.specs.Signal.{levelOf, digits, held, baudotSignal}
 use Rattle.frames.specs.Samples.{Placed, baudotKinds, baudotPlace, baudotSamples}
 use Rattle.frames.specs.Frames.{inFrame, hunting, gives, goesOn, sampled, frameStep}
-use Rattle.frames.proofs.Samples.{baudot-on, baudot-off, place-element}
+use Rattle.frames.proofs.Sampling.{baudot-on, baudot-off, place-element}
 use Rattle.line_theorems.proofs.FrameRules.{Hears, none, chain, next, hunting-space, hunting-other, in-frame, no-sample}
 
 abbrev silent : ℕ → List Found

@@ -1,12 +1,9 @@
 -- The bounds that the functions of this crate ask for.
 use Prim.Native.Nat.{ℕ, _+_, _≤_, _<_}
 use mathlib.Core.Bool.{Bool, true, false}
-use lib.Dec.{leb}
 use Rattle.alphabet.specs.declared.Mode.{Mode}
 use Rattle.alphabet.specs.declared.Mode.the-variants.{Baudot45, Baudot50, Dtmf, Edt}
 use Rattle.alphabet.specs.Modes.{frameCodes}
-use Rattle.frames.specs.declared.Sample.{Sample}
-use Rattle.frames.specs.declared.Sample.the-variants.{None, Start, Digit, Parity, Stop, Last}
 use Rattle.frames.specs.declared.Frame.{Frame}
 use Rattle.frames.specs.declared.Found.{Found}
 use Rattle.frames.specs.declared.Found.the-variants.{Nothing, Fault, Code}
@@ -33,23 +30,14 @@ pub record InFrame (f : Frame) : Type 0 where
   pub at-least : 1 ≤ f .place
   pub below : f .place < 255
 
--- the weight of a frame's last digit is at most that of EDT
-abbrev pub topIn : Sample → Bool
-topIn None = true
-topIn Start = true
-topIn (Digit top) = leb top 64
-topIn Parity = true
-topIn Stop = true
-topIn Last = true
-
 -- a code that was found is below n
 abbrev pub FoundIn : ℕ → Found → Type 0
 FoundIn n Nothing = Unit {0}
-FoundIn n Fault = Unit {0}
+FoundIn n (Fault cause m) = Unit {0}
 FoundIn n (Code k) = k .0 < n
 
 -- something was found
 abbrev pub isFound : Found → Bool
 isFound Nothing = false
-isFound Fault = true
+isFound (Fault cause m) = true
 isFound (Code k) = true

@@ -1,0 +1,48 @@
+-- `parity` meets its contract.
+use mathlib.Core.Path.{_≡_, _∙_, refl, sym}
+use mathlib.Core.Bool.{Bool, true, false, cond}
+use Prim.Native.Nat.{ℕ}
+use mir.Val.{boolByte}
+use lib.Dec.{eqb}
+use borrow.Author.Tests.{eq-eqb, ne-eqb}
+use Rattle.signal.specs.Signal.{parityOf}
+use Rattle.frames.specs.Frames.{parityHeard, sampled}
+use borrow.Author.Needs.{needs}
+use Rattle.frames.proofs.samples.parity.Statement.{statement}
+use Rattle.frames.proofs.samples.parity.Tie as tie
+
+byte-of : (b : Bool) → boolByte b ≡ cond b 1 0
+byte-of true = refl
+byte-of false = refl
+
+returns : tie.Need-returns
+unfolding sampled
+returns c = λ (m : ℕ). simp (c .if1 .taken)
+
+cast-parity : tie.Need-cast-parity
+cast-parity c = search needs
+
+parity-requires : tie.Need-parity-requires
+parity-requires c κs = search needs
+
+cast-if2 : tie.Need-cast-if2
+cast-if2 c = search needs
+
+returns-2 : tie.Need-returns-2
+unfolding sampled
+returns-2 c =
+    let x = c .before .before .before .args .heard in
+    let e = sym (c .before .parity .ensures) ∙ c .if2 .taken ∙ byte-of (eqb x 1) in
+    λ (m : ℕ). simp (ne-eqb _ _ (c .before .before .if1 .left), eq-eqb _ (parityHeard x) e)
+
+returns-3 : tie.Need-returns-3
+unfolding sampled
+returns-3 c =
+    let x = c .before .before .before .args .heard in
+    let d = c .before .before .before .args .digits in
+    let n : parityOf d ≡ parityHeard x → ⊥ =
+    λ e. c .if2 .left (c .before .parity .ensures ∙ e ∙ sym (byte-of (eqb x 1))) in
+    λ (m : ℕ). simp (ne-eqb _ _ (c .before .before .if1 .left), ne-eqb (parityOf d) (parityHeard x) n)
+
+pub parity-spec : {M : Type 1} → statement M
+parity-spec = tie.close (tie.spec returns cast-parity parity-requires cast-if2 returns-2 returns-3)

@@ -1,0 +1,209 @@
+// The samples of a frame, by their numbers: where each falls, of which kind it is, and what it does.
+use crate::Cause;
+use crate::Sample;
+use alphabet::Mode;
+ghost use mathlib.Core.Path.{_≡_};
+ghost use Prim.Native.Nat.{_<_};
+ghost use lib.ListN.{getD};
+ghost use Rattle.frames.specs.declared.Sample.the-variants as kind;
+ghost use Rattle.frames.specs.Samples.{baudotKinds, edtKinds, samplesOf, sampleAt};
+ghost use Rattle.frames.specs.code.Samples.{numberAt, sampleMs, kindOf, NotMark, Does};
+
+// What a sample does: the frame goes on with some digits; the reader hunts; the frame breaks off; its code is found.
+pub enum Effect {
+    On(usize),
+    Hunts,
+    Breaks(Cause),
+    Ends,
+}
+
+// A code of Baudot is sampled in the middle of its elements; what is added rounds up to the next sample.
+const ELEMENT_45: usize = Mode::BAUDOT_45_ELEMENT as usize;
+
+const HALF_45: usize = ELEMENT_45 / 2;
+
+const UP_45: usize = ELEMENT_45 - 1 - HALF_45;
+
+const ELEMENT_50: usize = Mode::BAUDOT_50_ELEMENT as usize;
+
+const HALF_50: usize = ELEMENT_50 / 2;
+
+const UP_50: usize = ELEMENT_50 - 1 - HALF_50;
+
+// One of EDT too, in elements that are no whole ms.
+const CODE: usize = Mode::EDT_CODE as usize;
+
+const ELEMENTS: usize = Mode::EDT_ELEMENTS as usize;
+
+const HALF: usize = CODE / 2;
+
+const UP: usize = CODE - 1 - HALF;
+
+// The weight of a frame's last digit.
+const BAUDOT_TOP: u8 = Mode::BAUDOT_CODES / 2;
+
+const EDT_TOP: u8 = Mode::EDT_CODES / 2;
+
+// The number of the first sample from a ms on.
+pub fn number_at(mode: Mode, m: usize) -> usize
+    requires { ⌜ m < 256 ⌝ }
+    ensures { λ r. ⌜ r ≡ numberAt mode m ⌝ }
+{
+    match mode {
+        Mode::Baudot45 => (m + UP_45) / ELEMENT_45,
+        Mode::Baudot50 => (m + UP_50) / ELEMENT_50,
+        Mode::Dtmf => m,
+        Mode::Edt => (ELEMENTS * m + UP) / CODE,
+    }
+}
+
+// The ms of a sample.
+pub fn sample_ms(mode: Mode, j: usize) -> usize
+    requires { ⌜ j < 256 ⌝ }
+    ensures { λ r. ⌜ r ≡ sampleMs mode j ⌝ }
+{
+    match mode {
+        Mode::Baudot45 => ELEMENT_45 * j + HALF_45,
+        Mode::Baudot50 => ELEMENT_50 * j + HALF_50,
+        Mode::Dtmf => j,
+        Mode::Edt => (CODE * j + HALF) / ELEMENTS,
+    }
+}
+
+// The kind of a sample of Baudot.
+fn baudot_kind(j: usize) -> Sample
+    ensures { λ r. ⌜ r ≡ getD baudotKinds j kind.None ⌝ }
+{
+    if j == 0 {
+        return Sample::Start;
+    }
+    if j < 6 {
+        return Sample::Digit(BAUDOT_TOP);
+    }
+    if j == 6 {
+        return Sample::Last;
+    }
+    Sample::None
+}
+
+// The kind of a sample of EDT.
+fn edt_kind(j: usize) -> Sample
+    ensures { λ r. ⌜ r ≡ getD edtKinds j kind.None ⌝ }
+{
+    if j == 0 {
+        return Sample::Start;
+    }
+    if j < 8 {
+        return Sample::Digit(EDT_TOP);
+    }
+    match j {
+        8 => Sample::Parity,
+        9 => Sample::Stop,
+        10 => Sample::Last,
+        _ => Sample::None,
+    }
+}
+
+// The kind of a sample.
+pub fn kind_of(mode: Mode, j: usize) -> Sample
+    ensures { λ r. ⌜ r ≡ kindOf mode j ⌝ }
+{
+    match mode {
+        Mode::Baudot45 => baudot_kind(j),
+        Mode::Baudot50 => baudot_kind(j),
+        Mode::Dtmf => Sample::None,
+        Mode::Edt => edt_kind(j),
+    }
+}
+
+// The sample on a ms of a mode's frame.
+pub fn sample_on(mode: Mode, m: usize) -> Sample
+    requires { ⌜ m < 255 ⌝ }
+    ensures { λ r. ⌜ r ≡ sampleAt (samplesOf mode) m ⌝ }
+{
+    let j = number_at(mode, m);
+    if sample_ms(mode, j) != m {
+        return Sample::None;
+    }
+    kind_of(mode, j)
+}
+
+// The sample of the start.
+fn start(digits: usize, heard: u8) -> Effect
+    ensures { λ r. ⌜ Does kind.Start digits heard r ⌝ }
+{
+    if heard == 2 {
+        return Effect::On(digits);
+    }
+    Effect::Hunts
+}
+
+// The sample of a digit. Mark and space are not told apart by a branch, since what comes is not foreseen.
+fn digit(top: u8, digits: usize, heard: u8) -> Effect
+    requires { ⌜ digits < 128 ⌝ }
+    ensures { λ r. ⌜ Does (kind.Digit top) digits heard r ⌝ }
+{
+    if heard == 0 {
+        return Effect::Breaks(Cause::Quiet);
+    }
+    Effect::On(digits / 2 + (top as usize) * (heard == 1) as usize)
+}
+
+// The sample of the parity: 1 as mark.
+fn parity(digits: usize, heard: u8) -> Effect
+    requires { ⌜ digits < 128 ⌝ }
+    ensures { λ r. ⌜ Does kind.Parity digits heard r ⌝ }
+{
+    if heard == 0 {
+        return Effect::Breaks(Cause::Quiet);
+    }
+    if signal::parity(digits as u8) == (heard == 1) as u8 {
+        return Effect::On(digits);
+    }
+    Effect::Breaks(Cause::OddParity)
+}
+
+// Why a stop that is not mark breaks the frame off.
+fn not_mark(heard: u8) -> Cause
+    ensures { λ r. ⌜ NotMark heard r ⌝ }
+{
+    if heard == 0 {
+        return Cause::Quiet;
+    }
+    Cause::StopNotMark
+}
+
+// The sample of a stop that is not the last.
+fn stop(digits: usize, heard: u8) -> Effect
+    ensures { λ r. ⌜ Does kind.Stop digits heard r ⌝ }
+{
+    if heard == 1 {
+        return Effect::On(digits);
+    }
+    Effect::Breaks(not_mark(heard))
+}
+
+// The last sample.
+fn last(digits: usize, heard: u8) -> Effect
+    ensures { λ r. ⌜ Does kind.Last digits heard r ⌝ }
+{
+    if heard == 1 {
+        return Effect::Ends;
+    }
+    Effect::Breaks(not_mark(heard))
+}
+
+// What a sample does.
+pub fn effect_of(s: Sample, digits: usize, heard: u8) -> Effect
+    requires { ⌜ digits < 128 ⌝ }
+    ensures { λ r. ⌜ Does s digits heard r ⌝ }
+{
+    match s {
+        Sample::None => Effect::On(digits),
+        Sample::Start => start(digits, heard),
+        Sample::Digit(top) => digit(top, digits, heard),
+        Sample::Parity => parity(digits, heard),
+        Sample::Stop => stop(digits, heard),
+        Sample::Last => last(digits, heard),
+    }
+}
