@@ -19,9 +19,9 @@ use Rattle.frames.specs.declared.Found.the-variants.{Nothing as nothing}
 use Rattle.frames.specs.Samples.{Placed, sampleAt, samplesOf}
 use Rattle.frames.specs.Frames.{gives, sampled, frameStep, frameNext, frameFound}
 use Rattle.frames.specs.code.Bounds.{Framed, FrameOf, isFound}
-use Rattle.frames.proofs.Range.{digits-128, next-in}
-use Rattle.frames_runs.specs.declared.samples.Effect.the-variants.{On, Hunts}
-use Rattle.frames_runs.specs.code.Samples.{numberAt, sampleMs, kindOf, Does}
+use Rattle.frames.proofs.Range.{digits-128, next-in, in-frame}
+use Rattle.frames.specs.declared.samples.Effect.the-variants.{On, Hunts}
+use Rattle.frames.specs.code.Samples.{numberAt, sampleMs, kindOf, Does}
 use Rattle.frames_runs.specs.code.Passing.{frameAt, FramePasses, placeAfter, Stays}
 use Rattle.frames_runs.proofs.Numbered.{next-of, number-next, ms-grows}
 
@@ -131,14 +131,6 @@ module _ (mode : Mode) (framed : Framed mode) (heard : List ℕ) where
 -- ---- in a frame
 
 module _ (mode : Mode) where
-  -- a ms of a frame
-  in-frame : (place digits x : ℕ) → 2 ≤ place
-      → frameStep (samplesOf mode) (frameAt place digits) x
-      ≡ sampled (sampleAt (samplesOf mode) (place - 1)) (place - 1) digits x
-  unfolding frameStep
-  in-frame place digits x l =
-      rw (ne-eqb place 0 (λ (e : place ≡ 0). omega arith), ne-eqb place 1 (λ (e : place ≡ 1). omega arith)) refl
-
   -- without a sample on it
   none-step : (place digits k x : ℕ) → 2 ≤ place → sampleAt (samplesOf mode) (place - 1 + k) ≡ None
       → frameStep (samplesOf mode) (frameAt (place + k) digits) x ≡ gives (frameAt (place + suc k) digits) nothing
@@ -147,7 +139,7 @@ module _ (mode : Mode) where
       let m = place + k - 1 in
       let z : m ≡ place - 1 + k = omega arith in
       let y : m + 1 + 1 ≡ place + suc k = omega arith in
-      in-frame (place + k) digits x (omega arith)
+      in-frame (samplesOf mode) (frameAt (place + k) digits) x (omega arith)
       ∙ ap (λ (a : Sample). sampled a m digits x) (ap (sampleAt (samplesOf mode)) z ∙ e)
       ∙ ap (λ (n : ℕ). gives (frameAt n digits) nothing) y
 
@@ -225,7 +217,7 @@ module _ (mode : Mode) (framed : Framed mode) (heard : List ℕ) (f : Frame) (h 
       sample-step =
           let low = a .low in
           let z : s + 1 - 1 ≡ s = omega arith in
-          in-frame mode (s + 1) digits x (omega arith)
+          in-frame (samplesOf mode) (frameAt (s + 1) digits) x (omega arith)
           ∙ ap (λ (m : ℕ). sampled (sampleAt (samplesOf mode) m) m digits x) z
           ∙ ap (λ (m : ℕ). sampled (sampleAt (samplesOf mode) m) s digits x) (a .ms)
 

@@ -1,14 +1,12 @@
 // Frames over many ms: those that end in nothing are passed over.
-use crate::samples::Effect;
 use alphabet::Mode;
+use frames::samples::Effect;
 ghost use mathlib.Core.Path.{_≡_};
 ghost use mathlib.Core.Bool.{true};
 ghost use Prim.Native.Nat.{_≤_, _<_};
 ghost use lib.ListN.{length};
 ghost use Rattle.frames.specs.code.Bounds.{Framed, FrameOf};
 ghost use Rattle.frames_runs.specs.code.Passing.{frameAt, placeAfter, FramePasses, Stays};
-
-pub mod samples;
 
 // A reader of frames before a ms, and whether it may pass more.
 pub struct Passed {
@@ -29,12 +27,12 @@ fn pass_samples(mode: Mode, heard: &[u8], place: usize, digits: usize, i: usize)
     ensures { λ p. ⌜ (p .on ≡ true → i < p .to) ⌝ }
 {
     let m = place - 1;
-    let mut j = samples::number_at(mode, m);
-    let mut s = samples::sample_ms(mode, j);
+    let mut j = frames::samples::number_at(mode, m);
+    let mut s = frames::samples::sample_ms(mode, j);
     let mut at = i + (s - m);
     let mut d = digits;
     while at < heard.len() {
-        let e = samples::effect_of(mode, j, d, heard[at]);
+        let e = frames::samples::effect_of(frames::samples::kind_of(mode, j), d, heard[at]);
         let Effect::On(after) = e else {
             let Effect::Hunts = e else {
                 return Passed {
@@ -53,7 +51,7 @@ fn pass_samples(mode: Mode, heard: &[u8], place: usize, digits: usize, i: usize)
         };
         d = after;
         j += 1;
-        let next = samples::sample_ms(mode, j);
+        let next = frames::samples::sample_ms(mode, j);
         at += next - s;
         s = next;
     }

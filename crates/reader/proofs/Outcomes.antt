@@ -14,6 +14,7 @@ use Rattle.alphabet.specs.declared.Reads.{Reads}
 use Rattle.alphabet.specs.Modes.{alphabetOf, frameCodes}
 use Rattle.alphabet.specs.Dtmf.{withMark, dtmfCode}
 use Rattle.alphabet.specs.Normal.{reads}
+use Rattle.frames.specs.declared.Cause.the-variants.{LetterKey}
 use Rattle.frames.specs.declared.Found.{Found}
 use Rattle.frames.specs.declared.Found.the-variants.{Code}
 use Rattle.reader.specs.declared.Event.{Event}
@@ -75,7 +76,7 @@ mark-outcome prefix key w l h p =
     go n a h false e = let f = eqb-false n 11 e in eq-eqb n 12 (omega arith)
 
 pub other-outcome : (prefix key : ℕ) → 10 < key → 12 < key
-    → outcome 0 Fault ≡ outcome (prefixAfter prefix key) (keyEvent prefix key)
+    → outcome 0 (Fault LetterKey 0) ≡ outcome (prefixAfter prefix key) (keyEvent prefix key)
 unfolding keyEvent prefixAfter
 other-outcome prefix key l h =
     rw (

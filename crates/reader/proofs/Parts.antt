@@ -91,7 +91,7 @@ pub kept-shift : (a : Alphabet) (s : ℕ) (os : List Found) → foundsShift a s 
 unfolding foundsShift kept
 kept-shift a s [] = refl
 kept-shift a s (nothing ∷ os) = kept-shift a s os
-kept-shift a s (fault ∷ os) = kept-shift a s os
+kept-shift a s (fault c m ∷ os) = kept-shift a s os
 kept-shift a s (Code k ∷ os) = kept-shift a (foundShift a s (Code k)) os
 
 pub kept-words : (a : Alphabet) (s : ℕ) (os : List Found)
@@ -99,7 +99,7 @@ pub kept-words : (a : Alphabet) (s : ℕ) (os : List Found)
 unfolding foundsEvents wordsOf kept
 kept-words a s [] = refl
 kept-words a s (nothing ∷ os) = kept-words a s os
-kept-words a s (fault ∷ os) = ap (λ (l : List ℕ). wordOf (foundEvent a s fault) ++ l) (kept-words a s os)
+kept-words a s (fault c m ∷ os) = ap (λ (l : List ℕ). wordOf (foundEvent a s (fault c m)) ++ l) (kept-words a s os)
 kept-words a s (Code k ∷ os) =
     ap (λ (l : List ℕ). wordOf (foundEvent a s (Code k)) ++ l) (kept-words a (foundShift a s (Code k)) os)
 

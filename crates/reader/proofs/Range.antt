@@ -79,7 +79,7 @@ edt-shift shift n h = h
 found-shift : (a : Alphabet) → ((shift n : ℕ) → ShiftIn shift → ShiftIn (shiftBy shift (reads a shift n)))
     → (shift : ℕ) (f : Found) → ShiftIn shift → ShiftIn (foundShift a shift f)
 found-shift a law shift Nothing h = h
-found-shift a law shift Fault h = h
+found-shift a law shift (Fault cause ms) h = h
 found-shift a law shift (Code k) h = law shift (k .0) h
 
 -- the prefix

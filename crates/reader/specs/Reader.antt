@@ -1,5 +1,5 @@
--- Document 01, "Line signal": the reader of a station, in each mode. A reading ms ends in a character, a fault or
--- nothing.
+-- Document 01, "Line signal": the reader of a station, in each mode. A reading ms ends in a character, a fault with its
+-- cause and ms (document 02, #103), or nothing.
 use Prim.Native.Nat.{ℕ}
 use mathlib.Core.Bool.{cond, _||_}
 use lib.Dec.{eqb}
@@ -14,6 +14,7 @@ use Rattle.alphabet.specs.Baudot.{letters}
 use Rattle.alphabet.specs.Dtmf.{isDigit, isMark, withMark, dtmfCode}
 use Rattle.alphabet.specs.Normal.{reads}
 use Rattle.baudot.specs.Reading.{shiftBy}
+use Rattle.frames.specs.declared.Cause.the-variants as cause
 use Rattle.frames.specs.declared.Frame.{Frame}
 use Rattle.frames.specs.declared.Found.{Found}
 use Rattle.frames.specs.declared.Found.the-variants.{Nothing as nothing, Fault as fault, Code}
@@ -53,28 +54,29 @@ fresh = reader hunting ready letters 0
 abbrev pub ends : Reader → Event → Reading
 ends r e = record { reader = r; event = e }
 
--- What a code ends in: a character; nothing for a shift; a fault for a code without a row.
+-- What a code ends in: a character; nothing for a shift; a fault for a code without a row, which has no ms.
 abbrev pub eventOf : Reads → Event
 eventOf (character c) = Character c
 eventOf (Shift s) = Nothing
-eventOf NoRow = Fault
+eventOf NoRow = Fault cause.NoRow 0
 
 -- What a ms of a frame ends in: a code is read in the shift in force, and may select one.
 abbrev pub foundEvent : Alphabet → ℕ → Found → Event
 foundEvent a shift nothing = Nothing
-foundEvent a shift fault = Fault
+foundEvent a shift (fault c m) = Fault c m
 foundEvent a shift (Code k) = eventOf (reads a shift (k .0))
 
 abbrev pub foundShift : Alphabet → ℕ → Found → ℕ
 foundShift a shift nothing = shift
-foundShift a shift fault = shift
+foundShift a shift (fault c m) = shift
 foundShift a shift (Code k) = shiftBy shift (reads a shift (k .0))
 
--- What a key that counts ends in, behind a prefix: a digit closes a code; a key from A to D gives a fault.
+-- What a key that counts ends in, behind a prefix: a digit closes a code; a key from A to D gives a fault,
+-- whatever the prefix.
 unfoldable pub keyEvent : ℕ → ℕ → Event
 keyEvent prefix key =
     cond (eqb key 0 || isMark key) Nothing
-    (cond (isDigit key) (eventOf (reads dtmf letters (dtmfCode prefix key))) Fault)
+    (cond (isDigit key) (eventOf (reads dtmf letters (dtmfCode prefix key))) (Fault cause.LetterKey 0))
 
 -- The prefix after it: a digit and a fault empty it.
 unfoldable pub prefixAfter : ℕ → ℕ → ℕ

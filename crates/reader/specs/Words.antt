@@ -1,7 +1,9 @@
--- Document 01, "House words": the output words.
-use Prim.Native.Nat.{ℕ}
+-- Document 01, "House words", and document 02, #103: the output words.
+use Prim.Native.Nat.{ℕ, _+_, _*_}
 use mathlib.Core.List.{List, [], _∷_, _++_}
 use Rattle.alphabet.specs.declared.Mode.{Mode}
+use Rattle.frames.specs.declared.Cause.{Cause}
+use Rattle.frames.specs.declared.Cause.the-variants.{Quiet, StopNotMark, OddParity, NoRow, LetterKey}
 use Rattle.reader.specs.declared.Event.{Event}
 use Rattle.reader.specs.declared.Event.the-variants.{Character, Fault, Nothing}
 use Rattle.reader.specs.declared.Reader.{Reader}
@@ -12,14 +14,23 @@ use Rattle.reader.specs.Reader.{hear}
 abbrev pub characterWord : ℕ → ℕ
 characterWord c = c
 
--- Kind 1: a fault.
-abbrev pub faultWord : ℕ
-faultWord = 0x1000_0000
+-- The causes of a fault: quiet inside the frame, stop element not mark, odd parity, DTMF code without a row, DTMF key A
+-- to D.
+abbrev pub causeNumber : Cause → ℕ
+causeNumber Quiet = 1
+causeNumber StopNotMark = 2
+causeNumber OddParity = 3
+causeNumber NoRow = 4
+causeNumber LetterKey = 5
+
+-- Kind 1: a fault, its ms from bit 8 on, its cause in bits 3 to 0.
+abbrev pub faultWord : Cause → ℕ → ℕ
+faultWord cause ms = 0x1000_0000 + 0x100 * ms + causeNumber cause
 
 -- At most one word a ms.
 abbrev pub wordOf : Event → List ℕ
 wordOf (Character c) = characterWord (c .0) ∷ []
-wordOf Fault = faultWord ∷ []
+wordOf (Fault cause ms) = faultWord cause ms ∷ []
 wordOf Nothing = []
 
 -- The words of what some ms end in, in order.

@@ -3,6 +3,7 @@ use alphabet::Alphabet;
 use alphabet::Char;
 use alphabet::Mode;
 use alphabet::Reads;
+use frames::Cause;
 use frames::Found;
 use frames::Frame;
 use keys::Keys;
@@ -20,10 +21,10 @@ ghost use Rattle.reader.specs.Range.{readerIn};
 
 pub mod words;
 
-// What a reading ms ends in.
+// What a reading ms ends in: a fault has its cause, and its ms in the frame.
 pub enum Event {
     Character(Char),
-    Fault,
+    Fault(Cause, u8),
     Nothing,
 }
 
@@ -75,7 +76,7 @@ fn event_of(reads: Reads) -> Event
     match reads {
         Reads::Character(c) => Event::Character(c),
         Reads::Shift(s) => Event::Nothing,
-        Reads::NoRow => Event::Fault,
+        Reads::NoRow => Event::Fault(Cause::NoRow, 0),
     }
 }
 
@@ -101,9 +102,9 @@ fn found_outcome(mode: Mode, shift: u8, found: Found) -> Outcome
             next: shift,
             event: Event::Nothing,
         },
-        Found::Fault => Outcome {
+        Found::Fault(cause, ms) => Outcome {
             next: shift,
-            event: Event::Fault,
+            event: Event::Fault(cause, ms),
         },
         Found::Code(k) => {
             let r = alphabet::table::reads(mode.alphabet(), shift, k);
@@ -139,7 +140,7 @@ fn key_outcome(prefix: u8, key: u8) -> Outcome
     }
     Outcome {
         next: 0,
-        event: Event::Fault,
+        event: Event::Fault(Cause::LetterKey, 0),
     }
 }
 

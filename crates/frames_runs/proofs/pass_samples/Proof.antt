@@ -1,10 +1,11 @@
 -- `pass_samples` meets its contract. The invariant: up to the next sample, nothing was found.
-use mathlib.Core.Path.{refl, subst}
+use mathlib.Core.Path.{refl, sym, subst}
 use Prim.Native.Nat.{_+_, _-_}
 use native.Mathlib.Omega.{arith}
 use lib.ListN.{length, getD}
+use Rattle.frames.proofs.Sampling.{does-as}
 use Rattle.frames.proofs.Range.{place-255}
-use Rattle.frames_runs.specs.code.Samples.{kindOf, Does}
+use Rattle.frames.specs.code.Samples.{kindOf, Does}
 use Rattle.frames_runs.specs.code.Passing.{frameAt}
 use Rattle.frames_runs.proofs.Numbered.{next-of, ms-grows, ms-few}
 use Rattle.frames_runs.proofs.Framing.{stops, Ahead, ahead-start, ahead-end, ahead-here, ahead-hunts, ahead-turn}
@@ -24,10 +25,21 @@ abbrev start-of : tie.At-loop Inv-loop μ-loop → tie.Start Inv-loop μ-loop
 start-of c = c .before .before .before .before
 
 abbrev turn-of : tie.After-effect-of Inv-loop μ-loop → tie.In-loop Inv-loop μ-loop
-turn-of c = c .before .before
+turn-of c = c .before .before .before
 
 abbrev effect-of : tie.After-sample-ms2 Inv-loop μ-loop → tie.After-effect-of Inv-loop μ-loop
 effect-of c = c .before .before .before .before
+
+-- what the sample does
+does : (c : tie.After-effect-of Inv-loop μ-loop)
+    → let l = turn-of c .before .loop in
+    let s = start-of (turn-of c .before) .args in
+    Does (kindOf (s .mode) (l .j)) (l .d) (getD (s .heard .now) (l .at) 0) (c .effect-of .result)
+does c =
+    let l = turn-of c .before .loop in
+    let s = start-of (turn-of c .before) .args in
+    does-as _ _ (l .d) (getD (s .heard .now) (l .at) 0) (c .effect-of .result) (sym (c .before .before .kind-of .ensures))
+    (c .effect-of .ensures)
 
 -- ---- what each moment needs
 
@@ -66,6 +78,9 @@ loop-holds c =
     ahead-start (s .args .mode) (s .pre .0) _ _ (s .pre .1 .0) _ _ _ refl (s .pre .1 .1 .0) (omega arith) _ _
     (c .before .number-at .ensures) (c .sample-ms .ensures)
 
+kind-of-requires : tie.Need-kind-of-requires Inv-loop μ-loop
+kind-of-requires c κs = search needs
+
 shared-slice-read-effect-of : tie.Need-shared-slice-read-effect-of Inv-loop μ-loop
 shared-slice-read-effect-of c = search needs
 
@@ -78,8 +93,8 @@ enum-known-e c = search needs
 enum-told : tie.Need-enum-told Inv-loop μ-loop
 enum-told c = search needs
 
-add-t19 : tie.Need-add-t19 Inv-loop μ-loop
-add-t19 c = search needs
+add-t20 : tie.Need-add-t20 Inv-loop μ-loop
+add-t20 c = search needs
 
 returns : tie.Need-returns Inv-loop μ-loop
 returns c =
@@ -89,8 +104,8 @@ returns c =
       stops _ _,
     )
 
-add-t20 : tie.Need-add-t20 Inv-loop μ-loop
-add-t20 c = search needs
+add-t21 : tie.Need-add-t21 Inv-loop μ-loop
+add-t21 c = search needs
 
 returns-2 : tie.Need-returns-2 Inv-loop μ-loop
 returns-2 c =
@@ -99,10 +114,9 @@ returns-2 c =
     let s = start-of (t .before) in
     let l = t .before .loop in
     let x = getD (s .args .heard .now) (l .at) 0 in
-    let e = m .effect-of in
     let from = l .inv .from in (
       ahead-hunts (s .args .mode) (s .pre .0) _ _ (s .pre .1 .0) _ _ _ _ _ (l .inv) (t .loop-test .taken)
-          (subst (Does (kindOf (s .args .mode) (l .j)) (l .d) x) (c .enum-told .given .1) (e .ensures)),
+          (subst (Does (kindOf (s .args .mode) (l .j)) (l .d) x) (c .enum-told .given .1) (does m)),
       λ t. omega arith,
     )
 
@@ -151,19 +165,18 @@ loop-again c =
     let s = start-of (t .before) in
     let l = t .before .loop in
     let x = getD (s .args .heard .now) (l .at) 0 in
-    let e = effect-of c .effect-of in
     ahead-turn (s .args .mode) (s .pre .0) _ _ (s .pre .1 .0) _ _ _ _ _ (l .inv) (t .loop-test .taken) _
-    (subst (Does (kindOf (s .args .mode) (l .j)) (l .d) x) (c .before .before .e .given .1) (e .ensures)) _ _ _ refl
+    (subst (Does (kindOf (s .args .mode) (l .j)) (l .d) x) (c .before .before .e .given .1) (does (effect-of c))) _ _ _ refl
     (c .sample-ms2 .ensures) refl
 
 add-t14 : tie.Need-add-t14 Inv-loop μ-loop
 add-t14 c = search needs
 
-sub-t22 : tie.Need-sub-t22 Inv-loop μ-loop
-sub-t22 c = search needs
-
 sub-t23 : tie.Need-sub-t23 Inv-loop μ-loop
 sub-t23 c = search needs
+
+sub-t24 : tie.Need-sub-t24 Inv-loop μ-loop
+sub-t24 c = search needs
 
 returns-3 : tie.Need-returns-3 Inv-loop μ-loop
 returns-3 c =
@@ -183,13 +196,14 @@ pass-samples-spec =
     sub-at
     add-at
     loop-holds
+    kind-of-requires
     shared-slice-read-effect-of
     effect-of-requires
     enum-known-e
     enum-told
-    add-t19
-    returns
     add-t20
+    returns
+    add-t21
     returns-2
     add-j
     sample-ms-requires-2
@@ -198,6 +212,6 @@ pass-samples-spec =
     loop-less
     loop-again
     add-t14
-    sub-t22
     sub-t23
+    sub-t24
     returns-3)

@@ -19,7 +19,7 @@ returns-2 : tie.Need-returns-2
 returns-2 c = search needs
 
 returns-3 : tie.Need-returns-3
-returns-3 c = search needs
+returns-3 c = simp (c .enum-told .given .1)
 
 pub event-of-spec : {M : Type 1} → statement M
 event-of-spec =

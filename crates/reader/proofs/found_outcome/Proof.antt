@@ -11,11 +11,11 @@ use Rattle.reader.proofs.shift_by.Reads as shift-by-reads
 enum-told : tie.Need-enum-told
 enum-told c = search needs
 
-enum-told-2 : tie.Need-enum-told-2
-enum-told-2 c = search needs
-
 enum-known-found : tie.Need-enum-known-found
 enum-known-found c = search needs
+
+enum-known-found-2 : tie.Need-enum-known-found-2
+enum-known-found-2 c = search needs
 
 alphabet-requires : tie.Need-alphabet-requires
 alphabet-requires c κs = search needs
@@ -23,7 +23,7 @@ alphabet-requires c κs = search needs
 reads-requires : tie.Need-reads-requires
 reads-requires c κs =
     found-code (c .before .before .before .before .args .mode) _ _ _ (c .before .before .before .before .pre)
-    (c .before .before .found .given .1) (c .alphabet .ensures)
+    (c .before .before .found2 .given .1) (c .alphabet .ensures)
 
 shift-by-requires : tie.Need-shift-by-requires
 shift-by-requires c κs = search needs
@@ -35,7 +35,7 @@ returns : tie.Need-returns
 returns c = simp (c .enum-told .given .1)
 
 returns-2 : tie.Need-returns-2
-returns-2 c = simp (c .enum-told2 .given .1)
+returns-2 c = simp (c .before .found .given .1)
 
 returns-3 : tie.Need-returns-3
 returns-3 c =
@@ -44,7 +44,7 @@ returns-3 c =
       c .before .shift-by .ensures,
       c .before .before .reads .ensures,
       c .before .before .before .alphabet .ensures,
-      c .before .before .before .before .before .found .given .1,
+      c .before .before .before .before .before .found2 .given .1,
     )
 
 pub found-outcome-spec : {M : Type 1} → statement M
@@ -52,8 +52,8 @@ found-outcome-spec =
     tie.close
     (tie.spec
     enum-told
-    enum-told-2
     enum-known-found
+    enum-known-found-2
     alphabet-requires
     reads-requires
     shift-by-requires

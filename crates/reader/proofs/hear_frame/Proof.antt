@@ -2,15 +2,14 @@
 use mathlib.Core.Path.{sym, ap, subst}
 use Rattle.frames.specs.declared.FrameRead.{FrameRead}
 use Rattle.frames.specs.code.Bounds.{FoundIn}
-use Rattle.frames.proofs.Range.{place-255, digits-128, found-in}
+use Rattle.frames.proofs.Range.{found-in}
 use Rattle.reader.proofs.hear_frame.Statement.{statement}
 use Rattle.reader.proofs.hear_frame.Tie as tie
 use Rattle.frames.proofs.frame_step.Reads as frame-step-reads
 use Rattle.reader.proofs.found_outcome.Reads as found-outcome-reads
 
 frame-step-requires : tie.Need-frame-step-requires
-frame-step-requires c κs =
-    (place-255 (c .before .args .mode) _ (c .before .pre), digits-128 (c .before .args .mode) _ (c .before .pre))
+frame-step-requires c κs = c .before .pre
 
 found-outcome-requires : tie.Need-found-outcome-requires
 found-outcome-requires c κs =

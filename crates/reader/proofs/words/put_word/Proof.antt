@@ -23,14 +23,14 @@ tag e = Declared.tagOf declared.the-type e
 no-word : (e : Event) → OneOf (1 ∷ 2 ∷ []) (tag e) → OneOf (0 ∷ 2 ∷ []) (tag e) → wordOf e ≡ []
 unfolding tag
 no-word (Character c) p q = ⊎-elim (never tt) (never tt) p
-no-word Fault p q = ⊎-elim (never tt) (never tt) q
+no-word (Fault cause ms) p q = ⊎-elim (never tt) (never tt) q
 no-word Nothing p q = refl
 
 enum-known-event : tie.Need-enum-known-event
 enum-known-event c = search needs
 
-enum-told : tie.Need-enum-told
-enum-told c = search needs
+enum-known-event-2 : tie.Need-enum-known-event-2
+enum-known-event-2 c = search needs
 
 returns : tie.Need-returns
 unfolding tag
@@ -55,7 +55,7 @@ same-length c = search needs
 
 returns-2 : tie.Need-returns-2
 returns-2 c =
-    let e = c .before .enum-told .given .1 in
+    let e = c .before .before .event2 .given .1 in
     (simp e, simp (e, c .fault-word .ensures))
 
 cast-words : tie.Need-cast-words
@@ -83,7 +83,7 @@ put-word-spec =
     tie.close
     (tie.spec
     enum-known-event
-    enum-told
+    enum-known-event-2
     returns
     fault-word-requires
     mul-words
