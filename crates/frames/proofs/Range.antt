@@ -1,29 +1,29 @@
 -- A frame in range: what question 1 says in facts, and that every step keeps it.
-use mathlib.Core.Path.{_≡_, _∙_, refl, ap, subst}
+use mathlib.Core.Path.{_≡_, _∙_, refl, sym, ap, subst}
 use mathlib.Core.Bool.{Bool, true, false, cond}
 use mathlib.Core.List.{List}
 use Prim.Native.Nat.{ℕ, _+_, _-_, _*_, _/_, _<_, _≤_}
 use native.Mathlib.Omega.{arith}
 use lib.Dec.{eqb, leb, ltb}
+use lib.ListN.{length}
 use borrow.Author.Tests.{eqb-true, eqb-false, ne-eqb, leb-true, ltb-true, le-leb, lt-ltb}
 use Rattle.lists.proofs.Lists.{either, and-left, and-right}
 use Rattle.lists.proofs.Tables.{is-true}
 use Rattle.alphabet.specs.declared.Mode.{Mode}
 use Rattle.alphabet.specs.declared.Mode.the-variants.{Baudot45, Baudot50, Dtmf, Edt}
 use Rattle.signal.specs.Signal.{parityOf}
-use Rattle.frames.specs.declared.Sample.{Sample}
-use Rattle.frames.specs.declared.Sample.the-variants.{None, Start, Digit, Parity, Stop, Last}
 use Rattle.frames.specs.declared.Cause.{Cause}
 use Rattle.frames.specs.declared.Cause.the-variants.{Quiet, StopNotMark, OddParity}
 use Rattle.frames.specs.declared.Frame.{Frame}
 use Rattle.frames.specs.declared.Found.the-variants.{Nothing, Code}
 use Rattle.frames.specs.declared.FrameRead.{FrameRead}
 use Rattle.frames.specs.code.Bounds.{FrameIn, FrameOf, Framed, FoundIn}
-use Rattle.frames.specs.Samples.{Placed, placed, sampleAt, samplesOf, baudotKinds, baudotPlace, baudotSamples, edtKinds, edtPlace, edtSamples}
+use Rattle.frames.specs.Samples.{Sample, None, Start, Digit, Parity, Stop, Last, Placed, placed, sampleAt, samplesOf, baudotKinds, baudotPlace, baudotSamples, edtKinds, edtPlace, edtSamples}
 use Rattle.frames.specs.Frames.{inFrame, hunting, waiting, gives, goesOn, faulty, unlessQuiet, parityHeard, withDigit, sampled, frameStep}
 use Rattle.alphabet.specs.Modes.{frameCodes}
 use Rattle.alphabet.specs.code.Numbers.{lastSample}
 use Rattle.frames.specs.Range.{lastMs, frameIn}
+use Rattle.frames.specs.code.Samples.{numberAt}
 use Rattle.frames.proofs.Sampling.{allKinds, kinds-pass, baudot-on}
 
 -- the constant of a mode is the ms of its last sample
@@ -211,11 +211,32 @@ next-in Edt t f heard h = step-in edtSamples 128 (omega arith) weigh-edt (omega 
 
 -- ---- in a frame
 
+pub place-on : (p : ℕ) → 1 ≤ p → p + 1 ≡ p - 1 + 1 + 1
+place-on p h = omega arith
+
 pub in-frame : (samples : List Placed) (f : Frame) (heard : ℕ) → 2 ≤ f .place
     → frameStep samples f heard ≡ sampled (sampleAt samples (f .place - 1)) (f .place - 1) (f .digits) heard
 unfolding frameStep
 in-frame samples f heard h =
     rw (ne-eqb (f .place) 0 (λ e. omega arith), ne-eqb (f .place) 1 (λ e. omega arith)) refl
+
+-- on a ms without a sample
+pub in-frame-none : (samples : List Placed) (f : Frame) (heard : ℕ) → 2 ≤ f .place
+    → sampleAt samples (f .place - 1) ≡ None
+    → frameStep samples f heard ≡ gives (record { place = f .place + 1; digits = f .digits }) Nothing
+unfolding sampled
+in-frame-none samples f heard h e =
+    in-frame samples f heard h
+    ∙ ap (λ (k : Sample). sampled k (f .place - 1) (f .digits) heard) e
+    ∙ ap (λ (p : ℕ). gives (record { place = p; digits = f .digits }) Nothing) (sym (place-on (f .place) (omega arith)))
+
+-- the next sample is one of the mode's
+pub number-in : (mode : Mode) (m : ℕ) → 1 ≤ m → m ≤ lastMs (samplesOf mode) → numberAt mode m < length (samplesOf mode)
+unfolding numberAt lastMs samplesOf placed baudotKinds edtKinds
+number-in Baudot45 m o h = omega arith
+number-in Baudot50 m o h = omega arith
+number-in Dtmf m o h = omega arith
+number-in Edt m o h = omega arith
 
 pub framed-in : (mode : Mode) (f : Frame) → FrameOf mode f → 2 ≤ f .place → Framed mode
 unfolding samplesOf lastMs

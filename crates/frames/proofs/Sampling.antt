@@ -6,15 +6,13 @@ use Prim.Native.Nat.{ℕ, zero, suc, _+_, _/_, _<_, _≤_}
 use native.Mathlib.Omega.{arith}
 use native.Mathlib.Nat.{add-zero, zero-add, add-suc, suc-add, mul-add-div, div-eq-of-lt}
 use lib.Dec.{T, eqb}
-use lib.ListN.{getD, replicate, length-replicate, getD-replicate, List·getD-append, List·getD-eq-default}
+use lib.ListN.{length, getD, replicate, length-replicate, getD-replicate, List·getD-append}
 use borrow.Author.Tests.{eq-eqb, ne-eqb}
 use Rattle.lists.proofs.Tables.{both-left, both-right}
 use Rattle.alphabet.specs.declared.Mode.{Mode}
 use Rattle.alphabet.specs.declared.Mode.the-variants.{Baudot45, Baudot50, Dtmf, Edt}
-use Rattle.frames.specs.declared.Sample.{Sample}
-use Rattle.frames.specs.declared.Sample.the-variants.{None, Start, Digit, Parity, Stop, Last}
 use Rattle.frames.specs.declared.samples.Effect.{Effect}
-use Rattle.frames.specs.Samples.{samplesOf, placed, sampleAt, baudotKinds, baudotPlace, baudotSamples, edtKinds, edtPlace, edtSamples}
+use Rattle.frames.specs.Samples.{Sample, None, Start, Digit, Parity, Stop, Last, samplesOf, placed, sampleAt, baudotKinds, baudotPlace, baudotSamples, edtKinds, edtPlace, edtSamples}
 use Rattle.frames.specs.code.Samples.{numberAt, sampleMs, kindOf, Does}
 
 -- samples at any places
@@ -78,30 +76,47 @@ pub edt-digit : (j : ℕ) → (j ≡ 0 → ⊥) → j < 8 → getD edtKinds j No
 unfolding edtKinds
 edt-digit j n h = digits-at 7 64 (Parity ∷ Stop ∷ Last ∷ []) j n (omega arith)
 
-pub kind-none : (j : ℕ) → 7 ≤ j → getD baudotKinds j None ≡ None
+pub kind-last : (j : ℕ) → 6 ≤ j → j < 7 → getD baudotKinds j None ≡ Last
 unfolding baudotKinds
-kind-none j h = List·getD-eq-default baudotKinds None h
+kind-last j l h = ap (λ (k : ℕ). getD baudotKinds k None) (six j l h)
+  where
+    six : (j : ℕ) → 6 ≤ j → j < 7 → j ≡ 6
+    six j l h = omega arith
 
-pub edt-none : (j : ℕ) → 11 ≤ j → getD edtKinds j None ≡ None
+pub edt-last : (j : ℕ) → 10 ≤ j → j < 11 → getD edtKinds j None ≡ Last
 unfolding edtKinds
-edt-none j h = List·getD-eq-default edtKinds None h
+edt-last j l h = ap (λ (k : ℕ). getD edtKinds k None) (ten j l h)
+  where
+    ten : (j : ℕ) → 10 ≤ j → j < 11 → j ≡ 10
+    ten j l h = omega arith
 
--- by number, the samples of a mode
-pub on-45 : (j : ℕ) → kindOf Baudot45 j ≡ getD baudotKinds j None
-unfolding samplesOf sampleMs
-on-45 j = baudot-on 22 (omega arith) j
+abbrev pub countOf : Mode → ℕ
+countOf Baudot45 = 7
+countOf Baudot50 = 7
+countOf Dtmf = 0
+countOf Edt = 11
 
-pub on-50 : (j : ℕ) → kindOf Baudot50 j ≡ getD baudotKinds j None
-unfolding samplesOf sampleMs
-on-50 j = baudot-on 20 (omega arith) j
+-- how many samples a mode has
+pub count-of : (mode : Mode) → length (samplesOf mode) ≡ countOf mode
+unfolding samplesOf placed baudotKinds edtKinds
+count-of Baudot45 = refl
+count-of Baudot50 = refl
+count-of Dtmf = refl
+count-of Edt = refl
 
-pub on-dtmf : (j : ℕ) → kindOf Dtmf j ≡ None
-unfolding samplesOf sampleAt
-on-dtmf j = refl
+-- of which kind each is
+module _ (mode : Mode) (j : ℕ) where
+  pub kind-45 : mode ≡ Baudot45 → kindOf mode j ≡ getD baudotKinds j None
+  unfolding samplesOf sampleMs
+  kind-45 e = ap (λ (m : Mode). kindOf m j) e ∙ baudot-on 22 (omega arith) j
 
-pub on-edt : (j : ℕ) → kindOf Edt j ≡ getD edtKinds j None
-unfolding samplesOf sampleMs
-on-edt j = edt-on j
+  pub kind-50 : mode ≡ Baudot50 → kindOf mode j ≡ getD baudotKinds j None
+  unfolding samplesOf sampleMs
+  kind-50 e = ap (λ (m : Mode). kindOf m j) e ∙ baudot-on 20 (omega arith) j
+
+  pub kind-edt : mode ≡ Edt → kindOf mode j ≡ getD edtKinds j None
+  unfolding samplesOf sampleMs
+  kind-edt e = ap (λ (m : Mode). kindOf m j) e ∙ edt-on j
 
 pub number-of : (mode : Mode) (j : ℕ) → numberAt mode (sampleMs mode j) ≡ j
 unfolding numberAt sampleMs

@@ -3,8 +3,6 @@ use Prim.Native.Nat.{ℕ, _+_, _-_, _/_}
 use mathlib.Core.Bool.{cond}
 use mathlib.Core.List.{List}
 use lib.Dec.{eqb}
-use Rattle.frames.specs.declared.Sample.{Sample}
-use Rattle.frames.specs.declared.Sample.the-variants.{None, Start, Digit, Parity, Stop, Last}
 use Rattle.frames.specs.declared.Cause.{Cause}
 use Rattle.frames.specs.declared.Cause.the-variants.{Quiet, StopNotMark, OddParity}
 use Rattle.frames.specs.declared.Frame.{Frame}
@@ -13,7 +11,7 @@ use Rattle.frames.specs.declared.Found.the-variants.{Nothing, Fault, Cod
 use Rattle.frames.specs.declared.FrameRead.{FrameRead}
 use Rattle.lists.specs.Steps.{stateAfter, outputs}
 use Rattle.signal.specs.Signal.{quiet, mark, space, parityOf}
-use Rattle.frames.specs.Samples.{Placed, sampleAt}
+use Rattle.frames.specs.Samples.{Sample, None, Start, Digit, Parity, Stop, Last, Placed, sampleAt}
 
 -- A reader of frames is hunting (place 0), waiting after a fault (place 1), or in a frame with the digits so far: place
 -- m + 1 if ms m of it is to come.

@@ -6,8 +6,15 @@ use lib.Dec.{eqb}
 use Rattle.alphabet.specs.declared.Mode.{Mode}
 use Rattle.alphabet.specs.declared.Mode.the-variants.{Baudot45, Baudot50, Dtmf, Edt}
 use Rattle.alphabet.specs.Modes.{elementOf}
-use Rattle.frames.specs.declared.Sample.{Sample}
-use Rattle.frames.specs.declared.Sample.the-variants.{None, Start, Digit, Parity, Stop, Last}
+
+-- What falls on a ms of a frame: no sample, or a sample of a kind. A digit's has the weight of the frame's last digit.
+pub data Sample : Type 0 where
+  None : Sample
+  Start : Sample
+  Digit : (top : ℕ) → Sample
+  Parity : Sample
+  Stop : Sample
+  Last : Sample
 
 -- A sample: the ms of the frame on which it falls, and its kind.
 pub record Placed : Type 0 where

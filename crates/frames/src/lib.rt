@@ -3,7 +3,7 @@ use crate::samples::Effect;
 use alphabet::LineCode;
 use alphabet::Mode;
 ghost use mathlib.Core.Path.{_≡_};
-ghost use Prim.Native.Nat.{_-_, _<_};
+ghost use Prim.Native.Nat.{_-_, _≤_, _<_};
 ghost use Rattle.frames.specs.Samples.{samplesOf};
 ghost use Rattle.frames.specs.Range.{frameIn};
 ghost use Rattle.frames.specs.Frames.{gives, faulty, frameStep};
@@ -12,16 +12,6 @@ ghost use Rattle.frames.specs.code.Bounds.{FrameOf, InFrame};
 ghost use Rattle.frames.specs.code.Samples.{doneBy};
 
 pub mod samples;
-
-// What falls on a ms of a frame: no sample, or a sample of a kind. A digit's has the weight of the frame's last digit.
-pub enum Sample {
-    None,
-    Start,
-    Digit(u8),
-    Parity,
-    Stop,
-    Last,
-}
 
 // Why something that was heard gives a fault. A frame has the first three, DTMF the last two.
 pub enum Cause {
@@ -99,6 +89,20 @@ fn done(e: Effect, f: Frame) -> FrameRead
     }
 }
 
+// A ms of a frame.
+fn in_frame(mode: Mode, f: Frame, heard: u8) -> FrameRead
+    requires { ⌜ FrameOf mode f ⌝ }
+    requires { ⌜ 2 ≤ f .place ⌝ }
+    ensures { λ r. ⌜ r ≡ frameStep (samplesOf mode) f heard ⌝ }
+{
+    let m = (f.place - 1) as usize;
+    let j = samples::number_at(mode, m);
+    if samples::sample_ms(mode, j) != m {
+        return at(f.place + 1, f.digits);
+    }
+    done(samples::effect_of(mode, j, f.digits as usize, heard), f)
+}
+
 // One ms of reading frames.
 pub fn frame_step(mode: Mode, f: Frame, heard: u8) -> FrameRead
     requires { ⌜ FrameOf mode f ⌝ }
@@ -116,8 +120,7 @@ pub fn frame_step(mode: Mode, f: Frame, heard: u8) -> FrameRead
         }
         return at(HUNTING, 0);
     }
-    let s = samples::sample_on(mode, (f.place - 1) as usize);
-    done(samples::effect_of(s, f.digits as usize, heard), f)
+    in_frame(mode, f, heard)
 }
 
 // Question 1, of a frame.

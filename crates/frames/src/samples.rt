@@ -1,12 +1,11 @@
-// The samples of a frame, by their numbers: where each falls, of which kind it is, and what it does.
+// The samples of a frame, by their numbers: where each falls, and what it does.
 use crate::Cause;
-use crate::Sample;
 use alphabet::Mode;
 ghost use mathlib.Core.Path.{_≡_};
 ghost use Prim.Native.Nat.{_<_};
-ghost use lib.ListN.{getD};
-ghost use Rattle.frames.specs.declared.Sample.the-variants as kind;
-ghost use Rattle.frames.specs.Samples.{baudotKinds, edtKinds, samplesOf, sampleAt};
+ghost use lib.ListN.{length, getD};
+ghost use Rattle.frames.specs.Samples as kind;
+ghost use Rattle.frames.specs.Samples.{baudotKinds, edtKinds, samplesOf};
 ghost use Rattle.frames.specs.code.Samples.{numberAt, sampleMs, kindOf, NotMark, Does};
 
 // What a sample does: the frame goes on with some digits; the reader hunts; the frame breaks off; its code is found.
@@ -40,9 +39,9 @@ const HALF: usize = CODE / 2;
 const UP: usize = CODE - 1 - HALF;
 
 // The weight of a frame's last digit.
-const BAUDOT_TOP: u8 = Mode::BAUDOT_CODES / 2;
+const BAUDOT_TOP: usize = Mode::BAUDOT_CODES as usize / 2;
 
-const EDT_TOP: u8 = Mode::EDT_CODES / 2;
+const EDT_TOP: usize = Mode::EDT_CODES as usize / 2;
 
 // The number of the first sample from a ms on.
 pub fn number_at(mode: Mode, m: usize) -> usize
@@ -70,64 +69,6 @@ pub fn sample_ms(mode: Mode, j: usize) -> usize
     }
 }
 
-// The kind of a sample of Baudot.
-fn baudot_kind(j: usize) -> Sample
-    ensures { λ r. ⌜ r ≡ getD baudotKinds j kind.None ⌝ }
-{
-    if j == 0 {
-        return Sample::Start;
-    }
-    if j < 6 {
-        return Sample::Digit(BAUDOT_TOP);
-    }
-    if j == 6 {
-        return Sample::Last;
-    }
-    Sample::None
-}
-
-// The kind of a sample of EDT.
-fn edt_kind(j: usize) -> Sample
-    ensures { λ r. ⌜ r ≡ getD edtKinds j kind.None ⌝ }
-{
-    if j == 0 {
-        return Sample::Start;
-    }
-    if j < 8 {
-        return Sample::Digit(EDT_TOP);
-    }
-    match j {
-        8 => Sample::Parity,
-        9 => Sample::Stop,
-        10 => Sample::Last,
-        _ => Sample::None,
-    }
-}
-
-// The kind of a sample.
-pub fn kind_of(mode: Mode, j: usize) -> Sample
-    ensures { λ r. ⌜ r ≡ kindOf mode j ⌝ }
-{
-    match mode {
-        Mode::Baudot45 => baudot_kind(j),
-        Mode::Baudot50 => baudot_kind(j),
-        Mode::Dtmf => Sample::None,
-        Mode::Edt => edt_kind(j),
-    }
-}
-
-// The sample on a ms of a mode's frame.
-pub fn sample_on(mode: Mode, m: usize) -> Sample
-    requires { ⌜ m < 255 ⌝ }
-    ensures { λ r. ⌜ r ≡ sampleAt (samplesOf mode) m ⌝ }
-{
-    let j = number_at(mode, m);
-    if sample_ms(mode, j) != m {
-        return Sample::None;
-    }
-    kind_of(mode, j)
-}
-
 // The sample of the start.
 fn start(digits: usize, heard: u8) -> Effect
     ensures { λ r. ⌜ Does kind.Start digits heard r ⌝ }
@@ -139,14 +80,15 @@ fn start(digits: usize, heard: u8) -> Effect
 }
 
 // The sample of a digit. Mark and space are not told apart by a branch, since what comes is not foreseen.
-fn digit(top: u8, digits: usize, heard: u8) -> Effect
+fn digit(top: usize, digits: usize, heard: u8) -> Effect
+    requires { ⌜ top < 128 ⌝ }
     requires { ⌜ digits < 128 ⌝ }
     ensures { λ r. ⌜ Does (kind.Digit top) digits heard r ⌝ }
 {
     if heard == 0 {
         return Effect::Breaks(Cause::Quiet);
     }
-    Effect::On(digits / 2 + (top as usize) * (heard == 1) as usize)
+    Effect::On(digits / 2 + top * (heard == 1) as usize)
 }
 
 // The sample of the parity: 1 as mark.
@@ -193,17 +135,50 @@ fn last(digits: usize, heard: u8) -> Effect
     Effect::Breaks(not_mark(heard))
 }
 
-// What a sample does.
-pub fn effect_of(s: Sample, digits: usize, heard: u8) -> Effect
+// A sample of Baudot.
+fn baudot_effect(j: usize, digits: usize, heard: u8) -> Effect
+    requires { ⌜ j < 7 ⌝ }
     requires { ⌜ digits < 128 ⌝ }
-    ensures { λ r. ⌜ Does s digits heard r ⌝ }
+    ensures { λ r. ⌜ Does (getD baudotKinds j kind.None) digits heard r ⌝ }
 {
-    match s {
-        Sample::None => Effect::On(digits),
-        Sample::Start => start(digits, heard),
-        Sample::Digit(top) => digit(top, digits, heard),
-        Sample::Parity => parity(digits, heard),
-        Sample::Stop => stop(digits, heard),
-        Sample::Last => last(digits, heard),
+    if j == 0 {
+        return start(digits, heard);
+    }
+    if j < 6 {
+        return digit(BAUDOT_TOP, digits, heard);
+    }
+    last(digits, heard)
+}
+
+// A sample of EDT.
+fn edt_effect(j: usize, digits: usize, heard: u8) -> Effect
+    requires { ⌜ j < 11 ⌝ }
+    requires { ⌜ digits < 128 ⌝ }
+    ensures { λ r. ⌜ Does (getD edtKinds j kind.None) digits heard r ⌝ }
+{
+    if j == 0 {
+        return start(digits, heard);
+    }
+    if j < 8 {
+        return digit(EDT_TOP, digits, heard);
+    }
+    match j {
+        8 => parity(digits, heard),
+        9 => stop(digits, heard),
+        _ => last(digits, heard),
+    }
+}
+
+// A sample of a mode's frame; DTMF has none.
+pub fn effect_of(mode: Mode, j: usize, digits: usize, heard: u8) -> Effect
+    requires { ⌜ j < length (samplesOf mode) ⌝ }
+    requires { ⌜ digits < 128 ⌝ }
+    ensures { λ r. ⌜ Does (kindOf mode j) digits heard r ⌝ }
+{
+    match mode {
+        Mode::Baudot45 => baudot_effect(j, digits, heard),
+        Mode::Baudot50 => baudot_effect(j, digits, heard),
+        Mode::Dtmf => Effect::Hunts,
+        Mode::Edt => edt_effect(j, digits, heard),
     }
 }

@@ -11,12 +11,10 @@ use Rattle.lists.specs.code.Places.{Until, Through}
 use Rattle.lists.proofs.Passing as passing
 use Rattle.lists.proofs.Passing.{Silent}
 use Rattle.alphabet.specs.declared.Mode.{Mode}
-use Rattle.frames.specs.declared.Sample.{Sample}
-use Rattle.frames.specs.declared.Sample.the-variants.{None}
 use Rattle.frames.specs.declared.Frame.{Frame}
 use Rattle.frames.specs.declared.FrameRead.{FrameRead}
 use Rattle.frames.specs.declared.Found.the-variants.{Nothing as nothing}
-use Rattle.frames.specs.Samples.{Placed, sampleAt, samplesOf}
+use Rattle.frames.specs.Samples.{Sample, None, Placed, sampleAt, samplesOf}
 use Rattle.frames.specs.Frames.{gives, sampled, frameStep, frameNext, frameFound}
 use Rattle.frames.specs.code.Bounds.{Framed, FrameOf, isFound}
 use Rattle.frames.proofs.Range.{digits-128, next-in, in-frame}
@@ -150,7 +148,7 @@ stops i to e = let z : _≡_ {A = ℕ} 0 1 = cc in absurd (omega arith)
 -- Before the sample number j, on ms s of the frame and at a place of the list; or at its end, if it ends before that.
 pub record Ahead (mode : Mode) (heard : List ℕ) (f : Frame) (i j s at digits : ℕ) : Type 0 where
   pub ms : s ≡ sampleMs mode j
-  pub number : j ≤ 10
+  pub number : j < length (samplesOf mode)
   pub low : 1 ≤ s
   pub high : s ≤ 254
   pub from : i ≤ at

@@ -2,19 +2,20 @@
 use mathlib.Core.Path.{_≡_, refl}
 use Prim.Native.Nat.{ℕ, _+_, _-_, _≤_, _<_}
 use native.Mathlib.Omega.{arith}
+use lib.ListN.{length}
 use Rattle.alphabet.specs.declared.Mode.{Mode}
 use Rattle.alphabet.specs.declared.Mode.the-variants.{Baudot45, Baudot50, Dtmf, Edt}
-use Rattle.frames.specs.declared.Sample.the-variants.{None}
-use Rattle.frames.specs.Samples.{placed, sampleAt, samplesOf, baudotKinds, edtKinds}
+use Rattle.frames.specs.Samples.{None, placed, sampleAt, samplesOf, baudotKinds, edtKinds}
 use Rattle.frames.specs.Range.{lastMs}
 use Rattle.frames.specs.code.Bounds.{FrameOf}
 use Rattle.frames.specs.code.Samples.{numberAt, sampleMs}
-use Rattle.frames.proofs.Sampling.{off-samples}
+use Rattle.frames.proofs.Sampling.{count-of, off-samples}
+use Rattle.frames.proofs.Range.{number-in}
 use Rattle.frames_runs.specs.code.Passing.{frameAt}
 
--- The next sample is one of eleven, no ms before, none after the last, and no sample is before it.
+-- The next sample is one of the mode's, at no ms before, and no sample is before it.
 pub record Next (mode : Mode) (m j s : ℕ) : Type 0 where
-  pub number : j ≤ 10
+  pub number : j < length (samplesOf mode)
   pub low : m ≤ s
   pub high : s ≤ 254
   pub none : (k : ℕ) → k < s - m → sampleAt (samplesOf mode) (m + k) ≡ None
@@ -25,14 +26,6 @@ low-at Baudot45 m = omega arith
 low-at Baudot50 m = omega arith
 low-at Dtmf m = omega arith
 low-at Edt m = omega arith
-
--- in a frame
-number-in : (mode : Mode) (m : ℕ) → 1 ≤ m → m ≤ lastMs (samplesOf mode) → numberAt mode m ≤ 10
-unfolding numberAt lastMs samplesOf placed baudotKinds edtKinds
-number-in Baudot45 m o h = omega arith
-number-in Baudot50 m o h = omega arith
-number-in Dtmf m o h = omega arith
-number-in Edt m o h = omega arith
 
 -- no sample before it falls on a later ms
 first-from : (mode : Mode) (m j : ℕ) → m ≤ sampleMs mode j → numberAt mode m ≤ j
@@ -54,6 +47,12 @@ between mode m k j h e =
     let o = in-order mode (numberAt mode m) j (first-from mode m j (omega arith)) in
     omega arith
 
+pub samples-few : (mode : Mode) → length (samplesOf mode) ≤ 11
+samples-few Baudot45 = let n = count-of Baudot45 in omega arith
+samples-few Baudot50 = let n = count-of Baudot50 in omega arith
+samples-few Dtmf = let n = count-of Dtmf in omega arith
+samples-few Edt = let n = count-of Edt in omega arith
+
 pub ms-few : (mode : Mode) (j : ℕ) → j ≤ 11 → sampleMs mode j ≤ 254
 unfolding sampleMs
 ms-few Baudot45 j h = omega arith
@@ -65,6 +64,7 @@ next-at : (mode : Mode) (m : ℕ) → 1 ≤ m → m ≤ lastMs (samplesOf mode)
     → Next mode m (numberAt mode m) (sampleMs mode (numberAt mode m))
 next-at mode m o h =
     let n = number-in mode m o h in
+    let few = samples-few mode in
     record {
       number = n;
       low = low-at mode m;

@@ -32,7 +32,7 @@ fn pass_samples(mode: Mode, heard: &[u8], place: usize, digits: usize, i: usize)
     let mut at = i + (s - m);
     let mut d = digits;
     while at < heard.len() {
-        let e = frames::samples::effect_of(frames::samples::kind_of(mode, j), d, heard[at]);
+        let e = frames::samples::effect_of(mode, j, d, heard[at]);
         let Effect::On(after) = e else {
             let Effect::Hunts = e else {
                 return Passed {

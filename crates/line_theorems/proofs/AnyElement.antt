@@ -8,12 +8,10 @@ use lib.Dec.{T, eqb, eqb→eq}
 use lib.ListN.{getD, replicate, replicate-append-replicate}
 use Rattle.lists.specs.Tables.{passes}
 use Rattle.lists.proofs.Tables.{passes-at}
-use Rattle.frames.specs.declared.Sample.{Sample}
-use Rattle.frames.specs.declared.Sample.the-variants.{None, Digit}
 use Rattle.frames.specs.declared.Found.{Found}
 use Rattle.frames.specs.declared.Found.the-variants.{Nothing, Code}
 use Rattle.signal.specs.Signal.{levelOf, digits, held, baudotSignal}
-use Rattle.frames.specs.Samples.{Placed, baudotKinds, baudotPlace, baudotSamples}
+use Rattle.frames.specs.Samples.{Sample, None, Digit, Placed, baudotKinds, baudotPlace, baudotSamples}
 use Rattle.frames.specs.Frames.{inFrame, hunting, gives, goesOn, sampled, frameStep}
 use Rattle.frames.proofs.Sampling.{baudot-on, baudot-off, place-element}
 use Rattle.line_theorems.proofs.FrameRules.{Hears, none, chain, next, hunting-space, hunting-other, in-frame, no-sample}

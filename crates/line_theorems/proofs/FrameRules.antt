@@ -6,14 +6,12 @@ use Prim.Native.Nat.{ℕ, _+_, _-_, _/_, _≤_}
 use native.Mathlib.Omega.{arith}
 use lib.Dec.{eqb}
 use borrow.Author.Tests.{eq-eqb, ne-eqb}
-use Rattle.frames.specs.declared.Sample.{Sample}
-use Rattle.frames.specs.declared.Sample.the-variants.{None, Start, Digit, Parity, Stop, Last}
 use Rattle.frames.specs.declared.Frame.{Frame}
 use Rattle.frames.specs.declared.Found.{Found}
 use Rattle.frames.specs.declared.Found.the-variants.{Nothing, Code}
 use Rattle.frames.specs.declared.FrameRead.{FrameRead}
 use Rattle.signal.specs.Signal.{parityOf}
-use Rattle.frames.specs.Samples.{Placed, sampleAt}
+use Rattle.frames.specs.Samples.{Sample, None, Start, Digit, Parity, Stop, Last, Placed, sampleAt}
 use Rattle.frames.specs.Frames.{inFrame, hunting, waiting, gives, goesOn, faulty, parityHeard, sampled, frameStep, frameNext, frameFound}
 use Rattle.lists.proofs.Steps as steps
 use Rattle.lists.proofs.Steps.{Takes}

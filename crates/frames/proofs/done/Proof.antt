@@ -1,6 +1,6 @@
 -- `done` meets its contract, by what the sample does.
 use mathlib.Core.Path.{_≡_, _∙_, refl, sym, ap, subst}
-use Prim.Native.Nat.{ℕ, _+_, _-_, _≤_, _<_}
+use Prim.Native.Nat.{ℕ, _-_, _<_}
 use native.Mathlib.Omega.{arith}
 use Rattle.frames.specs.declared.samples.Effect.{Effect}
 use Rattle.frames.specs.declared.Found.the-variants.{Nothing}
@@ -8,13 +8,11 @@ use Rattle.frames.specs.declared.FrameRead.{FrameRead}
 use Rattle.frames.specs.Frames.{gives}
 use Rattle.frames.specs.code.Samples.{doneBy}
 use borrow.Author.Needs.{needs}
+use Rattle.frames.proofs.Range.{place-on}
 use Rattle.frames.proofs.done.Statement.{statement}
 use Rattle.frames.proofs.done.Tie as tie
 use Rattle.frames.proofs.at.Reads as at-reads
 use Rattle.frames.proofs.fault.Reads as fault-reads
-
-place-on : (p : ℕ) → 1 ≤ p → p + 1 ≡ p - 1 + 1 + 1
-place-on p h = omega arith
 
 -- an effect that is known
 known : (e o : Effect) (m digits : ℕ) (r : FrameRead) → e ≡ o → r ≡ doneBy o m digits → r ≡ doneBy e m digits

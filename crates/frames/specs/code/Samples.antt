@@ -4,14 +4,13 @@ use mathlib.Core.Path.{_≡_}
 use Rattle.alphabet.specs.declared.Mode.{Mode}
 use Rattle.alphabet.specs.declared.Mode.the-variants.{Baudot45, Baudot50, Dtmf, Edt}
 use Rattle.alphabet.specs.Modes.{elementOf}
-use Rattle.frames.specs.declared.Sample.{Sample}
 use Rattle.frames.specs.declared.Cause.{Cause}
 use Rattle.frames.specs.declared.Cause.the-variants.{StopNotMark}
 use Rattle.frames.specs.declared.Found.the-variants.{Nothing, Code}
 use Rattle.frames.specs.declared.FrameRead.{FrameRead}
 use Rattle.frames.specs.declared.samples.Effect.{Effect}
 use Rattle.frames.specs.declared.samples.Effect.the-variants.{On, Hunts, Breaks, Ends}
-use Rattle.frames.specs.Samples.{baudotPlace, edtPlace, sampleAt, samplesOf}
+use Rattle.frames.specs.Samples.{Sample, baudotPlace, edtPlace, sampleAt, samplesOf}
 use Rattle.frames.specs.Frames.{hunting, gives, goesOn, faulty, unlessQuiet, sampled}
 
 -- The number of the first sample from a ms on: Baudot, in elements of e ms; a mode.

@@ -1,13 +1,12 @@
 -- `pass_samples` meets its contract. The invariant: up to the next sample, nothing was found.
-use mathlib.Core.Path.{refl, sym, subst}
-use Prim.Native.Nat.{_+_, _-_}
+use mathlib.Core.Path.{refl, subst}
+use Prim.Native.Nat.{_+_, _-_, _≤_}
 use native.Mathlib.Omega.{arith}
 use lib.ListN.{length, getD}
-use Rattle.frames.proofs.Sampling.{does-as}
 use Rattle.frames.proofs.Range.{place-255}
 use Rattle.frames.specs.code.Samples.{kindOf, Does}
 use Rattle.frames_runs.specs.code.Passing.{frameAt}
-use Rattle.frames_runs.proofs.Numbered.{next-of, ms-grows, ms-few}
+use Rattle.frames_runs.proofs.Numbered.{samples-few, next-of, ms-grows, ms-few}
 use Rattle.frames_runs.proofs.Framing.{stops, Ahead, ahead-start, ahead-end, ahead-here, ahead-hunts, ahead-turn}
 use borrow.Author.Needs.{needs}
 use Rattle.frames_runs.proofs.pass_samples.Statement.{statement}
@@ -25,21 +24,17 @@ abbrev start-of : tie.At-loop Inv-loop μ-loop → tie.Start Inv-loop μ-loop
 start-of c = c .before .before .before .before
 
 abbrev turn-of : tie.After-effect-of Inv-loop μ-loop → tie.In-loop Inv-loop μ-loop
-turn-of c = c .before .before .before
+turn-of c = c .before .before
 
 abbrev effect-of : tie.After-sample-ms2 Inv-loop μ-loop → tie.After-effect-of Inv-loop μ-loop
 effect-of c = c .before .before .before .before
 
--- what the sample does
-does : (c : tie.After-effect-of Inv-loop μ-loop)
-    → let l = turn-of c .before .loop in
-    let s = start-of (turn-of c .before) .args in
-    Does (kindOf (s .mode) (l .j)) (l .d) (getD (s .heard .now) (l .at) 0) (c .effect-of .result)
-does c =
-    let l = turn-of c .before .loop in
-    let s = start-of (turn-of c .before) .args in
-    does-as _ _ (l .d) (getD (s .heard .now) (l .at) 0) (c .effect-of .result) (sym (c .before .before .kind-of .ensures))
-    (c .effect-of .ensures)
+few-of : (c : tie.After-effect-of Inv-loop μ-loop) → turn-of c .before .loop .j ≤ 10
+few-of c =
+    let t = turn-of c .before in
+    let n = t .loop .inv .number in
+    let few = samples-few (start-of t .args .mode) in
+    omega arith
 
 -- ---- what each moment needs
 
@@ -53,7 +48,8 @@ sample-ms-requires : tie.Need-sample-ms-requires Inv-loop μ-loop
 sample-ms-requires c κs =
     let s = c .before .before in
     let n = next-of (s .args .mode) _ _ (s .pre .1 .0) (s .pre .1 .1 .0) _ _ (c .number-at .ensures) refl in
-    let few = n .number in
+    let number = n .number in
+    let few = samples-few (s .args .mode) in
     omega arith
 
 sub-at : tie.Need-sub-at Inv-loop μ-loop
@@ -78,9 +74,6 @@ loop-holds c =
     ahead-start (s .args .mode) (s .pre .0) _ _ (s .pre .1 .0) _ _ _ refl (s .pre .1 .1 .0) (omega arith) _ _
     (c .before .number-at .ensures) (c .sample-ms .ensures)
 
-kind-of-requires : tie.Need-kind-of-requires Inv-loop μ-loop
-kind-of-requires c κs = search needs
-
 shared-slice-read-effect-of : tie.Need-shared-slice-read-effect-of Inv-loop μ-loop
 shared-slice-read-effect-of c = search needs
 
@@ -93,8 +86,8 @@ enum-known-e c = search needs
 enum-told : tie.Need-enum-told Inv-loop μ-loop
 enum-told c = search needs
 
-add-t20 : tie.Need-add-t20 Inv-loop μ-loop
-add-t20 c = search needs
+add-t19 : tie.Need-add-t19 Inv-loop μ-loop
+add-t19 c = search needs
 
 returns : tie.Need-returns Inv-loop μ-loop
 returns c =
@@ -104,8 +97,8 @@ returns c =
       stops _ _,
     )
 
-add-t21 : tie.Need-add-t21 Inv-loop μ-loop
-add-t21 c = search needs
+add-t20 : tie.Need-add-t20 Inv-loop μ-loop
+add-t20 c = search needs
 
 returns-2 : tie.Need-returns-2 Inv-loop μ-loop
 returns-2 c =
@@ -116,15 +109,15 @@ returns-2 c =
     let x = getD (s .args .heard .now) (l .at) 0 in
     let from = l .inv .from in (
       ahead-hunts (s .args .mode) (s .pre .0) _ _ (s .pre .1 .0) _ _ _ _ _ (l .inv) (t .loop-test .taken)
-          (subst (Does (kindOf (s .args .mode) (l .j)) (l .d) x) (c .enum-told .given .1) (does m)),
+          (subst (Does (kindOf (s .args .mode) (l .j)) (l .d) x) (c .enum-told .given .1) (m .effect-of .ensures)),
       λ t. omega arith,
     )
 
 add-j : tie.Need-add-j Inv-loop μ-loop
-add-j c = search needs
+add-j c = let few = few-of (c .before .before .before) in omega arith
 
 sample-ms-requires-2 : tie.Need-sample-ms-requires-2 Inv-loop μ-loop
-sample-ms-requires-2 c κs = search needs
+sample-ms-requires-2 c κs = let few = few-of (c .before .before .before) in omega arith
 
 sub-at-2 : tie.Need-sub-at-2 Inv-loop μ-loop
 sub-at-2 c =
@@ -143,7 +136,7 @@ add-at-2 c =
     let l = turn .before .loop in
     let t = turn .loop-test .taken in
     let e = c .sample-ms2 .ensures in
-    let n = l .inv .number in
+    let n = few-of (effect-of c) in
     let few = ms-few (s .args .mode) (l .j + 1) (omega arith) in
     let g = s .good in
     omega arith
@@ -166,17 +159,17 @@ loop-again c =
     let l = t .before .loop in
     let x = getD (s .args .heard .now) (l .at) 0 in
     ahead-turn (s .args .mode) (s .pre .0) _ _ (s .pre .1 .0) _ _ _ _ _ (l .inv) (t .loop-test .taken) _
-    (subst (Does (kindOf (s .args .mode) (l .j)) (l .d) x) (c .before .before .e .given .1) (does (effect-of c))) _ _ _ refl
+    (subst (Does (kindOf (s .args .mode) (l .j)) (l .d) x) (c .before .before .e .given .1) (effect-of c .effect-of .ensures)) _ _ _ refl
     (c .sample-ms2 .ensures) refl
 
 add-t14 : tie.Need-add-t14 Inv-loop μ-loop
 add-t14 c = search needs
 
+sub-t22 : tie.Need-sub-t22 Inv-loop μ-loop
+sub-t22 c = search needs
+
 sub-t23 : tie.Need-sub-t23 Inv-loop μ-loop
 sub-t23 c = search needs
-
-sub-t24 : tie.Need-sub-t24 Inv-loop μ-loop
-sub-t24 c = search needs
 
 returns-3 : tie.Need-returns-3 Inv-loop μ-loop
 returns-3 c =
@@ -196,14 +189,13 @@ pass-samples-spec =
     sub-at
     add-at
     loop-holds
-    kind-of-requires
     shared-slice-read-effect-of
     effect-of-requires
     enum-known-e
     enum-told
-    add-t20
+    add-t19
     returns
-    add-t21
+    add-t20
     returns-2
     add-j
     sample-ms-requires-2
@@ -212,6 +204,6 @@ pass-samples-spec =
     loop-less
     loop-again
     add-t14
+    sub-t22
     sub-t23
-    sub-t24
     returns-3)

@@ -18,29 +18,29 @@ times : (top : ℕ) (b : Bool) → top * boolByte b ≡ cond b top 0
 times top true = simp mul-one
 times top false = simp mul-zero
 
-few : (top : ℕ) (b : Bool) → top < 256 → top * boolByte b < 256
-few top b h = subst (λ (k : ℕ). k < 256) (sym (times top b)) (either (λ (k : ℕ). k < 256) b top 0 h (omega arith))
+few : (top : ℕ) (b : Bool) → top < 128 → top * boolByte b < 128
+few top b h = subst (λ (k : ℕ). k < 128) (sym (times top b)) (either (λ (k : ℕ). k < 128) b top 0 h (omega arith))
 
-product-fits : (top : ℕ) (b : Bool) → top < 256 → top * boolByte b < 2 ^ 64
+product-fits : (top : ℕ) (b : Bool) → top < 128 → top * boolByte b < 2 ^ 64
 product-fits top b h = let f = few top b h in omega arith
 
-sum-fits : (digits top : ℕ) (b : Bool) → digits < 128 → top < 256 → digits / 2 + top * boolByte b < 2 ^ 64
+sum-fits : (digits top : ℕ) (b : Bool) → digits < 128 → top < 128 → digits / 2 + top * boolByte b < 2 ^ 64
 sum-fits digits top b l h = let f = few top b h in omega arith
 
 returns : tie.Need-returns
 unfolding sampled
 returns c = λ (m : ℕ). simp (c .if1 .taken)
 
-cast-t8 : tie.Need-cast-t8
-cast-t8 c = search needs
+cast-t7 : tie.Need-cast-t7
+cast-t7 c = search needs
 
-mul-t9 : tie.Need-mul-t9
-mul-t9 c = let s = c .before in record { fits = product-fits (s .args .top) (eqb (s .args .heard) 1) (search needs) }
+mul-t8 : tie.Need-mul-t8
+mul-t8 c = let s = c .before in record { fits = product-fits (s .args .top) (eqb (s .args .heard) 1) (s .pre .0) }
 
-add-t10 : tie.Need-add-t10
-add-t10 c =
+add-t9 : tie.Need-add-t9
+add-t9 c =
     let s = c .before in
-    record { fits = sum-fits (s .args .digits) (s .args .top) (eqb (s .args .heard) 1) (s .pre) (search needs) }
+    record { fits = sum-fits (s .args .digits) (s .args .top) (eqb (s .args .heard) 1) (s .pre .1) (s .pre .0) }
 
 returns-2 : tie.Need-returns-2
 unfolding sampled
@@ -48,4 +48,4 @@ returns-2 c =
     let s = c .before in λ (m : ℕ). simp (ne-eqb _ _ (c .if1 .left), times (s .args .top) (eqb (s .args .heard) 1))
 
 pub digit-spec : {M : Type 1} → statement M
-digit-spec = tie.close (tie.spec returns cast-t8 mul-t9 add-t10 returns-2)
+digit-spec = tie.close (tie.spec returns cast-t7 mul-t8 add-t9 returns-2)
