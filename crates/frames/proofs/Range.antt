@@ -71,12 +71,12 @@ place-255 mode f h =
     let l = last-few mode in
     omega arith
 
--- what holds of a fault and of a good sample holds of one that is tested
-tested : (P : FrameRead → Type 0) (m heard : ℕ) (test : Bool) (good : FrameRead) (cause : Cause)
-    → ((c : Cause) → P (faulty c m)) → P good → P (unlessQuiet m heard (cond test good (faulty cause m)))
-tested P m heard test good cause f g =
-    either P (eqb heard 0) (faulty Quiet m) (cond test good (faulty cause m)) (f Quiet)
-    (either P test good (faulty cause m) g (f cause))
+-- what holds of both faults and of a good sample holds of one that is tested
+pub tested : (P : FrameRead → Type 0) (m heard : ℕ) (test : Bool) (good : FrameRead) (cause : Cause)
+    → P (faulty Quiet m) → P (faulty cause m) → P good → P (unlessQuiet m heard (cond test good (faulty cause m)))
+tested P m heard test good cause q f g =
+    either P (eqb heard 0) (faulty Quiet m) (cond test good (faulty cause m)) q
+    (either P test good (faulty cause m) g f)
 
 -- a code that is found has the digits of its frame
 module _ (n : ℕ) where
@@ -90,11 +90,11 @@ module _ (n : ℕ) where
   sampled-in (Digit top) m digits heard h =
       either Codes (eqb heard 0) (faulty Quiet m) (goesOn m (withDigit top digits heard)) tt tt
   sampled-in Parity m digits heard h =
-      tested Codes m heard (eqb (parityOf digits) (parityHeard heard)) (goesOn m digits) OddParity (λ c. tt) tt
+      tested Codes m heard (eqb (parityOf digits) (parityHeard heard)) (goesOn m digits) OddParity tt tt tt
   sampled-in Stop m digits heard h =
-      tested Codes m heard (eqb heard 1) (goesOn m digits) StopNotMark (λ c. tt) tt
+      tested Codes m heard (eqb heard 1) (goesOn m digits) StopNotMark tt tt tt
   sampled-in Last m digits heard h =
-      tested Codes m heard (eqb heard 1) (gives hunting (Code (record { 0 = digits }))) StopNotMark (λ c. tt) h
+      tested Codes m heard (eqb heard 1) (gives hunting (Code (record { 0 = digits }))) StopNotMark tt tt h
 
   pub found-in : (samples : List Placed) (f : Frame) (heard : ℕ) → f .digits < n → Codes (frameStep samples f heard)
   unfolding frameStep
@@ -139,7 +139,7 @@ module _ (samples : List Placed) (n : ℕ) (pos : 1 ≤ n) (weigh : (m : ℕ) �
   at-last : (m digits heard : ℕ) → Kept (sampled Last m digits heard)
   unfolding sampled
   at-last m digits heard =
-      tested Kept m heard (eqb heard 1) (gives hunting (Code (record { 0 = digits }))) StopNotMark (λ c. waiting-in)
+      tested Kept m heard (eqb heard 1) (gives hunting (Code (record { 0 = digits }))) StopNotMark waiting-in waiting-in
       hunting-in
 
   -- ahead of the last ms
@@ -153,10 +153,10 @@ module _ (samples : List Placed) (n : ℕ) (pos : 1 ≤ n) (weigh : (m : ℕ) �
       either Kept (eqb heard 0) (faulty Quiet m) (goesOn m (withDigit top digits heard)) waiting-in
       (on-in m (withDigit top digits heard) h (digit-in top digits heard (eqb-true (2 * top) n w) d))
   ahead Parity m digits heard w h d =
-      tested Kept m heard (eqb (parityOf digits) (parityHeard heard)) (goesOn m digits) OddParity (λ c. waiting-in)
+      tested Kept m heard (eqb (parityOf digits) (parityHeard heard)) (goesOn m digits) OddParity waiting-in waiting-in
       (on-in m digits h d)
   ahead Stop m digits heard w h d =
-      tested Kept m heard (eqb heard 1) (goesOn m digits) StopNotMark (λ c. waiting-in) (on-in m digits h d)
+      tested Kept m heard (eqb heard 1) (goesOn m digits) StopNotMark waiting-in waiting-in (on-in m digits h d)
   ahead Last m digits heard w h d = at-last m digits heard
 
   pub step-in : (f : Frame) (heard : ℕ) → In f → Kept (frameStep samples f heard)

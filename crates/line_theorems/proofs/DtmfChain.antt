@@ -20,6 +20,7 @@ use Rattle.alphabet.specs.Normal.{reads}
 use Rattle.alphabet.proofs.DtmfCodes.{digit-bounds, mark-bounds, not-mark, prefix-few, keys-code}
 use Rattle.alphabet_theorems.proofs.Numbering.{code-keys}
 use Rattle.frames.specs.declared.Frame.{Frame}
+use Rattle.frames.specs.declared.Cause.the-variants.{LetterKey}
 use Rattle.reader.specs.declared.Event.the-variants.{Fault, Nothing}
 use Rattle.reader.specs.declared.Outcome.{Outcome}
 use Rattle.signal.specs.Signal.{heldKeys, keysSignal, signal}
@@ -86,8 +87,8 @@ mark-prefix p k t =
     let b = mark-bounds k t in
     sym (ap (λ (o : Outcome). o .next) (mark-outcome p k (withMark p k) (b .0) (b .1) refl))
 
--- a key from A to D gives a fault, and empties the prefix
-pub letter-event : (p k : ℕ) → 13 ≤ k → keyEvent p k ≡ Fault
+-- a key from A to D gives a fault of its own, whatever the prefix, and empties it
+pub letter-event : (p k : ℕ) → 13 ≤ k → keyEvent p k ≡ Fault LetterKey 0
 letter-event p k h = sym (ap (λ (o : Outcome). o .event) (other-outcome p k (omega arith) h))
 
 pub letter-empties : (p k : ℕ) → 13 ≤ k → prefixAfter p k ≡ 0

@@ -1,14 +1,13 @@
 -- Every EDT character's signal is read as that character, by one computed test.
-use mathlib.Core.Path.{_≡_, _∙_, refl, sym, ap}
-use mathlib.Core.Bool.{Bool, true, false, cond, _&&_}
+use mathlib.Core.Path.{_≡_, refl}
+use mathlib.Core.Bool.{Bool, true, false, _&&_}
 use mathlib.Core.List.{List, [], _∷_, _++_}
-use Prim.Native.Nat.{ℕ, _+_, _-_, _<_}
-use native.Mathlib.Omega.{arith}
+use Prim.Native.Nat.{ℕ, _<_}
 use lib.Dec.{T, eqb, eqb→eq}
 use lib.ListN.{replicate}
-use borrow.Author.Tests.{ne-eqb}
 use Rattle.lists.specs.Tables.{tabulate, passes}
 use Rattle.lists.proofs.Tables.{both-left, both-right, passes-at}
+use Rattle.alphabet.specs.declared.LineCode.{LineCode}
 use Rattle.frames.specs.declared.Frame.{Frame}
 use Rattle.frames.specs.declared.Found.{Found}
 use Rattle.frames.specs.declared.Found.the-variants.{Nothing, Fault, Code}
@@ -18,37 +17,50 @@ use Rattle.frames.specs.Samples.{placed, sampleAt, edtKinds, edtSamples}
 use Rattle.frames.specs.Frames.{hunting, sampled, frameStep, frameAfter, founds}
 use Rattle.line_theorems.proofs.FrameRules.{Hears}
 
--- what a ms ends in, as a number, so that two lists can be compared by a test
-abbrev number : Found → ℕ
-number Nothing = 0
-number Fault = 1
-number (Code k) = 2 + k .0
+-- two lists of what ms end in, without a fault, compared by a test
+abbrev isNothing : Found → Bool
+isNothing Nothing = true
+isNothing (Fault c m) = false
+isNothing (Code k) = false
 
-abbrev numbered : ℕ → Found
-numbered n = cond (eqb n 0) Nothing (cond (eqb n 1) Fault (Code (record { 0 = n - 2 })))
+abbrev isCode : LineCode → Found → Bool
+isCode k Nothing = false
+isCode k (Fault c m) = false
+isCode k (Code l) = eqb (k .0) (l .0)
 
-back : (f : Found) → numbered (number f) ≡ f
-back Nothing = refl
-back Fault = refl
-back (Code k) =
-    let p : 2 + k .0 - 2 ≡ k .0 = omega arith in
-    rw (ne-eqb (2 + k .0) 0 (λ e. omega arith), ne-eqb (2 + k .0) 1 (λ e. omega arith), p) refl
+abbrev same : Found → Found → Bool
+same Nothing g = isNothing g
+same (Fault c m) g = false
+same (Code k) g = isCode k g
 
--- the list is n times nothing, the code c, and m times nothing
+is-nothing : (g : Found) → T (isNothing g) → Nothing ≡ g
+is-nothing Nothing t = refl
+is-nothing (Fault c m) t = absurd t
+is-nothing (Code k) t = absurd t
+
+is-code : (k : LineCode) (g : Found) → T (isCode k g) → Code k ≡ g
+is-code k Nothing t = absurd t
+is-code k (Fault c m) t = absurd t
+is-code k (Code l) t = let e = eqb→eq (k .0) (l .0) t in λ i. Code (record { 0 = e i })
+
+is-same : (f g : Found) → T (same f g) → f ≡ g
+is-same Nothing g t = is-nothing g t
+is-same (Fault c m) g t = absurd t
+is-same (Code k) g t = is-code k g t
+
 abbrev sameFounds : List Found → List Found → Bool
 sameFounds [] [] = true
 sameFounds [] (g ∷ gs) = false
 sameFounds (f ∷ fs) [] = false
-sameFounds (f ∷ fs) (g ∷ gs) = eqb (number f) (number g) && sameFounds fs gs
+sameFounds (f ∷ fs) (g ∷ gs) = same f g && sameFounds fs gs
 
 same-founds : (fs gs : List Found) → T (sameFounds fs gs) → fs ≡ gs
 same-founds [] [] t = refl
 same-founds [] (g ∷ gs) t = absurd t
 same-founds (f ∷ fs) [] t = absurd t
 same-founds (f ∷ fs) (g ∷ gs) t =
-    let e = eqb→eq (number f) (number g) (both-left (eqb (number f) (number g)) (sameFounds fs gs) t) in
-    let p : f ≡ g = sym (back f) ∙ ap numbered e ∙ back g in
-    let q = same-founds fs gs (both-right (eqb (number f) (number g)) (sameFounds fs gs) t) in
+    let p = is-same f g (both-left (same f g) (sameFounds fs gs) t) in
+    let q = same-founds fs gs (both-right (same f g) (sameFounds fs gs) t) in
     λ i. p i ∷ q i
 
 abbrev pub isHunting : Frame → Bool

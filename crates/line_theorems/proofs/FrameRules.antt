@@ -1,11 +1,10 @@
 -- Reading frames over lists of ms; and each reading rule by itself, for any places of the samples.
 use mathlib.Core.Path.{_≡_, _∙_, refl, ap}
-use mathlib.Core.Bool.{Bool, true, false, cond}
 use mathlib.Core.List.{List, [], _∷_, _++_}
 use Prim.Native.Nat.{ℕ, _+_, _-_, _/_, _≤_}
 use native.Mathlib.Omega.{arith}
-use lib.Dec.{eqb}
 use borrow.Author.Tests.{eq-eqb, ne-eqb}
+use Rattle.frames.specs.declared.Cause.the-variants.{Quiet, StopNotMark, OddParity}
 use Rattle.frames.specs.declared.Frame.{Frame}
 use Rattle.frames.specs.declared.Found.{Found}
 use Rattle.frames.specs.declared.Found.the-variants.{Nothing, Code}
@@ -13,6 +12,7 @@ use Rattle.frames.specs.declared.FrameRead.{FrameRead}
 use Rattle.signal.specs.Signal.{parityOf}
 use Rattle.frames.specs.Samples.{Sample, None, Start, Digit, Parity, Stop, Last, Placed, sampleAt}
 use Rattle.frames.specs.Frames.{inFrame, hunting, waiting, gives, goesOn, faulty, parityHeard, sampled, frameStep, frameNext, frameFound}
+use Rattle.frames.proofs.Range as range
 use Rattle.lists.proofs.Steps as steps
 use Rattle.lists.proofs.Steps.{Takes}
 
@@ -54,10 +54,9 @@ module _ (samples : List Placed) where
 
   -- in a frame, a ms is what its sample makes of it
   pub in-frame : (m d x : ℕ) → 1 ≤ m → frameStep samples (inFrame m d) x ≡ sampled (sampleAt samples m) m d x
-  unfolding frameStep
   in-frame m d x h =
       let p : m + 1 - 1 ≡ m = omega arith in
-      rw (ne-eqb (m + 1) 0 (λ q. omega arith), ne-eqb (m + 1) 1 (λ q. omega arith), p) refl
+      range.in-frame samples (inFrame m d) x (omega arith) ∙ ap (λ (n : ℕ). sampled (sampleAt samples n) n d x) p
 
   module _ (m d : ℕ) (first : 1 ≤ m) where
     by : (k : Sample) (x : ℕ) → sampleAt samples m ≡ k → frameStep samples (inFrame m d) x ≡ sampled k m d x
@@ -78,14 +77,22 @@ module _ (samples : List Placed) where
     unfolding sampled
     start-space e = by Start 2 e
 
-    -- quiet at a later sample gives one fault, and the wait
-    pub digit-quiet : (top : ℕ) → sampleAt samples m ≡ Digit top → frameStep samples (inFrame m d) 0 ≡ faulty
+    -- quiet at a later sample gives one fault, of that cause and at this ms, and the wait
+    pub digit-quiet : (top : ℕ) → sampleAt samples m ≡ Digit top → frameStep samples (inFrame m d) 0 ≡ faulty Quiet m
     unfolding sampled
     digit-quiet top e = by (Digit top) 0 e
 
-    pub parity-quiet : sampleAt samples m ≡ Parity → frameStep samples (inFrame m d) 0 ≡ faulty
+    pub parity-quiet : sampleAt samples m ≡ Parity → frameStep samples (inFrame m d) 0 ≡ faulty Quiet m
     unfolding sampled
     parity-quiet e = by Parity 0 e
+
+    pub stop-quiet : sampleAt samples m ≡ Stop → frameStep samples (inFrame m d) 0 ≡ faulty Quiet m
+    unfolding sampled
+    stop-quiet e = by Stop 0 e
+
+    pub last-quiet : sampleAt samples m ≡ Last → frameStep samples (inFrame m d) 0 ≡ faulty Quiet m
+    unfolding sampled
+    last-quiet e = by Last 0 e
 
     -- a digit: 1 as mark
     pub digit-mark : (top : ℕ) → sampleAt samples m ≡ Digit top
@@ -98,33 +105,31 @@ module _ (samples : List Placed) where
     unfolding sampled
     digit-space top e = by (Digit top) 2 e
 
-    -- odd parity gives a fault at its own sample; even parity goes on
-    pub parity-odd : (x : ℕ) → sampleAt samples m ≡ Parity → (parityOf d ≡ parityHeard x → ⊥)
-        → frameStep samples (inFrame m d) x ≡ faulty
+    -- odd parity gives a fault of its own; even parity goes on
+    pub parity-odd : (x : ℕ) → sampleAt samples m ≡ Parity → (x ≡ 0 → ⊥) → (parityOf d ≡ parityHeard x → ⊥)
+        → frameStep samples (inFrame m d) x ≡ faulty OddParity m
     unfolding sampled
-    parity-odd x e h = by Parity x e ∙ go (eqb x 0)
-      where
-        go : (b : Bool) → cond b faulty (cond (eqb (parityOf d) (parityHeard x)) (goesOn m d) faulty) ≡ faulty
-        go true = refl
-        go false = rw (ne-eqb (parityOf d) (parityHeard x) h) refl
+    parity-odd x e n h = by Parity x e ∙ (rw (ne-eqb x 0 n, ne-eqb (parityOf d) (parityHeard x) h) refl)
 
     pub parity-even : (x : ℕ) → sampleAt samples m ≡ Parity → (x ≡ 0 → ⊥) → parityOf d ≡ parityHeard x
         → frameStep samples (inFrame m d) x ≡ goesOn m d
     unfolding sampled
     parity-even x e n h = by Parity x e ∙ (rw (ne-eqb x 0 n, eq-eqb (parityOf d) (parityHeard x) h) refl)
 
-    -- a stop that is not mark gives a fault, the first and the last
-    pub stop-other : (x : ℕ) → sampleAt samples m ≡ Stop → (x ≡ 1 → ⊥) → frameStep samples (inFrame m d) x ≡ faulty
+    -- a stop that is neither mark nor quiet gives a fault of its own, the first and the last
+    pub stop-other : (x : ℕ) → sampleAt samples m ≡ Stop → (x ≡ 0 → ⊥) → (x ≡ 1 → ⊥)
+        → frameStep samples (inFrame m d) x ≡ faulty StopNotMark m
     unfolding sampled
-    stop-other x e h = by Stop x e ∙ (rw (ne-eqb x 1 h) refl)
+    stop-other x e n h = by Stop x e ∙ (rw (ne-eqb x 0 n, ne-eqb x 1 h) refl)
 
     pub stop-mark : sampleAt samples m ≡ Stop → frameStep samples (inFrame m d) 1 ≡ goesOn m d
     unfolding sampled
     stop-mark e = by Stop 1 e
 
-    pub last-other : (x : ℕ) → sampleAt samples m ≡ Last → (x ≡ 1 → ⊥) → frameStep samples (inFrame m d) x ≡ faulty
+    pub last-other : (x : ℕ) → sampleAt samples m ≡ Last → (x ≡ 0 → ⊥) → (x ≡ 1 → ⊥)
+        → frameStep samples (inFrame m d) x ≡ faulty StopNotMark m
     unfolding sampled
-    last-other x e h = by Last x e ∙ (rw (ne-eqb x 1 h) refl)
+    last-other x e n h = by Last x e ∙ (rw (ne-eqb x 0 n, ne-eqb x 1 h) refl)
 
     -- after the last good sample the reader hunts again
     pub last-mark : sampleAt samples m ≡ Last
