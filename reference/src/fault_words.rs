@@ -1,9 +1,10 @@
 //! Compares the words of spoiled codes (document 02, request 103): frames with every level at every
-//! sample, and every key behind every list of up to four * and #, each with a clean code behind it.
-//! The engine must give the words of the reference's reader, each in its ms: in one call, with each
-//! sample in a call of its own, and in two calls. Part of `differential`.
+//! sample, in Baudot in both shifts, and every key behind every list of up to four * and #, each with
+//! a clean code behind it. The engine must give the words of the reference's reader, each in its ms:
+//! in one call, with each sample in a call of its own, and in two calls. Part of `differential`.
 
 use crate::engine::Station;
+use reference::annex::{FIGURES_CODE, LETTERS_CODE};
 use reference::answer::SUCCESS;
 use reference::demand3::Entries;
 use reference::fault::{Cause, Fault};
@@ -38,9 +39,9 @@ pub fn compare(random: &mut Random) -> String {
         frames += comparison.all_samples(mode);
     }
     let keys = comparison.all_keys();
-    // Codes with either parity, samples and levels; levels to the number of samples; lists and keys.
-    assert_eq!(single, 2 * (32 * 7 * 3) + 2 * 128 * 11 * 3);
-    assert_eq!(frames, 2 * 3u64.pow(7) + 3u64.pow(11));
+    // In Baudot two modes and two shifts, in EDT two parities with one sample set.
+    assert_eq!(single, 4 * (32 * 7 * 3) + 2 * (128 * 11 * 3));
+    assert_eq!(frames, 4 * 3u64.pow(7) + 3u64.pow(11));
     assert_eq!(keys, 31 * 16);
     let cause = |cause: Cause| comparison.words[cause as usize];
     format!(
@@ -81,8 +82,7 @@ impl Comparison<'_> {
                     for level in [QUIET, MARK, SPACE] {
                         let mut frame = signal.clone();
                         frame[sample] = level;
-                        self.frame(mode, frame);
-                        frames += 1;
+                        frames += self.frame(mode, &frame);
                     }
                 }
             }
@@ -92,24 +92,32 @@ impl Comparison<'_> {
 
     /// Every list of levels, one for each element; ms 0 is space. Gives back the number of frames.
     fn all_samples(&mut self, mode: Mode) -> u64 {
-        let frames = 3u64.pow(mode.elements() as u32);
-        for number in 0..frames {
-            let level = |element| (number / 3u64.pow(element as u32) % 3) as u8;
+        let mut frames = 0;
+        for number in 0..3usize.pow(mode.elements() as u32) {
+            let level = |element| (number / 3usize.pow(element as u32) % 3) as u8;
             let levels: Vec<u8> = (0..mode.elements()).map(level).collect();
-            let ms = 1..mode.code_length();
-            let rest = ms.map(|ms| levels[mode.element_at(ms)]);
-            self.frame(mode, [SPACE].into_iter().chain(rest).collect());
+            let mut frame: Vec<u8> =
+                (0..mode.code_length()).map(|ms| levels[mode.element_at(ms)]).collect();
+            frame[0] = SPACE;
+            frames += self.frame(mode, &frame);
         }
         frames
     }
 
-    /// A frame and a clean code behind it.
-    fn frame(&mut self, mode: Mode, frame: Vec<u8>) {
-        let next = match mode {
-            Mode::Edt => Code::SevenBits(b'A'),
-            _ => Code::FiveBits(0b00011),
-        };
-        self.hears(mode, &[frame, signal(mode, &next)].concat(), &samples(mode));
+    /// A frame and a clean code behind it, in Baudot behind each shift code. Gives back how often.
+    fn frame(&mut self, mode: Mode, frame: &[u8]) -> u64 {
+        if mode == Mode::Edt {
+            let next = signal(mode, &Code::SevenBits(b'A'));
+            self.hears(mode, &[frame, &next].concat(), &samples(mode));
+            return 1;
+        }
+        let next = signal(mode, &Code::FiveBits(0b00011));
+        for shift in [LETTERS_CODE, FIGURES_CODE] {
+            let shift = signal(mode, &Code::FiveBits(shift));
+            let alone: Vec<_> = samples(mode).iter().map(|ms| shift.len() + ms).collect();
+            self.hears(mode, &[&shift, frame, &next].concat(), &alone);
+        }
+        2
     }
 
     /// Every key behind every list of signs, and 1 behind it, which shows the signs in hand. Gives
