@@ -11,7 +11,7 @@ use reference::fault::{Cause, Fault};
 use reference::line::{codes, runs, sign_lists, signal, Code, KEYS, MARK, QUIET, SPACE};
 use reference::mode::Mode;
 use reference::random::Random;
-use reference::reader::{Hear, Reader};
+use reference::reader::{Hear, Reader, IN_A_ROW};
 use reference::station::Ran;
 use std::process::exit;
 
@@ -21,7 +21,7 @@ const LONGEST: usize = 800;
 /// The * and # ahead of a key.
 const MOST_SIGNS: usize = 4;
 
-/// What is compared, and how many words of each cause were alike; those of cause 0 are characters.
+/// Where the cuts come from, and how many words of each cause were alike; characters stand at 0.
 struct Comparison<'a> {
     random: &'a mut Random,
     words: [u64; 6],
@@ -127,9 +127,9 @@ impl Comparison<'_> {
         for signs in sign_lists(MOST_SIGNS) {
             for key in KEYS.chars() {
                 let keys = format!("{signs}{key}1");
-                // Each key counts at its 40th ms.
-                let counts: Vec<_> = (0..keys.len()).map(|place| 120 * place + 39).collect();
-                self.hears(Mode::Dtmf, &signal(Mode::Dtmf, &Code::Keys(keys)), &counts);
+                let counts = |place| place * Mode::Dtmf.code_length() + usize::from(IN_A_ROW) - 1;
+                let alone: Vec<_> = (0..keys.len()).map(counts).collect();
+                self.hears(Mode::Dtmf, &signal(Mode::Dtmf, &Code::Keys(keys)), &alone);
                 cases += 1;
             }
         }

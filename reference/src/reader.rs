@@ -446,10 +446,10 @@ mod tests {
         }
     }
 
-    /// The signal of a code with other levels from a ms on, for a number of ms.
-    fn damaged(mode: Mode, code: &Code, at: usize, length: usize, level: u8) -> Vec<u8> {
+    /// The signal of a code with another level in one ms.
+    fn damaged(mode: Mode, code: &Code, at: usize, level: u8) -> Vec<u8> {
         let mut heard = signal(mode, code);
-        heard[at..at + length].fill(level);
+        heard[at] = level;
         heard
     }
 
@@ -458,7 +458,7 @@ mod tests {
         for mode in FRAME_MODES {
             for element in 1..mode.elements() {
                 let at = mode.sample_at(element);
-                let heard = &damaged(mode, &some_code(mode), at, 1, QUIET)[..=at];
+                let heard = &damaged(mode, &some_code(mode), at, QUIET)[..=at];
                 let mut reader = Reader::fresh(mode);
                 assert_eq!(hears(&mut reader, heard), [fault(Cause::Quiet, at)]);
                 check_wait(mode, reader);
@@ -470,7 +470,7 @@ mod tests {
     fn a_stop_that_is_space_is_one_fault_there() {
         for mode in FRAME_MODES {
             for at in stops(mode).map(|element| mode.sample_at(element)) {
-                let heard = &damaged(mode, &some_code(mode), at, 1, SPACE)[..=at];
+                let heard = &damaged(mode, &some_code(mode), at, SPACE)[..=at];
                 let mut reader = Reader::fresh(mode);
                 assert_eq!(hears(&mut reader, heard), [fault(Cause::StopNotMark, at)]);
                 check_wait(mode, reader);
@@ -482,7 +482,7 @@ mod tests {
     fn odd_parity_is_one_fault_at_its_sample() {
         for (character, wrong) in [(b'S', MARK), (b'C', SPACE)] {
             let at = Mode::Edt.sample_at(8);
-            let heard = damaged(Mode::Edt, &Code::SevenBits(character), at, 1, wrong);
+            let heard = damaged(Mode::Edt, &Code::SevenBits(character), at, wrong);
             let mut reader = Reader::fresh(Mode::Edt);
             assert_eq!(hears(&mut reader, &heard[..=at]), [fault(Cause::OddParity, at)]);
             check_wait(Mode::Edt, reader);
@@ -517,10 +517,13 @@ mod tests {
             for number in 0..3usize.pow(samples.len() as u32) {
                 let level = |place: usize| (number / 3usize.pow(place as u32) % 3) as u8;
                 let levels: Vec<u8> = (0..samples.len()).map(level).collect();
-                let good_start = levels[0] == SPACE;
-                let gives = if good_start { frame_gives(mode, &levels) } else { None };
-                let end = if good_start { samples.len() - 1 } else { 0 };
-                let end = gives.map_or(samples[end], |(ms, _)| ms);
+                // Up to the sample that decides.
+                let (gives, end) = if levels[0] == SPACE {
+                    let gives = frame_gives(mode, &levels);
+                    (gives, gives.map_or(samples[samples.len() - 1], |(ms, _)| ms))
+                } else {
+                    (None, samples[0])
+                };
                 for between in [QUIET, MARK, SPACE] {
                     let mut heard = vec![between; end + 1];
                     heard[0] = SPACE;
