@@ -3,7 +3,7 @@
  * exactly as long as it is lent, so that an access outside shows; slices to be written are often left as malloc
  * gives them, so that a decision on their old content shows, too. Levels, characters, codes, tones, lengths and
  * states are now and then out of range. Also checks that a refusal leaves what was lent as it was, that a result
- * keeps within its range, and that every answer comes.
+ * keeps within its range, and that every answer and every cause of a fault comes.
  *
  *     memory [ROUNDS]
  */
@@ -16,10 +16,10 @@
 #define STATIONS 6
 #define ROUNDS 15000
 #define ANSWERS 13 /* 0 to 12 */
+#define CAUSES 6 /* 1 to 5 */
 #define PATTERN 0xA5
-#define FAULT 0x10000000u
 
-static unsigned long failures, answers[ANSWERS];
+static unsigned long failures, answers[ANSWERS], causes[CAUSES];
 
 static void check(int holds, const char *what)
 {
@@ -242,25 +242,53 @@ static void offer(cq_station *station)
     free(text);
 }
 
-/* Whether each of the words is a character or a fault. */
-static int are_words(const uint32_t *words, size_t count)
+/* Whether a frame of the mode can break at this ms for this cause: quiet (1) at the middle of any element behind the
+ * start, a stop that is not mark (2) at that of a stop, odd parity (3) at that of the parity. */
+static int breaks(uint8_t mode, uint32_t ms, uint32_t cause)
+{
+    int edt = mode == CQ_MODE_EDT;
+    uint32_t e = mode == CQ_MODE_BAUDOT_45 ? 22 : 20, elements = edt ? 11 : 7, digits = edt ? 7 : 5, element;
+    for (element = 1; element < elements; element++) {
+        if (ms == (edt ? (100 * element + 50) / 11 : e * element + e / 2)) {
+            int parity = edt && element == digits + 1;
+            return cause == 1 || (cause == 2 && element > digits && !parity) || (cause == 3 && parity);
+        }
+    }
+    return 0;
+}
+
+/* Whether each of the words is a character, or a fault that a reader of the mode can give: kind 1, the ms from bit 8
+ * on, the cause in the lowest four. Counts the causes. */
+static int are_words(uint8_t mode, const uint32_t *words, size_t count)
 {
     size_t i;
     for (i = 0; i < count; i++) {
-        if (words[i] > 0x7F && words[i] != FAULT) {
+        uint32_t ms = words[i] >> 8 & 0xFFFFF, cause = words[i] & 0xF;
+        if (words[i] <= 0x7F) {
+            continue;
+        }
+        if (words[i] != (0x10000000 | ms << 8 | cause) ||
+            !(mode == CQ_MODE_DTMF ? ms == 0 && (cause == 4 || cause == 5) : breaks(mode, ms, cause))) {
             return 0;
         }
+        causes[cause]++;
     }
     return 1;
 }
 
-/* Heard ms: all quiet, runs of one level, or any level in each ms. */
+/* Heard ms: all quiet, runs of one level, or any level in each ms; in DTMF also keys that count, many of them * and #,
+ * with quiet between them. */
 static uint8_t *lend_heard(size_t ms, uint8_t mode)
 {
     unsigned levels = one_in(3) ? 1u : CQ_LEVEL_MAX(mode) + 1u;
     uint8_t *heard = lend_values(ms, levels);
     size_t i;
-    if (one_in(2)) {
+    if (mode == CQ_MODE_DTMF && one_in(3)) {
+        for (i = 0; i < ms; i++) {
+            uint8_t next = (uint8_t)(one_in(2) ? CQ_KEY_STAR + below(2) : 1 + below(CQ_KEY_D));
+            heard[i] = i / 45 % 2 == 1 ? CQ_LEVEL_QUIET : i % 45 == 0 ? next : heard[i - 1];
+        }
+    } else if (one_in(2)) {
         for (i = 1; i < ms; i++) {
             heard[i] = one_in(25) ? heard[i] : heard[i - 1];
         }
@@ -280,7 +308,7 @@ static void run(cq_station *station)
     check(stays(&words, r.words * sizeof(uint32_t)), "words behind the result");
     if (succeeds(r.answer)) {
         check(ms <= sent.bytes && all_below(sent.memory, ms, CQ_LEVEL_MAX(station->core.mode) + 1u), "sent ms");
-        check(r.words <= ms && are_words(words.memory, r.words), "words");
+        check(r.words <= ms && are_words(station->core.mode, words.memory, r.words), "words");
     } else {
         check(r.words == 0 && memcmp(station, &before, sizeof before) == 0, "refusal of cq_station_run");
     }
@@ -330,6 +358,9 @@ int main(int argc, char **argv)
     for (i = 0; i < ANSWERS && rounds >= ROUNDS; i++) {
         check(answers[i] > 0, "an answer that never comes");
     }
+    for (i = 1; i < CAUSES && rounds >= ROUNDS; i++) {
+        check(causes[i] > 0, "a cause that never comes");
+    }
     if (failures != 0) {
         printf("memory: %lu checks failed\n", failures);
         return 1;
@@ -337,6 +368,10 @@ int main(int argc, char **argv)
     printf("memory: %ld rounds passed; times that each answer came, from 0 on:", rounds);
     for (i = 0; i < ANSWERS; i++) {
         printf(" %lu", answers[i]);
+    }
+    fputs("; each cause, from 1 on:", stdout);
+    for (i = 1; i < CAUSES; i++) {
+        printf(" %lu", causes[i]);
     }
     putchar('\n');
     return 0;

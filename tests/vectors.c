@@ -12,7 +12,6 @@
 
 #define MOST_MS 40000
 #define MOST_ITEMS 1000 /* codes, words, characters or offers of a case */
-#define FAULT 0x10000000u
 
 struct offer {
     unsigned long ms;
@@ -316,12 +315,7 @@ static void words_field(char *at)
         struct word *word = &vector.word[vector.words];
         full(vector.words++);
         word->ms = number(&at, 10, ':');
-        if (strncmp(at, "fault", 5) == 0) {
-            word->word = FAULT;
-            at += at[5] == ' ' ? 6 : 5;
-        } else {
-            word->word = (uint32_t)number(&at, 16, ' ');
-        }
+        word->word = (uint32_t)number(&at, 16, ' ');
     }
 }
 

@@ -7,11 +7,12 @@ use reference::annex::{FIGURES, LETTERS};
 use reference::answer::{STATE, SUCCESS};
 use reference::baudot::REPEAT;
 use reference::demand3::Entries;
+use reference::fault::is_word;
 use reference::line::{Code, KEYS, PREFIXES, QUIET};
 use reference::mode::Mode;
 use reference::normal::Alphabet;
 use reference::random::Random;
-use reference::reader::{FAULT, IN_A_ROW};
+use reference::reader::IN_A_ROW;
 use reference::station::{Part, Ran, FREE, INHIBITED, MOST_MS, MOST_WAITING};
 use std::process::exit;
 use std::sync::LazyLock;
@@ -368,12 +369,11 @@ fn ran(random: &mut Random, station: &Station) -> bool {
         (answers, after, sent, words, first.words + second.words)
     };
     let (answers, mut after, sent, words, count) = play(ms);
-    let good_word = |&word: &u32| word < 0x80 || word == FAULT;
     answers
         && in_range(&after)
         && sent[..ms].iter().all(|&level| level <= highest)
         && sent[ms..].iter().all(|&level| level == 9)
-        && words[..count].iter().all(good_word)
+        && words[..count].iter().all(|&word| is_word(mode, word))
         && words[count..].iter().all(|&word| word == 9)
         && play(random.below(ms + 1)) == (answers, after, sent, words, count)
         && as_reference(station, heard)

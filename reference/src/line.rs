@@ -22,6 +22,19 @@ pub const KEY_GAP: usize = 50;
 pub const PREFIXES: [&str; 15] =
     ["", "*", "#", "**", "*#", "#*", "##", "***", "**#", "*#*", "*##", "#**", "#*#", "##*", "###"];
 
+/// Every list of up to so many * and #, in the order of `PREFIXES`.
+pub fn sign_lists(most: usize) -> Vec<String> {
+    let mut lists = vec![String::new()];
+    let mut longest = 0..1;
+    for _ in 0..most {
+        for place in longest.clone() {
+            lists.extend(["*", "#"].map(|sign| format!("{}{sign}", lists[place])));
+        }
+        longest = longest.end..lists.len();
+    }
+    lists
+}
+
 /// A line code: of Baudot, of DTMF (a prefix and a digit) or of EDT.
 #[derive(Clone, Debug, PartialEq, Eq)]
 pub enum Code {
@@ -182,6 +195,12 @@ mod tests {
             }
         }
         assert_eq!(Mode::ALL.map(|mode| codes(mode).len()), [32, 32, 150, 128]);
+    }
+
+    #[test]
+    fn lists_of_signs() {
+        assert_eq!(sign_lists(3), PREFIXES);
+        assert_eq!(sign_lists(6).len(), 127);
     }
 
     #[test]

@@ -1,12 +1,10 @@
 //! The readers: from the level of each heard ms to the output words (document 01: house words).
 
 use crate::annex::{dtmf_rows, BAUDOT_READS, FIGURES_CODE, LETTERS_CODE};
+use crate::fault::{Cause, Fault, LETTER_KEY, NO_ROW};
 use crate::line::{key_number, KEYS, MARK, QUIET, SPACE};
 use crate::mode::Mode;
 use std::sync::LazyLock;
-
-/// The word of a fault. That of a character is its seven bits.
-pub const FAULT: u32 = 0x1000_0000;
 
 /// What a reading ms does.
 pub trait Hear {
@@ -160,29 +158,31 @@ impl FrameReader {
         FrameReader { frame, reads, next: HUNTING, bits: 0 }
     }
 
-    fn sample(&mut self, role: Role, level: u8) -> Option<u32> {
-        let good = match role {
-            Role::Between => true,
+    /// A ms of a frame that is a sample.
+    fn sample(&mut self, ms: u8, role: Role, level: u8) -> Option<u32> {
+        let cause = match role {
+            Role::Between => None,
             Role::Start => {
                 self.bits = 0;
                 if level != SPACE {
                     self.next = HUNTING;
                 }
-                true
+                None
             }
+            _ if level == QUIET => Some(Cause::Quiet),
             Role::Bit(place) => {
                 self.bits |= u8::from(level == MARK) << place;
-                level != QUIET
+                None
             }
             Role::Parity => {
                 let ones = self.bits.count_ones() + u32::from(level == MARK);
-                level != QUIET && ones.is_multiple_of(2)
+                (!ones.is_multiple_of(2)).then_some(Cause::OddParity)
             }
-            Role::Stop | Role::Last => level == MARK,
+            Role::Stop | Role::Last => (level != MARK).then_some(Cause::StopNotMark),
         };
-        if !good {
+        if let Some(cause) = cause {
             self.next = WAITING;
-            return Some(FAULT);
+            return Some(Fault { cause, ms: usize::from(ms) }.word());
         }
         if role != Role::Last {
             return None;
@@ -228,7 +228,7 @@ impl Hear for FrameReader {
                 self.next = ms + 1;
                 match self.frame.roles[usize::from(ms) % LONGEST] {
                     Role::Between => None,
-                    role => self.sample(role, level),
+                    role => self.sample(ms, role, level),
                 }
             }
         }
@@ -253,7 +253,7 @@ const HASH: u8 = 12;
 
 /// What a prefix and a digit (1 to 10) read as.
 static DTMF_READS: LazyLock<[[u32; 11]; 17]> = LazyLock::new(|| {
-    let mut reads = [[FAULT; 11]; 17];
+    let mut reads = [[NO_ROW.word(); 11]; 17];
     for (code, character, struck) in dtmf_rows() {
         if !struck {
             let mut keys = code.chars().map(key_number);
@@ -309,7 +309,7 @@ impl KeyReader {
                 None
             }
             1..STAR => Some(DTMF_READS[usize::from(prefix)][usize::from(key)]),
-            _ => Some(FAULT),
+            _ => Some(LETTER_KEY.word()),
         }
     }
 }
@@ -340,7 +340,7 @@ impl Hear for KeyReader {
 mod tests {
     use super::*;
     use crate::annex::{dtmf_reads, FIGURES_CODE};
-    use crate::line::{codes, preamble, signal, text_codes, Code, KEY_GAP, PREFIXES};
+    use crate::line::{codes, preamble, sign_lists, signal, text_codes, Code, KEY_GAP};
 
     const FRAME_MODES: [Mode; 3] = [Mode::Baudot45, Mode::Baudot50, Mode::Edt];
 
@@ -412,7 +412,7 @@ mod tests {
     fn every_dtmf_code_is_read_back_at_the_40th_ms_of_its_digit() {
         for code in codes(Mode::Dtmf) {
             let keys = code.to_string();
-            let word = dtmf_reads(&keys).map_or(FAULT, u32::from);
+            let word = dtmf_reads(&keys).map_or(NO_ROW.word(), u32::from);
             let ms = 120 * (keys.len() - 1) + 39;
             assert_eq!(fresh_words(Mode::Dtmf, &signal(Mode::Dtmf, &code)), [(ms, word)]);
         }
@@ -432,10 +432,24 @@ mod tests {
         }
     }
 
-    /// The signal of a code with other levels from a ms on, for a number of ms.
-    fn damaged(mode: Mode, code: &Code, at: usize, length: usize, level: u8) -> Vec<u8> {
+    /// The word of a fault, ahead of it its ms: it comes in the ms of its sample.
+    fn fault(cause: Cause, ms: usize) -> (usize, u32) {
+        (ms, Fault { cause, ms }.word())
+    }
+
+    /// The elements that are stops.
+    fn stops(mode: Mode) -> std::ops::Range<usize> {
+        if mode == Mode::Edt {
+            9..11
+        } else {
+            6..7
+        }
+    }
+
+    /// The signal of a code with another level in one ms.
+    fn damaged(mode: Mode, code: &Code, at: usize, level: u8) -> Vec<u8> {
         let mut heard = signal(mode, code);
-        heard[at..at + length].fill(level);
+        heard[at] = level;
         heard
     }
 
@@ -444,25 +458,22 @@ mod tests {
         for mode in FRAME_MODES {
             for element in 1..mode.elements() {
                 let at = mode.sample_at(element);
-                let heard = &damaged(mode, &some_code(mode), at, 1, QUIET)[..=at];
+                let heard = &damaged(mode, &some_code(mode), at, QUIET)[..=at];
                 let mut reader = Reader::fresh(mode);
-                assert_eq!(hears(&mut reader, heard), [(at, FAULT)]);
+                assert_eq!(hears(&mut reader, heard), [fault(Cause::Quiet, at)]);
                 check_wait(mode, reader);
             }
         }
     }
 
     #[test]
-    fn a_stop_that_is_not_mark_is_one_fault_there() {
+    fn a_stop_that_is_space_is_one_fault_there() {
         for mode in FRAME_MODES {
-            let stops = if mode == Mode::Edt { 9..11 } else { 6..7 };
-            for at in stops.map(|element| mode.sample_at(element)) {
-                for level in [QUIET, SPACE] {
-                    let heard = &damaged(mode, &some_code(mode), at, 1, level)[..=at];
-                    let mut reader = Reader::fresh(mode);
-                    assert_eq!(hears(&mut reader, heard), [(at, FAULT)]);
-                    check_wait(mode, reader);
-                }
+            for at in stops(mode).map(|element| mode.sample_at(element)) {
+                let heard = &damaged(mode, &some_code(mode), at, SPACE)[..=at];
+                let mut reader = Reader::fresh(mode);
+                assert_eq!(hears(&mut reader, heard), [fault(Cause::StopNotMark, at)]);
+                check_wait(mode, reader);
             }
         }
     }
@@ -471,14 +482,66 @@ mod tests {
     fn odd_parity_is_one_fault_at_its_sample() {
         for (character, wrong) in [(b'S', MARK), (b'C', SPACE)] {
             let at = Mode::Edt.sample_at(8);
-            let heard = damaged(Mode::Edt, &Code::SevenBits(character), at, 1, wrong);
+            let heard = damaged(Mode::Edt, &Code::SevenBits(character), at, wrong);
             let mut reader = Reader::fresh(Mode::Edt);
-            assert_eq!(hears(&mut reader, &heard[..=at]), [(at, FAULT)]);
+            assert_eq!(hears(&mut reader, &heard[..=at]), [fault(Cause::OddParity, at)]);
             check_wait(Mode::Edt, reader);
         }
-        // A bit that is wrong makes it odd too.
-        let heard = damaged(Mode::Edt, &Code::SevenBits(b'S'), Mode::Edt.sample_at(3), 1, MARK);
-        assert_eq!(fresh_words(Mode::Edt, &heard), [(77, FAULT)]);
+    }
+
+    /// What a frame whose start is good gives, by the level at each sample: the ms and the word.
+    fn frame_gives(mode: Mode, levels: &[u8]) -> Option<(usize, u32)> {
+        for element in 1..mode.elements() {
+            let marks = levels[1..=element].iter().filter(|&&level| level == MARK).count();
+            let cause = match levels[element] {
+                QUIET => 1,
+                SPACE if stops(mode).contains(&element) => 2,
+                _ if mode == Mode::Edt && element == 8 && marks % 2 == 1 => 3,
+                _ => continue,
+            };
+            let ms = mode.sample_at(element);
+            return Some((ms, 0x1000_0000 | (ms as u32) << 8 | cause));
+        }
+        let bits = if mode == Mode::Edt { 7 } else { 5 };
+        let code = (0..bits).map(|place| u8::from(levels[1 + place] == MARK) << place).sum();
+        let read = if mode == Mode::Edt { Some(code) } else { BAUDOT_READS[0][usize::from(code)] };
+        read.map(|character| (mode.sample_at(mode.elements() - 1), u32::from(character)))
+    }
+
+    /// Every level at every sample, whatever stands between the samples.
+    #[test]
+    fn every_frame_gives_its_character_or_its_fault() {
+        for mode in FRAME_MODES {
+            let samples: Vec<_> = (0..mode.elements()).map(|j| mode.sample_at(j)).collect();
+            let mut met = Vec::new();
+            for number in 0..3usize.pow(samples.len() as u32) {
+                let level = |place: usize| (number / 3usize.pow(place as u32) % 3) as u8;
+                let levels: Vec<u8> = (0..samples.len()).map(level).collect();
+                // Up to the sample that decides.
+                let (gives, end) = if levels[0] == SPACE {
+                    let gives = frame_gives(mode, &levels);
+                    (gives, gives.map_or(samples[samples.len() - 1], |(ms, _)| ms))
+                } else {
+                    (None, samples[0])
+                };
+                for between in [QUIET, MARK, SPACE] {
+                    let mut heard = vec![between; end + 1];
+                    heard[0] = SPACE;
+                    for (&ms, &level) in samples.iter().zip(&levels).filter(|(&ms, _)| ms <= end) {
+                        heard[ms] = level;
+                    }
+                    assert_eq!(fresh_words(mode, &heard), Vec::from_iter(gives), "{levels:?}");
+                }
+                met.extend(gives.map(|(_, word)| word));
+            }
+            met.sort();
+            met.dedup();
+            met.retain(|&word| word >= 0x80);
+            let mut wanted: Vec<u32> =
+                Fault::of_mode(mode).iter().map(|fault| fault.word()).collect();
+            wanted.sort();
+            assert_eq!(met, wanted);
+        }
     }
 
     /// A reader that has just given a fault waits while it hears space; a ms that is not space
@@ -601,30 +664,26 @@ mod tests {
         assert_eq!(words(&mut reader, &keys(&[('1', 1)])), [u32::from(b'a')]);
     }
 
+    /// Every key behind every list of up to six signs; a digit behind it shows the signs in hand.
     #[test]
-    fn a_to_d_fault_and_empty_the_prefix() {
+    fn every_list_of_signs_with_every_key() {
+        let reads = |code: &str| match dtmf_reads(code) {
+            Some(character) => u32::from(character),
+            None => 0x1000_0004,
+        };
         let b = u32::from(b'b');
-        for key in ["A", "B", "C", "D"] {
-            for prefix in PREFIXES {
-                assert_eq!(typed(&format!("{prefix}{key}1")), [FAULT, b]);
+        for signs in sign_lists(6) {
+            for key in KEYS.chars() {
+                let code = format!("{signs}{key}");
+                let wanted = match key {
+                    '*' | '#' => vec![reads(&format!("{code}1"))],
+                    'A'..='D' => vec![0x1000_0005, b],
+                    _ => vec![reads(&code), b],
+                };
+                assert_eq!(typed(&format!("{code}1")), wanted, "{code}");
             }
         }
-    }
-
-    #[test]
-    fn more_than_three_signs_and_a_digit_fault() {
-        for prefix in ["****", "####", "##*#", "###*", "*****", "#*#*#*", "*********"] {
-            for digit in "1234567890".chars() {
-                assert_eq!(typed(&format!("{prefix}{digit}")), [FAULT]);
-            }
-        }
-    }
-
-    #[test]
-    fn a_prefix_does_not_survive_a_digit() {
-        assert_eq!(typed("*11"), [u32::from(b'a'), u32::from(b'b')]);
-        assert_eq!(typed("####11"), [FAULT, u32::from(b'b')]);
-        assert_eq!(typed("***11"), [FAULT, u32::from(b'b')]);
+        assert_eq!(typed("*********11"), [NO_ROW.word(), b]);
     }
 
     #[test]

@@ -499,7 +499,6 @@ mod tests {
     use super::*;
     use crate::line::SPACE as SPACE_LEVEL;
     use crate::line::{burst_codes, codes, preamble, runs, signal, text_codes, Code};
-    use crate::reader::FAULT;
 
     /// Runs a list of heard ms in calls of at most 4,096; gives back what was sent and the words.
     fn hears(station: &mut Station, heard: &[u8]) -> (Vec<u8>, Vec<u32>) {
@@ -841,9 +840,9 @@ mod tests {
     #[test]
     fn faults_are_words() {
         let mut station = Station::fresh(Mode::Edt);
-        assert_eq!(hears(&mut station, &[SPACE_LEVEL; 200]).1, [FAULT]);
+        assert_eq!(hears(&mut station, &[SPACE_LEVEL; 200]).1, [0x1000_5602]);
         let mut station = Station::fresh(Mode::Dtmf);
-        assert_eq!(hears(&mut station, &[16; 200]).1, [FAULT]);
+        assert_eq!(hears(&mut station, &[16; 200]).1, [0x1000_0005]);
     }
 
     #[test]

@@ -8,11 +8,11 @@ use reference::answer::{
     CHARACTER, DURATION, LEVEL, MODE, SENT_SLICE, SPACE, STATE, SUCCESS, WORD_SLICE,
 };
 use reference::demand3::Entries;
+use reference::fault::{Cause, Fault};
 use reference::line::{codes, key_number, preamble, signal, text_codes, QUIET};
 use reference::line::{KEYS, KEY_GAP, KEY_LENGTH};
 use reference::mode::Mode;
 use reference::random::Random;
-use reference::reader::FAULT;
 use reference::send_model::{Part, SendModel};
 use reference::station::{Ran, Station, MOST_MS, MOST_WAITING};
 use std::process::exit;
@@ -33,7 +33,11 @@ enum Thing {
     HeardInhibited,
     CodesAfterInhibition,
     Characters,
-    Faults,
+    Quiet,
+    StopNotMark,
+    OddParity,
+    NoRow,
+    LetterKey,
     DelToLetters,
     ShiftRepeated,
     OpensInLetters,
@@ -51,8 +55,10 @@ enum Thing {
 const ALL: &[u8] = &[1, 2, 3, 4];
 const BAUDOT: &[u8] = &[1, 2];
 const DTMF: &[u8] = &[3];
+const EDT: &[u8] = &[4];
+const FRAMES: &[u8] = &[1, 2, 4];
 
-const THINGS: [(Thing, &str, &[u8]); 23] = [
+const THINGS: [(Thing, &str, &[u8]); 27] = [
     (Thing::Bursts, "bursts", ALL),
     (Thing::BackToBack, "bursts right behind another", ALL),
     (Thing::OffersInABurst, "offers in a burst", ALL),
@@ -63,7 +69,11 @@ const THINGS: [(Thing, &str, &[u8]); 23] = [
     (Thing::HeardInhibited, "signal after it", ALL),
     (Thing::CodesAfterInhibition, "codes as inhibition ends", ALL),
     (Thing::Characters, "characters", ALL),
-    (Thing::Faults, "faults", ALL),
+    (Thing::Quiet, "faults by quiet", FRAMES),
+    (Thing::StopNotMark, "by a stop", FRAMES),
+    (Thing::OddParity, "by parity", EDT),
+    (Thing::NoRow, "faults by no row", DTMF),
+    (Thing::LetterKey, "by A to D", DTMF),
     (Thing::DelToLetters, "DEL in figures", BAUDOT),
     (Thing::ShiftRepeated, "shift codes after 72", BAUDOT),
     (Thing::OpensInLetters, "later bursts in letters", BAUDOT),
@@ -400,7 +410,15 @@ impl Session<'_> {
         if found.answer == SUCCESS {
             self.met.ms += heard.len() as u64;
             for &word in &words_found[MARGIN..MARGIN + found.words] {
-                self.met.add(if word == FAULT { Thing::Faults } else { Thing::Characters });
+                let fault = Fault::of_word(self.mode, word);
+                self.met.add(match fault.map(|fault| fault.cause) {
+                    None => Thing::Characters,
+                    Some(Cause::Quiet) => Thing::Quiet,
+                    Some(Cause::StopNotMark) => Thing::StopNotMark,
+                    Some(Cause::OddParity) => Thing::OddParity,
+                    Some(Cause::NoRow) => Thing::NoRow,
+                    Some(Cause::LetterKey) => Thing::LetterKey,
+                });
             }
             self.met_run(&before, heard, &sent_found[MARGIN..]);
         }

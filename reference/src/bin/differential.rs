@@ -1,8 +1,8 @@
 //! Compares the engine with the reference on random conversions, on a calling set's random ms, on
-//! every head of a Baudot burst and on stations' random calls, refused and damaged ones among them,
-//! and checks demand 3 with the engine as both stations. Arguments: number of cases (one sending,
-//! one reading, four ms of the calling set and 35 ms of stations in each mode), seed. Exit 1 on a
-//! difference.
+//! every head of a Baudot burst, on every spoiled frame and on stations' random calls, refused and
+//! damaged ones among them, and checks demand 3 with the engine as both stations. Arguments: number
+//! of cases (one sending, one reading, four ms of the calling set and 35 ms of stations in each
+//! mode), seed. Exit 1 on a difference.
 
 #[path = "../burst_heads.rs"]
 mod burst_heads;
@@ -12,6 +12,8 @@ mod calling_sessions;
 mod damaged_stations;
 #[path = "../engine.rs"]
 mod engine;
+#[path = "../fault_words.rs"]
+mod fault_words;
 #[path = "../station_sessions.rs"]
 mod station_sessions;
 
@@ -71,6 +73,7 @@ fn main() {
     );
     println!("{}", calling_sessions::compare(&mut random, (4 * cases).max(1_000_000)));
     println!("{}", burst_heads::compare(&mut random));
+    println!("{}", fault_words::compare(&mut random));
     println!("{}", station_sessions::compare(&mut random, (30 * cases).max(1_000_000)));
     println!("{}", damaged_stations::check(&mut random, 10_000));
     for mode in Mode::ALL {

@@ -13,13 +13,13 @@ use reference::annex::{EITHER, FIGURES, FIGURES_CODE, LETTERS, LETTERS_CODE};
 use reference::answer::SUCCESS;
 use reference::demand3::Entries;
 use reference::departures::{DEPARTURES, MISSING_TABS};
+use reference::fault::NO_ROW;
 use reference::line::{runs, signal, Code, KEYS, KEY_GAP, KEY_LENGTH, QUIET};
 use reference::mode::Mode;
 use reference::print::{
     cell_differences, character, conversion_differences, conversions, damage_differences,
     definition, reference_tables, sent_bits, take, Conversions, Reference, NONE,
 };
-use reference::reader::FAULT;
 use reference::station::MOST_MS;
 use std::fs::read_to_string;
 use std::process::exit;
@@ -157,7 +157,7 @@ impl Conversions for Engine {
         let mut station = <Station as Entries>::open(Mode::Dtmf);
         let ran = station.run(&heard, &mut sent, &mut words);
         match (ran.answer, &words[..ran.words]) {
-            (SUCCESS, &[FAULT]) => NONE.to_string(),
+            (SUCCESS, &[word]) if word == NO_ROW.word() => NONE.to_string(),
             (SUCCESS, &[word @ 0..0x80]) => character(word as u8),
             _ => odd((ran, words)),
         }

@@ -414,11 +414,11 @@ impl Cases {
         }
     }
 
-    /// A to D, alone and behind a prefix, and a digit after them.
+    /// A to D, alone, behind a prefix and behind one that is too long, and a digit after them.
     fn letter_keys(&mut self) {
         for key in "ABCD".chars() {
             self.tape.fresh(Mode::Dtmf);
-            for prefix in PREFIXES {
+            for prefix in PREFIXES.into_iter().chain(["****", "##*#", "*#*#*"]) {
                 self.typed(prefix);
                 let ms = self.random.pick(&[39, 40, 70]);
                 self.key(key, ms);
@@ -503,6 +503,7 @@ impl Cases {
 #[cfg(test)]
 mod tests {
     use super::*;
+    use reference::fault::Fault;
     use reference::tape::is_input;
 
     #[test]
@@ -518,10 +519,30 @@ mod tests {
     }
 
     #[test]
+    fn every_fault_of_every_mode_is_met() {
+        let output = String::from_utf8(words(&input()).unwrap()).unwrap();
+        for mode in Mode::ALL {
+            let title = format!("mode {}", mode.number());
+            let mut here = false;
+            let mut met = Vec::new();
+            for line in output.lines() {
+                match line.split_once(' ').unwrap() {
+                    ("mode", _) => here = line == title,
+                    (_, word) if here => met.push(word.parse().unwrap()),
+                    _ => {}
+                }
+            }
+            for fault in Fault::of_mode(mode) {
+                assert!(met.contains(&fault.word()), "{fault:?}");
+            }
+        }
+    }
+
+    #[test]
     fn words_are_numbered_by_their_ms() {
         // 00000 at 50 bit/s, an inhibited ms, then a frame that goes over into quiet.
         let text = b"m22~2:1>\ni!2~2>0~";
-        let wanted = "mode 2\n130 8\n281 268435456\n";
+        let wanted = "mode 2\n130 8\n281 268468737\n";
         assert_eq!(String::from_utf8(words(text).unwrap()).unwrap(), wanted);
         assert_eq!(words(b"m12"), None);
     }

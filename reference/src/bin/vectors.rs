@@ -9,7 +9,6 @@ use reference::line::{
 };
 use reference::mode::Mode;
 use reference::random::Random;
-use reference::reader::FAULT;
 use reference::station::Station;
 use std::fmt::Write;
 use std::ops::Range;
@@ -144,14 +143,6 @@ fn end_of(mode: Mode, offers: &[Offer]) -> usize {
     bursts_of(mode, offers).last().map_or(0, |last| last.ms.end)
 }
 
-fn written(word: u32) -> String {
-    if word == FAULT {
-        "fault".to_string()
-    } else {
-        format!("{word:02X}")
-    }
-}
-
 /// The format.
 impl Cases {
     /// Lines that begin with a name, as many as the items need.
@@ -177,10 +168,8 @@ impl Cases {
     fn line_and_words(&mut self, line: &[u8]) {
         let runs: Vec<_> = runs(line).iter().map(|(level, ms)| format!("{level}:{ms}")).collect();
         self.items("line", &runs);
-        let words: Vec<_> = words(self.mode, line)
-            .iter()
-            .map(|(ms, word)| format!("{ms}:{}", written(*word)))
-            .collect();
+        let words: Vec<_> =
+            words(self.mode, line).iter().map(|(ms, word)| format!("{ms}:{word:02X}")).collect();
         self.items("words", &words);
     }
 
@@ -441,6 +430,10 @@ impl Cases {
                 }
             }
             self.damaged("odd parity", &odd, 0);
+            let mut quiet = clean.clone();
+            quiet[mode.sample_at(3)] = MARK + SPACE - quiet[mode.sample_at(3)];
+            quiet[mode.sample_at(8)] = QUIET;
+            self.damaged("one wrong digit, and quiet at the parity", &quiet, 20);
         }
     }
 
@@ -479,9 +472,10 @@ impl Cases {
             "key 6 with a ms of key D after 45 ms",
             &[broken, vec![QUIET; 50], typed("1")].concat(),
         );
-        for keys in
-            ["A", "B1", "*C2", "**D", "#A#1", "****1", "####5", "###*12", "*#*#*#*1", "**", "*1*"]
-        {
+        for keys in [
+            "A", "B1", "*C2", "**D", "#A#1", "***B", "****C", "#####D", "****1", "####5", "###*12",
+            "*#*#*#*1", "**", "*1*",
+        ] {
             self.hear(&format!("keys {keys} and then 2"), &typed(&format!("{keys}2")));
         }
     }
@@ -536,6 +530,7 @@ fn typed(keys: &str) -> Vec<u8> {
 mod tests {
     use super::*;
     use reference::annex::dtmf_sends;
+    use reference::fault::Fault;
 
     #[test]
     fn a_burst_is_its_preamble_and_its_codes() {
@@ -590,7 +585,9 @@ mod tests {
             assert!(cases.count() > 60);
             assert!(output.lines().all(|line| line.len() <= WIDTH && line.is_ascii()));
             assert!(output.len() < 64_000);
-            assert!(output.contains("fault"));
+            for fault in Fault::of_mode(mode) {
+                assert!(output.contains(&format!(":{:X}", fault.word())), "{fault:?}");
+            }
             assert_eq!(output, vectors(mode));
         }
     }
