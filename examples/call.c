@@ -53,16 +53,16 @@ static const char *const dialogue[] = {
     "ok, ringing: (555 0142) sk",
 };
 
-/* The causes of a fault, by number: the sign in a text, and the words in the count. */
+/* The causes of a fault: the sign in a text, and the words in the count. */
 static const struct {
     const char *sign, *words;
 } causes[] = {
-    {"fault", "of a cause that this host does not know"},
-    {"quiet", "quiet inside a frame"},
-    {"stop", "stop not mark"},
-    {"parity", "odd parity"},
-    {"no row", "code without a row"},
-    {"key A-D", "key A to D"},
+    [0] = {"fault", "of a cause that this host does not know"},
+    [CQ_CAUSE_QUIET] = {"quiet", "quiet inside a frame"},
+    [CQ_CAUSE_STOP_NOT_MARK] = {"stop", "stop not mark"},
+    [CQ_CAUSE_ODD_PARITY] = {"parity", "odd parity"},
+    [CQ_CAUSE_NO_ROW] = {"no row", "code without a row"},
+    [CQ_CAUSE_LETTER_KEY] = {"key A-D", "key A to D"},
 };
 #define CAUSES (sizeof causes / sizeof causes[0])
 
