@@ -4,7 +4,8 @@
  * been free for 300 ms. From then on each side reads what the other types, in turns. In DTMF the first character
  * may still be another one, since a * or # that was heard in the noise stands ahead of the first digit. Ahead of the
  * third turn both sides hear a number from another line. In Baudot both are then in figures; the next burst opens
- * with its shift code, so that it is read right all the same. examples/call.out is what it prints for all modes.
+ * with its shift code, so that it is read right all the same. A fault is shown with its cause and the ms of the frame
+ * at which it broke, as <stop 143>; the last lines count the causes. examples/call.out is what it prints for all modes.
  *
  *     make lib
  *     gcc -std=c99 -Iinclude examples/call.c target/staticlib/libcuyrapaq.a -o target/call
@@ -28,6 +29,7 @@
 #define KEY_GAP 50       /* quiet ms between two keys of a burst in DTMF */
 #define LONGEST 1000     /* characters of one turn */
 #define SHOWN 60         /* signs that fill a line of output */
+#define SIGN 24          /* the most bytes of what stands for a character or a fault */
 
 struct mode {
     const char *word; /* the argument */
@@ -50,6 +52,19 @@ static const char *const dialogue[] = {
     "yes try 555 0142, room 12 ga",
     "ok, ringing: (555 0142) sk",
 };
+
+/* The causes of a fault: the sign in a text, and the words in the count. */
+static const struct {
+    const char *sign, *words;
+} causes[] = {
+    [0] = {"fault", "of a cause that this host does not know"},
+    [CQ_CAUSE_QUIET] = {"quiet", "quiet inside a frame"},
+    [CQ_CAUSE_STOP_NOT_MARK] = {"stop", "stop not mark"},
+    [CQ_CAUSE_ODD_PARITY] = {"parity", "odd parity"},
+    [CQ_CAUSE_NO_ROW] = {"no row", "code without a row"},
+    [CQ_CAUSE_LETTER_KEY] = {"key A-D", "key A to D"},
+};
+#define CAUSES (sizeof causes / sizeof causes[0])
 
 /* A small random source (xorshift): the same numbers in every run. */
 struct random {
@@ -147,7 +162,7 @@ struct text {
     const char *verb;
     long first, last;
     size_t length;
-    char signs[SHOWN + 16];
+    char signs[SHOWN + SIGN];
 };
 
 /* One end of the line: a person at a station. */
@@ -161,6 +176,7 @@ struct side {
     long burst;     /* the ms at which its burst began, -1 outside a burst */
     long last_sent; /* the last ms in which it sent signal, -1 before the first */
     unsigned faults, faults_before; /* read in all, and before the first burst */
+    unsigned by_cause[CAUSES];      /* those of each cause */
 };
 
 static void show_text(const struct side *side, struct text *text)
@@ -188,7 +204,7 @@ static void add_signs(const struct side *side, struct text *text, long ms, const
 
 static void add_character(const struct side *side, struct text *text, long ms, uint8_t character)
 {
-    char signs[8];
+    char signs[SIGN];
     if (character >= 0x20 && character < 0x7F) {
         sprintf(signs, "%c", character);
     } else {
@@ -197,13 +213,26 @@ static void add_character(const struct side *side, struct text *text, long ms, u
     add_signs(side, text, ms, signs);
 }
 
+static void add_fault(struct side *side, long ms, uint32_t word)
+{
+    size_t cause = CQ_WORD_CAUSE(word) < CAUSES ? CQ_WORD_CAUSE(word) : 0;
+    char signs[SIGN];
+    if (CQ_WORD_MS(word) > 0) {
+        sprintf(signs, "<%s %u>", causes[cause].sign, CQ_WORD_MS(word));
+    } else {
+        sprintf(signs, "<%s>", causes[cause].sign); /* in DTMF there is no frame */
+    }
+    add_signs(side, &side->read, ms, signs);
+    side->faults++;
+    side->by_cause[cause]++;
+}
+
 static void add_word(struct side *side, long ms, uint32_t word)
 {
     if (CQ_WORD_KIND(word) == CQ_WORD_CHARACTER) {
         add_character(side, &side->read, ms, CQ_WORD_CHAR(word));
     } else {
-        add_signs(side, &side->read, ms, "<fault>");
-        side->faults++;
+        add_fault(side, ms, word);
     }
 }
 
@@ -340,6 +369,22 @@ static void first_burst(struct side sides[2])
     }
 }
 
+/* How many faults a side has read, and why. */
+static void show_faults(const struct side *side)
+{
+    const char *ahead = ": ";
+    size_t i;
+    printf("%-6s read %u faults before the first burst, %u from it on", side->name, side->faults_before,
+           side->faults - side->faults_before);
+    for (i = 0; i < CAUSES; i++) {
+        if (side->by_cause[i] > 0) {
+            printf("%s%u %s", ahead, side->by_cause[i], causes[i].words);
+            ahead = ", ";
+        }
+    }
+    putchar('\n');
+}
+
 /* A whole call. Each side hears in a run what the other sent in the run before. */
 static int call(const struct mode *mode, const char *const *texts, size_t count)
 {
@@ -370,8 +415,7 @@ static int call(const struct mode *mode, const char *const *texts, size_t count)
         show_text(&sides[i], &sides[i].read);
     }
     for (i = 0; i < 2; i++) {
-        printf("%-6s read %u faults before the first burst, %u from it on\n", sides[i].name,
-               sides[i].faults_before, sides[i].faults - sides[i].faults_before);
+        show_faults(&sides[i]);
     }
     return 0;
 }

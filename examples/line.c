@@ -5,7 +5,7 @@
  *     gcc -std=c99 -Iinclude examples/line.c target/staticlib/libcuyrapaq.a -o target/line
  *     printf 'HELLO 73' | target/line send baudot45            the sent ms as run lengths, LEVEL MS in each line
  *     target/line send baudot45 'GA' 'OK 73' 'SK'              the same of several turns, a burst for each
- *     printf '11 70\n0 50\n2 70\n' | target/line read dtmf     the words, each with its ms; then the text
+ *     printf '11 70\n0 50\n2 70\n' | target/line read dtmf     the words, each with its ms, faults with cause; the text
  *     printf 'E' | target/line svg baudot45 >e.svg             the burst as a picture
  *     target/line svg edt 41 >code.svg                         one code as a picture
  */
@@ -45,7 +45,7 @@ static const struct mode modes[] = {
 
 static const char usage[] = "usage: line send MODE <text         the ms that a station sends, LEVEL MS in each line\n"
                             "       line send MODE TEXT..        the same of several turns, a burst for each\n"
-                            "       line read MODE <runs         the words read from such lines, and the text\n"
+                            "       line read MODE <runs         the words read from such lines, faults with cause\n"
                             "       line svg MODE <text          a picture of the burst\n"
                             "       line svg MODE CODE           a picture of one code: 00001, **4 or 41 (EDT: hex)\n"
                             "MODE is baudot45, baudot50, dtmf or edt\n";
@@ -256,10 +256,27 @@ struct read {
     char *text;
 };
 
+/* Why a code could not be read. */
+static const char *cause(uint32_t fault)
+{
+    switch (CQ_WORD_CAUSE(fault)) {
+    case CQ_CAUSE_QUIET: return "quiet";
+    case CQ_CAUSE_STOP_NOT_MARK: return "stop not mark";
+    case CQ_CAUSE_ODD_PARITY: return "odd parity";
+    case CQ_CAUSE_NO_ROW: return "code without a row";
+    case CQ_CAUSE_LETTER_KEY: return "key A to D";
+    default: return "unknown cause";
+    }
+}
+
 static void keep_word(struct read *read, uint32_t word)
 {
     if (CQ_WORD_KIND(word) != CQ_WORD_CHARACTER) {
-        printf("%lu fault\n", read->ms);
+        printf("%lu fault: %s", read->ms, cause(word));
+        if (CQ_WORD_MS(word) > 0) { /* in DTMF there is no frame */
+            printf(" at ms %u of the frame", CQ_WORD_MS(word));
+        }
+        putchar('\n');
         read->faults++;
         return;
     }

@@ -24,7 +24,7 @@ extern "C" {
  * The version of the interface. MAJOR: a struct, an entry's contract or a refusal's meaning changed;
  * MINOR: entries were added; PATCH: the contracts are the same.
  */
-#define CQ_VERSION_MAJOR 4
+#define CQ_VERSION_MAJOR 5
 #define CQ_VERSION_MINOR 0
 #define CQ_VERSION_PATCH 0
 #define CQ_VERSION (CQ_VERSION_MAJOR * 10000L + CQ_VERSION_MINOR * 100L + CQ_VERSION_PATCH)
@@ -259,15 +259,36 @@ uint8_t cq_calling_run(cq_calling *state, const uint8_t *tones, size_t tones_len
 #define CQ_STATION_WAITING_MAX 256
 
 /*
- * Words. The kind stands in bits 31 to 28. A character, of T.50 and seven bits, stands in bits 6 to 0; the
- * character NULL (00) is a word like others, 0. All other bits are zero. A fault is a code that was heard
- * and could not be read.
+ * Words: what a station has read, a character or a fault. A fault is a code that was heard and could not be
+ * read. The bits of a word:
+ *
+ *    31   28 27                              8 7 6    4 3     0
+ *   +-------+---------------------------------+-+------+-------+
+ *   |   0   |                0                |0|  character   |   CQ_WORD_CHARACTER
+ *   +-------+---------------------------------+-+------+-------+
+ *   |   1   |       ms within the frame       |   0    | cause |   CQ_WORD_FAULT
+ *   +-------+---------------------------------+--------+-------+
+ *
+ * A character is one of T.50, of seven bits; NULL (00) is a word like others, 0. The frame is a code of Baudot
+ * or EDT as the reader counts it: its first space ms is ms 0. The ms in the word is that of the sample at which
+ * it broke, and the word comes in that ms. In DTMF there is no frame, and the ms is 0. A station gives no word
+ * of another kind and no other cause, whatever it hears; docs/MAKERS.md, section 5, lists all fault words.
  */
 #define CQ_WORD_CHARACTER 0
 #define CQ_WORD_FAULT     1
 
-#define CQ_WORD_KIND(word) ((unsigned)((uint32_t)(word) >> 28))
-#define CQ_WORD_CHAR(word) ((uint8_t)((uint32_t)(word) & 0x7F))
+/* The causes of a fault. */
+#define CQ_CAUSE_QUIET         1 /* Baudot, EDT: quiet at a sample behind the start's, also at parity or stop */
+#define CQ_CAUSE_STOP_NOT_MARK 2 /* Baudot, EDT: space at the sample of a stop element */
+#define CQ_CAUSE_ODD_PARITY    3 /* EDT: no quiet up to the parity's sample, and the parity is odd */
+#define CQ_CAUSE_NO_ROW        4 /* DTMF: a digit that ends a code without a row, or one behind four or more * and # */
+#define CQ_CAUSE_LETTER_KEY    5 /* DTMF: a key A to D, whatever stood ahead of it */
+
+/* Of any word its kind; of a character the character; of a fault its cause and its ms. */
+#define CQ_WORD_KIND(word)  ((unsigned)((uint32_t)(word) >> 28))
+#define CQ_WORD_CHAR(word)  ((uint8_t)((uint32_t)(word) & 0x7F))
+#define CQ_WORD_CAUSE(word) ((unsigned)((uint32_t)(word) & 0xF))
+#define CQ_WORD_MS(word)    ((unsigned)((uint32_t)(word) >> 8 & 0xFFFFF))
 
 /*
  * A station, which the host keeps: make it with cq_station_open, and let nothing but cq_station_offer and

@@ -1,7 +1,7 @@
 /*
  * Calls all entries through the header: the worked examples, the calling set's timetable, pause and
- * choice, a station that sends to another, several bursts, every refusal and what it leaves, empty slices,
- * slices that fit exactly, and the bytes around the result. Prints what failed.
+ * choice, a station that sends to another, several bursts, every fault word, every refusal and what it leaves,
+ * empty slices, slices that fit exactly, and the bytes around the result. Prints what failed.
  */
 #include "cuyrapaq.h"
 
@@ -158,14 +158,54 @@ static void layout(void)
           "numbers of the levels", "macros");
     check(CQ_LEVEL_MAX(CQ_MODE_DTMF) == 16 && CQ_LEVEL_MAX(CQ_MODE_EDT) == 2, "CQ_LEVEL_MAX", "macros");
     check(CQ_STATION_MS_MAX == 4096 && CQ_STATION_WAITING_MAX == 256, "most ms, most waiting", "macros");
-    check(CQ_WORD_KIND(0x41) == CQ_WORD_CHARACTER && CQ_WORD_CHAR(0x41) == 'A' &&
-              CQ_WORD_KIND(0x10000000) == CQ_WORD_FAULT,
-          "words taken apart", "macros");
+    check(CQ_WORD_CHARACTER == 0 && CQ_WORD_FAULT == 1 && CQ_CAUSE_QUIET == 1 && CQ_CAUSE_STOP_NOT_MARK == 2 &&
+              CQ_CAUSE_ODD_PARITY == 3 && CQ_CAUSE_NO_ROW == 4 && CQ_CAUSE_LETTER_KEY == 5,
+          "numbers of the kinds and causes", "macros");
     check(CQ_OK == 0 && CQ_REFUSED_STATE == 1 && CQ_REFUSED_MODE == 2 && CQ_REFUSED_CHARACTER == 3 &&
               CQ_REFUSED_FULL == 4 && CQ_REFUSED_DURATION == 5 && CQ_REFUSED_HEARD == 6 &&
               CQ_REFUSED_SENT_SLICE == 7 && CQ_REFUSED_WORD_SLICE == 8 && CQ_REFUSED_RESULT_SLICE == 9 &&
               CQ_REFUSED_CODE == 10 && CQ_REFUSED_TONE == 11 && CQ_REFUSED_CALLING_STATE == 12,
           "numbers of the answers", "macros");
+}
+
+/* Whether the macros take these numbers from a word. */
+static int parts(uint32_t word, unsigned kind, unsigned ms, unsigned cause, unsigned character)
+{
+    return CQ_WORD_KIND(word) == kind && CQ_WORD_MS(word) == ms && CQ_WORD_CAUSE(word) == cause &&
+           CQ_WORD_CHAR(word) == character;
+}
+
+static void words_taken_apart(void)
+{
+    unsigned bit, kind;
+    check(parts(0, CQ_WORD_CHARACTER, 0, 0, 0), "NULL", "macros of words");
+    check(parts(0x41, CQ_WORD_CHARACTER, 0, 1, 'A'), "A", "macros of words");
+    check(parts(0x7F, CQ_WORD_CHARACTER, 0, 15, 0x7F), "DEL", "macros of words");
+    check(parts(0x10002101, CQ_WORD_FAULT, 33, CQ_CAUSE_QUIET, 1), "quiet", "macros of words");
+    check(parts(0x10008F02, CQ_WORD_FAULT, 143, CQ_CAUSE_STOP_NOT_MARK, 2), "stop", "macros of words");
+    check(parts(0x10004D03, CQ_WORD_FAULT, 77, CQ_CAUSE_ODD_PARITY, 3), "parity", "macros of words");
+    check(parts(0x10000004, CQ_WORD_FAULT, 0, CQ_CAUSE_NO_ROW, 4), "no row", "macros of words");
+    check(parts(0x10000005, CQ_WORD_FAULT, 0, CQ_CAUSE_LETTER_KEY, 5), "letter key", "macros of words");
+    check(parts(0x1FFFFF0F, CQ_WORD_FAULT, 0xFFFFF, 15, 0x0F), "highest cause and ms", "macros of words");
+    check(parts(0xFFFFFFFF, 15, 0xFFFFF, 15, 0x7F), "all ones", "macros of words");
+    for (kind = 0; kind < 16; kind++) {
+        check(parts(kind << 28, kind, 0, 0, 0), "a kind alone", "macros of words");
+        check(parts(kind << 28 | 0x0FFFFFFF, kind, 0xFFFFF, 15, 0x7F), "a kind and ones", "macros of words");
+    }
+    for (bit = 0; bit < 32; bit++) {
+        uint32_t word = (uint32_t)1 << bit;
+        unsigned in_kind = bit >= 28 ? 1u << (bit - 28) : 0, in_ms = bit >= 8 && bit < 28 ? 1u << (bit - 8) : 0;
+        unsigned in_cause = bit < 4 ? 1u << bit : 0, in_character = bit < 7 ? 1u << bit : 0;
+        check(parts(word, in_kind, in_ms, in_cause, in_character), "one bit alone", "macros of words");
+        check(parts(~word, 15 - in_kind, 0xFFFFF - in_ms, 15 - in_cause, 0x7F - in_character), "all bits but one",
+              "macros of words");
+    }
+    /* An argument of several terms; a signed one. */
+    check(CQ_WORD_KIND(1u << 28 | 2) == 1 && CQ_WORD_MS(5u << 28 | 143 << 8 | 2) == 143 && CQ_WORD_CAUSE(16 | 2) == 2 &&
+              CQ_WORD_CHAR(128 | 65) == 'A',
+          "several terms", "macros of words");
+    check(CQ_WORD_KIND(-1) == 15 && CQ_WORD_MS(-1) == 0xFFFFF && CQ_WORD_CAUSE(-1) == 15 && CQ_WORD_CHAR(-1) == 0x7F,
+          "a signed argument", "macros of words");
 }
 
 /* A text, its codes as binary digits with a space between two, and what is read from them. */
@@ -617,7 +657,209 @@ static void station_examples(void)
     memset(heard, 1, 40);
     check(runs("40 ms", &station, heard, 100) == 1 && word_slice[0] == 'b', "a key of 40 ms", "DTMF");
     memset(heard, CQ_KEY_A, 40);
-    check(runs("key A", &station, heard, 100) == 1 && CQ_WORD_KIND(word_slice[0]) == CQ_WORD_FAULT, "a fault", "DTMF");
+    check(runs("key A", &station, heard, 100) == 1 && word_slice[0] == 0x10000005, "a fault", "DTMF");
+}
+
+/* The samples of document 01's frames, and a clean code: E, and in EDT DEL, whose parity is mark. */
+struct frame {
+    const char *name;
+    uint8_t mode, start; /* the ms of the start's sample */
+    size_t later, stops; /* how many samples come behind it, and how many of these are of stops */
+    uint8_t ms[10];      /* their ms */
+    uint8_t clean[10];   /* the levels of the clean code there */
+    uint32_t word;       /* its word */
+};
+
+static const struct frame frames[] = {
+    {"Baudot 45.45", CQ_MODE_BAUDOT_45, 11, 6, 1, {33, 55, 77, 99, 121, 143}, {1, 2, 2, 2, 2, 1}, 'E'},
+    {"Baudot 50", CQ_MODE_BAUDOT_50, 10, 6, 1, {30, 50, 70, 90, 110, 130}, {1, 2, 2, 2, 2, 1}, 'E'},
+    {"EDT", CQ_MODE_EDT, 4, 10, 2, {13, 22, 31, 40, 50, 59, 68, 77, 86, 95}, {1, 1, 1, 1, 1, 1, 1, 1, 1, 1}, 0x7F},
+};
+#define EDT_PARITY 7 /* the place of EDT's parity among these samples */
+
+static uint32_t fault_word(unsigned ms, unsigned cause)
+{
+    return 0x10000000u | (uint32_t)ms << 8 | cause;
+}
+
+/* The ms of a frame with these levels at its samples, and another one in between; gives back how many they are. */
+static size_t frame_ms(const struct frame *f, const uint8_t *levels, uint8_t between, uint8_t *heard)
+{
+    size_t i, all = f->ms[f->later - 1] + 1u;
+    memset(heard, between, all);
+    heard[0] = heard[f->start] = CQ_LEVEL_SPACE;
+    for (i = 0; i < f->later; i++) {
+        heard[f->ms[i]] = levels[i];
+    }
+    return all;
+}
+
+/* A frame gives one word, in the ms of sample `at`. Behind it and a ms of mark, a clean code is read. */
+static void frame_gives(const struct frame *f, const uint8_t *levels, uint8_t between, size_t at, uint32_t word)
+{
+    static const uint8_t mark[1] = {CQ_LEVEL_MARK};
+    uint8_t heard[144];
+    cq_station station = opened(f->mode);
+    size_t all = frame_ms(f, levels, between, heard);
+    check(runs(f->name, &station, heard, f->ms[at]) == 0, "no word ahead of the sample", f->name);
+    check(runs(f->name, &station, heard + f->ms[at], 1) == 1 && word_slice[0] == word, "word of a sample", f->name);
+    check(runs(f->name, &station, mark, 1) == 0, "no word behind the sample", f->name);
+    frame_ms(f, f->clean, CQ_LEVEL_QUIET, heard);
+    check(runs(f->name, &station, heard, all) == 1 && word_slice[0] == f->word, "the next code", f->name);
+}
+
+/* Quiet at each sample behind the start's, and space at each stop: whatever is heard between the samples. */
+static void frames_break(const struct frame *f, uint8_t between)
+{
+    uint8_t levels[10];
+    size_t i;
+    for (i = 0; i < f->later; i++) {
+        memcpy(levels, f->clean, sizeof levels);
+        levels[i] = CQ_LEVEL_QUIET;
+        frame_gives(f, levels, between, i, fault_word(f->ms[i], CQ_CAUSE_QUIET));
+        memset(levels + i, CQ_LEVEL_QUIET, f->later - i);
+        frame_gives(f, levels, between, i, fault_word(f->ms[i], CQ_CAUSE_QUIET));
+        if (i >= f->later - f->stops) {
+            memset(levels + i, CQ_LEVEL_SPACE, f->later - i);
+            frame_gives(f, levels, between, i, fault_word(f->ms[i], CQ_CAUSE_STOP_NOT_MARK));
+        }
+    }
+    frame_gives(f, f->clean, between, f->later - 1, f->word);
+}
+
+/* Each code of EDT: with its even parity, the other one, and quiet there. */
+static void parity(const struct frame *f)
+{
+    uint8_t levels[10];
+    unsigned code, bit;
+    memset(levels, CQ_LEVEL_MARK, sizeof levels);
+    for (code = 0; code < 128; code++) {
+        int odd = 0;
+        for (bit = 0; bit < 7; bit++) {
+            levels[bit] = code >> bit & 1 ? CQ_LEVEL_MARK : CQ_LEVEL_SPACE;
+            odd ^= code >> bit & 1;
+        }
+        levels[EDT_PARITY] = odd ? CQ_LEVEL_MARK : CQ_LEVEL_SPACE;
+        frame_gives(f, levels, CQ_LEVEL_QUIET, f->later - 1, code);
+        levels[EDT_PARITY] = odd ? CQ_LEVEL_SPACE : CQ_LEVEL_MARK;
+        frame_gives(f, levels, CQ_LEVEL_MARK, EDT_PARITY, 0x10004D03);
+        levels[EDT_PARITY] = CQ_LEVEL_QUIET;
+        frame_gives(f, levels, CQ_LEVEL_MARK, EDT_PARITY, 0x10004D01);
+    }
+}
+
+/* A fresh DTMF station hears these keys, and then a 1. It gives one word, and then b: no * or # is left. */
+static void keys_give(const char *prefix, char last, uint32_t word)
+{
+    static const char signs[] = "1234567890*#ABCD";
+    static uint8_t heard[10 * 80];
+    char keys[10];
+    cq_station station = opened(CQ_MODE_DTMF);
+    size_t i, n;
+    sprintf(keys, "%s%c1", prefix, last);
+    n = strlen(keys);
+    memset(heard, CQ_LEVEL_QUIET, sizeof heard);
+    for (i = 0; i < n; i++) {
+        memset(heard + i * 80, (int)(strchr(signs, keys[i]) - signs) + 1, 40);
+    }
+    check(runs(keys, &station, heard, n * 80) == 2, "two words", keys);
+    check(word_slice[0] == word && word_slice[1] == 'b', "words of keys", keys);
+}
+
+/* Digits behind a prefix that no row of Table B.1 has, and keys A to D behind any prefix. */
+static void keys_break(void)
+{
+    static const char *const no_row[] = {"#*",   "***",  "**#",  "*#*",  "*##",  "#**",   "#*#",
+                                         "****", "*##*", "###*", "####", "##**", "*****", "######"};
+    static const char *const any[] = {"", "*", "#", "**", "*#", "#*", "##", "***", "###", "****", "###*", "*****"};
+    size_t i, j;
+    for (i = 0; i < sizeof no_row / sizeof no_row[0]; i++) {
+        for (j = 0; j < 10; j++) {
+            keys_give(no_row[i], (char)('0' + j), 0x10000004);
+        }
+    }
+    for (i = 0; i < sizeof any / sizeof any[0]; i++) {
+        for (j = 0; j < 4; j++) {
+            keys_give(any[i], (char)('A' + j), 0x10000005);
+        }
+    }
+}
+
+/* All fault words of each mode (docs/MAKERS.md, section 5), ended by 0. */
+static const uint32_t fault_words[4][14] = {
+    {0x10002101, 0x10003701, 0x10004D01, 0x10006301, 0x10007901, 0x10008F01, 0x10008F02},
+    {0x10001E01, 0x10003201, 0x10004601, 0x10005A01, 0x10006E01, 0x10008201, 0x10008202},
+    {0x10000004, 0x10000005},
+    {0x10000D01, 0x10001601, 0x10001F01, 0x10002801, 0x10003201, 0x10003B01, 0x10004401, 0x10004D01, 0x10004D03,
+     0x10005601, 0x10005602, 0x10005F01, 0x10005F02},
+};
+
+/* Whether a ms of each level gives no word but a character or a fault of this list; notes the faults that came. */
+static int words_of_list(const cq_station *station, const uint32_t *list, int *came)
+{
+    uint8_t level, sent;
+    int all = 1;
+    for (level = 0; level <= CQ_LEVEL_MAX(station->core.mode); level++) {
+        cq_station copy = *station;
+        uint32_t word = 0;
+        cq_station_ran r = cq_station_run(&copy, &level, 1, &sent, 1, &word, 1);
+        size_t i = 0;
+        while (list[i] != 0 && list[i] != word) {
+            i++;
+        }
+        came[i] = 1;
+        all = all && r.answer == CQ_OK && (list[i] != 0 || word <= 0x7F);
+    }
+    return all;
+}
+
+/* Readers in range, also those that no list of calls gives: their faults are the words of the list, and each comes. */
+static void all_fault_words(uint8_t mode)
+{
+    static const unsigned places[] = {144, 131, 1, 96}, digits[] = {31, 31, 0, 127};
+    const uint32_t *list = fault_words[mode - 1];
+    cq_station station = opened(mode);
+    cq_reader *reader = &station.core.reader;
+    unsigned place, digit, key, prefix, ms;
+    int came[14] = {0}, all = 1;
+    size_t i;
+    for (place = 0; place <= places[mode - 1]; place++) {
+        for (digit = 0; digit <= digits[mode - 1]; digit++) {
+            reader->frame.place = (uint8_t)place;
+            reader->frame.digits = (uint8_t)digit;
+            all = words_of_list(&station, list, came) && all;
+        }
+    }
+    for (key = 0; key <= CQ_KEY_D; key++) {
+        for (prefix = 0; prefix <= 15; prefix++) {
+            for (ms = 0; ms <= 39; ms++) {
+                reader->keys.key = (uint8_t)key;
+                reader->keys.ms = (uint8_t)ms;
+                reader->prefix = (uint8_t)prefix;
+                all = words_of_list(&station, list, came) && all;
+            }
+        }
+    }
+    check(all, "no other fault word", "every reader");
+    for (i = 0; list[i] != 0; i++) {
+        check(came[i], "each fault word", "every reader");
+    }
+}
+
+static void faults(void)
+{
+    uint8_t mode, between;
+    size_t i;
+    for (i = 0; i < sizeof frames / sizeof frames[0]; i++) {
+        for (between = CQ_LEVEL_QUIET; between <= CQ_LEVEL_SPACE; between++) {
+            frames_break(&frames[i], between);
+        }
+    }
+    parity(&frames[2]);
+    keys_break();
+    for (mode = CQ_MODE_BAUDOT_45; mode <= CQ_MODE_EDT; mode++) {
+        all_fault_words(mode);
+    }
 }
 
 /* Whether the ms of `slice` from `*at` on are a Baudot code, in elements of `e` ms; moves behind them. */
@@ -743,6 +985,7 @@ int main(void)
 {
     uint8_t mode;
     layout();
+    words_taken_apart();
     examples();
     continued();
     silent();
@@ -751,6 +994,7 @@ int main(void)
     whole_and_cut();
     calling();
     station_examples();
+    faults();
     bursts(CQ_MODE_BAUDOT_45, 22);
     bursts(CQ_MODE_BAUDOT_50, 20);
     for (mode = CQ_MODE_BAUDOT_45; mode <= CQ_MODE_EDT; mode++) {
