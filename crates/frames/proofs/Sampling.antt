@@ -1,6 +1,6 @@
 -- Where the samples of a frame fall.
 use mathlib.Core.Path.{_≡_, _∙_, refl, sym, ap, subst}
-use mathlib.Core.Bool.{Bool, true, false, cond, _&&_}
+use mathlib.Core.Bool.{Bool, true, false, cond, _&&_, _||_}
 use mathlib.Core.List.{List, [], _∷_, _++_}
 use Prim.Native.Nat.{ℕ, zero, suc, _+_, _/_, _<_, _≤_}
 use native.Mathlib.Omega.{arith}
@@ -8,10 +8,14 @@ use native.Mathlib.Nat.{add-zero, zero-add, add-suc, suc-add, mul-add-div, div-e
 use lib.Dec.{T, eqb}
 use lib.ListN.{length, getD, replicate, length-replicate, getD-replicate, List·getD-append}
 use borrow.Author.Tests.{eq-eqb, ne-eqb}
-use Rattle.lists.proofs.Tables.{both-left, both-right}
+use Rattle.lists.specs.Tables.{passes}
+use Rattle.lists.proofs.Tables.{both-left, both-right, passes-at}
 use Rattle.alphabet.specs.declared.Mode.{Mode}
 use Rattle.alphabet.specs.declared.Mode.the-variants.{Baudot45, Baudot50, Dtmf, Edt}
+use Rattle.frames.specs.declared.Cause.the-variants.{Quiet}
 use Rattle.frames.specs.declared.samples.Effect.{Effect}
+use Rattle.frames.specs.declared.samples.Effect.the-variants.{Breaks}
+use Rattle.frames.specs.Frames.{sampled}
 use Rattle.frames.specs.Samples.{Sample, None, Start, Digit, Parity, Stop, Last, samplesOf, placed, sampleAt, baudotKinds, baudotPlace, baudotSamples, edtKinds, edtPlace, edtSamples}
 use Rattle.frames.specs.code.Samples.{numberAt, sampleMs, kindOf, Does}
 
@@ -148,6 +152,50 @@ not-on mode m h =
 -- what a kind does, another does that is the same
 pub does-as : (k l : Sample) (digits heard : ℕ) (e : Effect) → k ≡ l → Does l digits heard e → Does k digits heard e
 does-as k l digits heard e p = subst (λ (x : Sample). Does x digits heard e) (sym p)
+
+-- the first sample is the start's
+pub first-start : (mode : Mode) (j : ℕ) → j ≡ 0 → j < length (samplesOf mode) → kindOf mode j ≡ Start
+unfolding samplesOf sampleMs sampleAt placed baudotKinds edtKinds
+first-start Baudot45 j e h = ap (kindOf Baudot45) e
+first-start Baudot50 j e h = ap (kindOf Baudot50) e
+first-start Dtmf j e h = absurd (omega arith)
+first-start Edt j e h = ap (kindOf Edt) e
+
+-- and quiet at each behind it breaks the frame off
+abbrev isLater : Sample → Bool
+isLater None = false
+isLater Start = false
+isLater (Digit top) = true
+isLater Parity = true
+isLater Stop = true
+isLater Last = true
+
+later-quiet : (k : Sample) (digits : ℕ) → T (isLater k) → Does k digits 0 (Breaks Quiet)
+unfolding sampled
+later-quiet None digits t = absurd t
+later-quiet Start digits t = absurd t
+later-quiet (Digit top) digits t = λ m. refl
+later-quiet Parity digits t = λ m. refl
+later-quiet Stop digits t = λ m. refl
+later-quiet Last digits t = λ m. refl
+
+laterTest : Mode → ℕ → Bool
+laterTest mode j = eqb j 0 || isLater (kindOf mode j)
+
+later-test : (mode : Mode) → T (passes (laterTest mode) (countOf mode) 0)
+unfolding laterTest passes sampleMs samplesOf sampleAt placed baudotKinds edtKinds
+later-test Baudot45 = tt
+later-test Baudot50 = tt
+later-test Dtmf = tt
+later-test Edt = tt
+
+pub quiet-breaks : (mode : Mode) (j digits heard : ℕ) → (j ≡ 0 → ⊥) → j < length (samplesOf mode) → heard ≡ 0
+    → Does (kindOf mode j) digits heard (Breaks Quiet)
+unfolding laterTest
+quiet-breaks mode j digits heard n h e =
+    let few = subst (λ (k : ℕ). j < k) (count-of mode) h in
+    let t = passes-at (laterTest mode) (countOf mode) (later-test mode) j few in
+    rw e (later-quiet (kindOf mode j) digits (rw (ne-eqb j 0 n) at t))
 
 -- a test that every kind passes
 unfoldable pub allKinds : (Sample → Bool) → List Sample → Bool

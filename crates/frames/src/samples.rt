@@ -6,7 +6,7 @@ ghost use Prim.Native.Nat.{_<_};
 ghost use lib.ListN.{length, getD};
 ghost use Rattle.frames.specs.Samples as kind;
 ghost use Rattle.frames.specs.Samples.{baudotKinds, edtKinds, samplesOf};
-ghost use Rattle.frames.specs.code.Samples.{numberAt, sampleMs, kindOf, NotMark, Does};
+ghost use Rattle.frames.specs.code.Samples.{numberAt, sampleMs, kindOf, Later, Does};
 
 // What a sample does: the frame goes on with some digits; the reader hunts; the frame breaks off; its code is found.
 pub enum Effect {
@@ -83,82 +83,66 @@ fn start(digits: usize, heard: u8) -> Effect
 fn digit(top: usize, digits: usize, heard: u8) -> Effect
     requires { ⌜ top < 128 ⌝ }
     requires { ⌜ digits < 128 ⌝ }
+    requires { ⌜ (heard ≡ 0 → ⊥) ⌝ }
     ensures { λ r. ⌜ Does (kind.Digit top) digits heard r ⌝ }
 {
-    if heard == 0 {
-        return Effect::Breaks(Cause::Quiet);
-    }
     Effect::On(digits / 2 + top * (heard == 1) as usize)
 }
 
 // The sample of the parity: 1 as mark.
 fn parity(digits: usize, heard: u8) -> Effect
     requires { ⌜ digits < 128 ⌝ }
+    requires { ⌜ (heard ≡ 0 → ⊥) ⌝ }
     ensures { λ r. ⌜ Does kind.Parity digits heard r ⌝ }
 {
-    if heard == 0 {
-        return Effect::Breaks(Cause::Quiet);
-    }
     if signal::parity(digits as u8) == (heard == 1) as u8 {
         return Effect::On(digits);
     }
     Effect::Breaks(Cause::OddParity)
 }
 
-// Why a stop that is not mark breaks the frame off.
-fn not_mark(heard: u8) -> Cause
-    ensures { λ r. ⌜ NotMark heard r ⌝ }
-{
-    if heard == 0 {
-        return Cause::Quiet;
-    }
-    Cause::StopNotMark
-}
-
 // The sample of a stop that is not the last.
 fn stop(digits: usize, heard: u8) -> Effect
+    requires { ⌜ (heard ≡ 0 → ⊥) ⌝ }
     ensures { λ r. ⌜ Does kind.Stop digits heard r ⌝ }
 {
-    if heard == 1 {
-        return Effect::On(digits);
+    if heard != 1 {
+        return Effect::Breaks(Cause::StopNotMark);
     }
-    Effect::Breaks(not_mark(heard))
+    Effect::On(digits)
 }
 
 // The last sample.
 fn last(digits: usize, heard: u8) -> Effect
+    requires { ⌜ (heard ≡ 0 → ⊥) ⌝ }
     ensures { λ r. ⌜ Does kind.Last digits heard r ⌝ }
 {
     if heard == 1 {
         return Effect::Ends;
     }
-    Effect::Breaks(not_mark(heard))
+    Effect::Breaks(Cause::StopNotMark)
 }
 
-// A sample of Baudot.
+// A sample of Baudot behind the start, and not quiet.
 fn baudot_effect(j: usize, digits: usize, heard: u8) -> Effect
-    requires { ⌜ j < 7 ⌝ }
+    requires { ⌜ Later 7 j ⌝ }
     requires { ⌜ digits < 128 ⌝ }
+    requires { ⌜ (heard ≡ 0 → ⊥) ⌝ }
     ensures { λ r. ⌜ Does (getD baudotKinds j kind.None) digits heard r ⌝ }
 {
-    if j == 0 {
-        return start(digits, heard);
-    }
     if j < 6 {
         return digit(BAUDOT_TOP, digits, heard);
     }
     last(digits, heard)
 }
 
-// A sample of EDT.
+// A sample of EDT behind the start, and not quiet.
 fn edt_effect(j: usize, digits: usize, heard: u8) -> Effect
-    requires { ⌜ j < 11 ⌝ }
+    requires { ⌜ Later 11 j ⌝ }
     requires { ⌜ digits < 128 ⌝ }
+    requires { ⌜ (heard ≡ 0 → ⊥) ⌝ }
     ensures { λ r. ⌜ Does (getD edtKinds j kind.None) digits heard r ⌝ }
 {
-    if j == 0 {
-        return start(digits, heard);
-    }
     if j < 8 {
         return digit(EDT_TOP, digits, heard);
     }
@@ -169,10 +153,11 @@ fn edt_effect(j: usize, digits: usize, heard: u8) -> Effect
     }
 }
 
-// A sample of a mode's frame; DTMF has none.
-pub fn effect_of(mode: Mode, j: usize, digits: usize, heard: u8) -> Effect
-    requires { ⌜ j < length (samplesOf mode) ⌝ }
+// A sample behind the start, and not quiet; DTMF has none.
+fn later_effect(mode: Mode, j: usize, digits: usize, heard: u8) -> Effect
+    requires { ⌜ Later (length (samplesOf mode)) j ⌝ }
     requires { ⌜ digits < 128 ⌝ }
+    requires { ⌜ (heard ≡ 0 → ⊥) ⌝ }
     ensures { λ r. ⌜ Does (kindOf mode j) digits heard r ⌝ }
 {
     match mode {
@@ -181,4 +166,19 @@ pub fn effect_of(mode: Mode, j: usize, digits: usize, heard: u8) -> Effect
         Mode::Dtmf => Effect::Hunts,
         Mode::Edt => edt_effect(j, digits, heard),
     }
+}
+
+// What a sample of a mode's frame does.
+pub fn effect_of(mode: Mode, j: usize, digits: usize, heard: u8) -> Effect
+    requires { ⌜ j < length (samplesOf mode) ⌝ }
+    requires { ⌜ digits < 128 ⌝ }
+    ensures { λ r. ⌜ Does (kindOf mode j) digits heard r ⌝ }
+{
+    if j == 0 {
+        return start(digits, heard);
+    }
+    if heard == 0 {
+        return Effect::Breaks(Cause::Quiet);
+    }
+    later_effect(mode, j, digits, heard)
 }

@@ -1,17 +1,15 @@
 -- The samples of a frame, by their numbers, and what one does.
-use Prim.Native.Nat.{ℕ, _+_, _*_, _-_, _/_}
+use Prim.Native.Nat.{ℕ, _+_, _*_, _-_, _/_, _≤_, _<_}
 use mathlib.Core.Path.{_≡_}
 use Rattle.alphabet.specs.declared.Mode.{Mode}
 use Rattle.alphabet.specs.declared.Mode.the-variants.{Baudot45, Baudot50, Dtmf, Edt}
 use Rattle.alphabet.specs.Modes.{elementOf}
-use Rattle.frames.specs.declared.Cause.{Cause}
-use Rattle.frames.specs.declared.Cause.the-variants.{StopNotMark}
 use Rattle.frames.specs.declared.Found.the-variants.{Nothing, Code}
 use Rattle.frames.specs.declared.FrameRead.{FrameRead}
 use Rattle.frames.specs.declared.samples.Effect.{Effect}
 use Rattle.frames.specs.declared.samples.Effect.the-variants.{On, Hunts, Breaks, Ends}
 use Rattle.frames.specs.Samples.{Sample, baudotPlace, edtPlace, sampleAt, samplesOf}
-use Rattle.frames.specs.Frames.{hunting, gives, goesOn, faulty, unlessQuiet, sampled}
+use Rattle.frames.specs.Frames.{hunting, gives, goesOn, faulty, sampled}
 
 -- The number of the first sample from a ms on: Baudot, in elements of e ms; a mode.
 abbrev pub baudotNumber : ℕ → ℕ → ℕ
@@ -45,6 +43,7 @@ doneBy Ends m digits = gives hunting (Code (record { 0 = digits }))
 abbrev pub Does : Sample → ℕ → ℕ → Effect → Type 0
 Does kind digits heard e = (m : ℕ) → sampled kind m digits heard ≡ doneBy e m digits
 
--- Why a stop that is not mark breaks the frame off.
-abbrev pub NotMark : ℕ → Cause → Type 0
-NotMark heard cause = (m : ℕ) → unlessQuiet m heard (faulty StopNotMark m) ≡ faulty cause m
+-- A number below n, but not that of the start.
+pub record Later (n j : ℕ) : Type 0 where
+  pub low : 1 ≤ j
+  pub high : j < n

@@ -27,25 +27,20 @@ product-fits top b h = let f = few top b h in omega arith
 sum-fits : (digits top : ℕ) (b : Bool) → digits < 128 → top < 128 → digits / 2 + top * boolByte b < 2 ^ 64
 sum-fits digits top b l h = let f = few top b h in omega arith
 
+cast-t6 : tie.Need-cast-t6
+cast-t6 c = search needs
+
+mul-t7 : tie.Need-mul-t7
+mul-t7 c = record { fits = product-fits (c .args .top) (eqb (c .args .heard) 1) (c .pre .0) }
+
+add-t8 : tie.Need-add-t8
+add-t8 c =
+    record { fits = sum-fits (c .args .digits) (c .args .top) (eqb (c .args .heard) 1) (c .pre .1 .0) (c .pre .0) }
+
 returns : tie.Need-returns
 unfolding sampled
-returns c = λ (m : ℕ). simp (c .if1 .taken)
-
-cast-t7 : tie.Need-cast-t7
-cast-t7 c = search needs
-
-mul-t8 : tie.Need-mul-t8
-mul-t8 c = let s = c .before in record { fits = product-fits (s .args .top) (eqb (s .args .heard) 1) (s .pre .0) }
-
-add-t9 : tie.Need-add-t9
-add-t9 c =
-    let s = c .before in
-    record { fits = sum-fits (s .args .digits) (s .args .top) (eqb (s .args .heard) 1) (s .pre .1) (s .pre .0) }
-
-returns-2 : tie.Need-returns-2
-unfolding sampled
-returns-2 c =
-    let s = c .before in λ (m : ℕ). simp (ne-eqb _ _ (c .if1 .left), times (s .args .top) (eqb (s .args .heard) 1))
+returns c =
+    λ (m : ℕ). simp (ne-eqb _ _ (c .pre .1 .1), times (c .args .top) (eqb (c .args .heard) 1))
 
 pub digit-spec : {M : Type 1} → statement M
-digit-spec = tie.close (tie.spec returns cast-t7 mul-t8 add-t9 returns-2)
+digit-spec = tie.close (tie.spec cast-t6 mul-t7 add-t8 returns)

@@ -15,34 +15,32 @@ byte-of : (b : Bool) → boolByte b ≡ cond b 1 0
 byte-of true = refl
 byte-of false = refl
 
-returns : tie.Need-returns
-unfolding sampled
-returns c = λ (m : ℕ). simp (c .if1 .taken)
-
 cast-parity : tie.Need-cast-parity
 cast-parity c = search needs
 
 parity-requires : tie.Need-parity-requires
 parity-requires c κs = search needs
 
-cast-if2 : tie.Need-cast-if2
-cast-if2 c = search needs
+cast-if1 : tie.Need-cast-if1
+cast-if1 c = search needs
+
+returns : tie.Need-returns
+unfolding sampled
+returns c =
+    let s = c .before .before in
+    let x = s .args .heard in
+    let e = sym (c .before .parity .ensures) ∙ c .if1 .taken ∙ byte-of (eqb x 1) in
+    λ (m : ℕ). simp (ne-eqb _ _ (s .pre .1), eq-eqb _ (parityHeard x) e)
 
 returns-2 : tie.Need-returns-2
 unfolding sampled
 returns-2 c =
-    let x = c .before .before .before .args .heard in
-    let e = sym (c .before .parity .ensures) ∙ c .if2 .taken ∙ byte-of (eqb x 1) in
-    λ (m : ℕ). simp (ne-eqb _ _ (c .before .before .if1 .left), eq-eqb _ (parityHeard x) e)
-
-returns-3 : tie.Need-returns-3
-unfolding sampled
-returns-3 c =
-    let x = c .before .before .before .args .heard in
-    let d = c .before .before .before .args .digits in
+    let s = c .before .before in
+    let x = s .args .heard in
+    let d = s .args .digits in
     let n : parityOf d ≡ parityHeard x → ⊥ =
-    λ e. c .if2 .left (c .before .parity .ensures ∙ e ∙ sym (byte-of (eqb x 1))) in
-    λ (m : ℕ). simp (ne-eqb _ _ (c .before .before .if1 .left), ne-eqb (parityOf d) (parityHeard x) n)
+    λ e. c .if1 .left (c .before .parity .ensures ∙ e ∙ sym (byte-of (eqb x 1))) in
+    λ (m : ℕ). simp (ne-eqb _ _ (s .pre .1), ne-eqb (parityOf d) (parityHeard x) n)
 
 pub parity-spec : {M : Type 1} → statement M
-parity-spec = tie.close (tie.spec returns cast-parity parity-requires cast-if2 returns-2 returns-3)
+parity-spec = tie.close (tie.spec cast-parity parity-requires cast-if1 returns returns-2)
