@@ -5,7 +5,7 @@ use native.Mathlib.Omega.{arith}
 use lib.ListN.{length}
 use Rattle.alphabet.specs.declared.Mode.{Mode}
 use Rattle.alphabet.specs.declared.Mode.the-variants.{Baudot45, Baudot50, Dtmf, Edt}
-use Rattle.frames.specs.Samples.{None, placed, sampleAt, samplesOf, baudotKinds, edtKinds}
+use Rattle.frames.specs.Samples.{None, sampleAt, samplesOf}
 use Rattle.frames.specs.Range.{lastMs}
 use Rattle.frames.specs.code.Bounds.{FrameOf}
 use Rattle.frames.specs.code.Samples.{numberAt, sampleMs}

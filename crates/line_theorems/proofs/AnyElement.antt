@@ -1,4 +1,4 @@
--- A Baudot code's signal is read as that code, for every element length from 2 on.
+-- Baudot, for every element length from 2 on: a code's signal is read as that code; where a frame breaks, and why.
 use mathlib.Core.Path.{_≡_, _∙_, refl, sym, ap}
 use mathlib.Core.List.{List, [], _∷_, _++_, append-nil, append-assoc}
 use Prim.Native.Nat.{ℕ, zero, suc, _+_, _-_, _*_, _/_, _%_, _<_, _≤_}
@@ -8,13 +8,14 @@ use lib.Dec.{T, eqb, eqb→eq}
 use lib.ListN.{getD, replicate, replicate-append-replicate}
 use Rattle.lists.specs.Tables.{passes}
 use Rattle.lists.proofs.Tables.{passes-at}
+use Rattle.frames.specs.declared.Cause.the-variants.{Quiet, StopNotMark}
 use Rattle.frames.specs.declared.Found.{Found}
 use Rattle.frames.specs.declared.Found.the-variants.{Nothing, Code}
 use Rattle.signal.specs.Signal.{levelOf, digits, held, baudotSignal}
 use Rattle.frames.specs.Samples.{Sample, None, Digit, Placed, baudotKinds, baudotPlace, baudotSamples}
-use Rattle.frames.specs.Frames.{inFrame, hunting, gives, goesOn, sampled, frameStep}
-use Rattle.frames.proofs.Sampling.{baudot-on, baudot-off, place-element}
-use Rattle.line_theorems.proofs.FrameRules.{Hears, none, chain, next, hunting-space, hunting-other, in-frame, no-sample}
+use Rattle.frames.specs.Frames.{inFrame, hunting, gives, goesOn, faulty, sampled, frameStep}
+use Rattle.frames.proofs.Sampling.{baudot-on, baudot-off, place-element, kind-digit}
+use Rattle.line_theorems.proofs.FrameRules.{Hears, none, chain, next, hunting-space, hunting-other, in-frame, no-sample, start-other, digit-quiet, last-quiet, last-other}
 
 abbrev silent : ℕ → List Found
 silent n = replicate n Nothing
@@ -173,3 +174,26 @@ module _ (e : ℕ) (big : 2 ≤ e) where
       (chain samples (digit 2 _ (k / 2 / 2 % 2) (omega arith) refl)
       (chain samples (digit 3 _ (k / 2 / 2 / 2 % 2) (omega arith) refl)
       (chain samples (digit 4 _ (k / 2 / 2 / 2 / 2 % 2) (omega arith) refl) (none samples _))))))) (stop _)))
+
+  -- ---- where a frame breaks: number j of the samples falls on ms ej + e/2
+
+  -- a start that is not space, number 0: no word
+  pub start-breaks : (d x : ℕ) → (x ≡ 2 → ⊥) → frameStep samples (inFrame (baudotPlace e 0) d) x ≡ gives hunting Nothing
+  unfolding baudotKinds
+  start-breaks d x = start-other samples (baudotPlace e 0) d (omega arith) x (baudot-on e (omega arith) 0)
+
+  -- quiet at a digit, numbers 1 to 5
+  pub digit-breaks : (j d : ℕ) → (j ≡ 0 → ⊥) → j < 6
+      → frameStep samples (inFrame (baudotPlace e j) d) 0 ≡ faulty Quiet (baudotPlace e j)
+  digit-breaks j d n h =
+      digit-quiet samples (baudotPlace e j) d (omega arith) 16 (baudot-on e (omega arith) j ∙ kind-digit j n h)
+
+  -- quiet at the stop, number 6; neither quiet nor mark there
+  pub stop-quiet : (d : ℕ) → frameStep samples (inFrame (baudotPlace e 6) d) 0 ≡ faulty Quiet (baudotPlace e 6)
+  unfolding baudotKinds
+  stop-quiet d = last-quiet samples (baudotPlace e 6) d (omega arith) (baudot-on e (omega arith) 6)
+
+  pub stop-breaks : (d x : ℕ) → (x ≡ 0 → ⊥) → (x ≡ 1 → ⊥)
+      → frameStep samples (inFrame (baudotPlace e 6) d) x ≡ faulty StopNotMark (baudotPlace e 6)
+  unfolding baudotKinds
+  stop-breaks d x = last-other samples (baudotPlace e 6) d (omega arith) x (baudot-on e (omega arith) 6)

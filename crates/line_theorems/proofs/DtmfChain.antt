@@ -20,7 +20,7 @@ use Rattle.alphabet.specs.Normal.{reads}
 use Rattle.alphabet.proofs.DtmfCodes.{digit-bounds, mark-bounds, not-mark, prefix-few, keys-code}
 use Rattle.alphabet_theorems.proofs.Numbering.{code-keys}
 use Rattle.frames.specs.declared.Frame.{Frame}
-use Rattle.frames.specs.declared.Cause.the-variants.{LetterKey}
+use Rattle.frames.specs.declared.Cause.the-variants.{LetterKey, NoRow as WithoutRow}
 use Rattle.reader.specs.declared.Event.the-variants.{Fault, Nothing}
 use Rattle.reader.specs.declared.Outcome.{Outcome}
 use Rattle.signal.specs.Signal.{heldKeys, keysSignal, signal}
@@ -234,3 +234,11 @@ no-row n h = read-in n (notStruck [] (rows b1)) (go (isCharacter (readIn n (notS
     go : (b : Bool) → isCharacter (readIn n (notStruck [] (rows b1))) ≡ b → b ≡ false
     go true e = let s = prefix-few n (row-shaped n e) in absurd (omega arith)
     go false e = refl
+
+-- a code without a row gives a fault of its own
+pub no-row-event : (p k : ℕ) → isDigit k ≡ true → readDtmf (dtmfCode p k) ≡ NoRow → keyEvent p k ≡ Fault WithoutRow 0
+no-row-event p k t e = digit-event p k t ∙ ap eventOf e
+
+-- and so does every digit behind more than three marks
+pub many-marks-event : (p k : ℕ) → isDigit k ≡ true → 15 ≤ p → keyEvent p k ≡ Fault WithoutRow 0
+many-marks-event p k t h = no-row-event p k t (no-row (dtmfCode p k) (omega arith))

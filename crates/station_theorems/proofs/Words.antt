@@ -30,7 +30,7 @@ use Rattle.frames.specs.declared.Cause.the-variants.{LetterKey}
 use Rattle.frames.specs.declared.Found.{Found}
 use Rattle.frames.specs.declared.Found.the-variants.{Nothing as nothing, Fault as fault, Code}
 use Rattle.frames.specs.Samples.{samplesOf}
-use Rattle.frames.specs.Frames.{gives, frameStep}
+use Rattle.frames.specs.Frames.{frameStep}
 use Rattle.frames.specs.code.Bounds.{Framed, FrameOf, FoundIn}
 use Rattle.frames.proofs.Range.{found-in, next-in}
 use Rattle.reader.specs.declared.Event.{Event}

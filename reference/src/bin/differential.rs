@@ -1,8 +1,8 @@
 //! Compares the engine with the reference on random conversions, on a calling set's random ms, on
 //! every head of a Baudot burst, on every spoiled frame and on stations' random calls, refused and
-//! damaged ones among them, and checks demand 3 with the engine as both stations. Arguments: number
-//! of cases (one sending, one reading, four ms of the calling set and 35 ms of stations in each
-//! mode), seed. Exit 1 on a difference.
+//! damaged ones among them, and checks what a fitter is told of wrong settings, and demand 3 with the
+//! engine as both stations. Arguments: number of cases (one sending, one reading, four ms of the
+//! calling set and 35 ms of stations in each mode), seed. Exit 1 on a difference.
 
 #[path = "../burst_heads.rs"]
 mod burst_heads;
@@ -16,6 +16,8 @@ mod engine;
 mod fault_words;
 #[path = "../station_sessions.rs"]
 mod station_sessions;
+#[path = "../wrong_settings.rs"]
+mod wrong_settings;
 
 use reference::annex::{FIGURES, LETTERS};
 use reference::answer::{CHARACTER, CODE, RESULT_SLICE, STATE, SUCCESS};
@@ -74,6 +76,7 @@ fn main() {
     println!("{}", calling_sessions::compare(&mut random, (4 * cases).max(1_000_000)));
     println!("{}", burst_heads::compare(&mut random));
     println!("{}", fault_words::compare(&mut random));
+    println!("{}", wrong_settings::check());
     println!("{}", station_sessions::compare(&mut random, (30 * cases).max(1_000_000)));
     println!("{}", damaged_stations::check(&mut random, 10_000));
     for mode in Mode::ALL {

@@ -1,6 +1,4 @@
 -- `fault_word` meets its contract.
-use mathlib.Core.Path.{_∙_}
-use native.Mathlib.Omega.{arith}
 use Rattle.reader.proofs.WordLists.{cause-few}
 use borrow.Author.Needs.{needs}
 use Rattle.reader.proofs.words.fault_word.Statement.{statement}
