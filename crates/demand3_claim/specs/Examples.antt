@@ -38,8 +38,8 @@ run heard = RunCall heard (ms (length heard) 0) (ms (length heard) 0)
 
 -- Baudot 45.45. A's burst of e ends with ms 1479. A byte above 127, a level that is none and a sent slice that is too
 -- short are refused. B is opened in the idle period and hears 11011, then space: it is in figures, and in a frame when
--- the line falls quiet. It gives a fault, quiet at ms 77, and is right from the shift code on that opens A's next burst:
--- it reads TOO, and not 599. Offers to it are refused or empty.
+-- the line falls quiet. It gives a fault, quiet at ms 77, and is right from the shift code on that opens A's next
+-- burst: it reads TOO, and not 599. Offers to it are refused or empty.
 unfoldable pub callsA45 : List Call
 callsA45 =
     OfferCall (chars "e") ∷
@@ -89,8 +89,8 @@ baudot45 = record {
 
 -- Baudot 50. More characters than there is space for are refused, and so are more than 4,096 ms. A's burst of 1 ends
 -- with ms 599, in figures. Its next one opens with 11011, and the count starts again at it: 72 characters follow, and
--- 11011 is repeated ahead of the 73rd. B has heard 11011, but DEL has put it in letters since, and then space for longer
--- than a frame, a fault at the stop: it reads 3, and not E, from the first code on.
+-- 11011 is repeated ahead of the 73rd. B has heard 11011, but DEL has put it in letters since. A held space gives it a
+-- fault, at the stop. It reads 3, and not E, from the first code on.
 unfoldable pub callsA50 : List Call
 callsA50 =
     OfferCall (chars "1") ∷
@@ -180,8 +180,8 @@ dtmf = record {
   words = chars ":b";
 }
 
--- EDT. A's burst of e ends with ms 399. B hears the first 60 ms of that code and then space: it gives a fault, odd parity
--- at ms 77, and waits when the line falls quiet; it reads from the first character on.
+-- EDT. A's burst of e ends with ms 399. B hears the first 60 ms of that code and then space: it gives a fault, odd
+-- parity at ms 77, and waits when the line falls quiet; it reads from the first character on.
 unfoldable pub callsAEdt : List Call
 callsAEdt =
     OfferCall (chars "e") ∷

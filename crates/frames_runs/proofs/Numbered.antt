@@ -69,7 +69,9 @@ next-at mode m o h =
       number = n;
       low = low-at mode m;
       high = ms-few mode (numberAt mode m) (omega arith);
-      none = λ (k : ℕ) (g : k < sampleMs mode (numberAt mode m) - m). off-samples mode (m + k) (λ j. between mode m k j g);
+      none =
+          λ (k : ℕ) (g : k < sampleMs mode (numberAt mode m) - m).
+          off-samples mode (m + k) (λ j. between mode m k j g);
     }
 
 -- at each place in a frame

@@ -96,7 +96,8 @@ baudot-fits shift n h =
     (λ e. rw e (passes-at (λ m. fits (readBaudot letters m)) 32 letters-test n h))
 
 -- a code of a frame
-frame-fits : (mode : Mode) → Framed mode → (shift n : ℕ) → n < frameCodes mode → T (fits (reads (alphabetOf mode) shift n))
+frame-fits : (mode : Mode) → Framed mode → (shift n : ℕ) → n < frameCodes mode
+    → T (fits (reads (alphabetOf mode) shift n))
 unfolding reads
 frame-fits Baudot45 f shift n h = baudot-fits shift n h
 frame-fits Baudot50 f shift n h = baudot-fits shift n h
@@ -192,7 +193,8 @@ unfolding allWords wordsOf outputs stationMs coreFrom
 all-good [] s h = refl
 all-good (x ∷ xs) s h =
     let next = stationMs s x in
-    words-append (modeOfStation s) (wordOf (station.eventOf s x)) (wordsBy next xs) (ms-good s x h) (all-good xs next (ms-frame s x h))
+    words-append (modeOfStation s) (wordOf (station.eventOf s x)) (wordsBy next xs) (ms-good s x h)
+    (all-good xs next (ms-frame s x h))
 
 -- every output word of a station in range is well formed, whatever is heard
 pub words-well-formed : WordsWellFormed

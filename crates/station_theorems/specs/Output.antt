@@ -48,11 +48,12 @@ faultWords Baudot50 = faultsOf (samplesOf Baudot50)
 faultWords Dtmf = faultsAt 0 (NoRow ∷ LetterKey ∷ [])
 faultWords Edt = faultsOf (samplesOf Edt)
 
+-- Is a word one of these?
 unfoldable pub isOneOf : ℕ → List ℕ → Bool
 isOneOf w [] = false
 isOneOf w (x ∷ xs) = eqb w x || isOneOf w xs
 
--- A well-formed word of a mode is of kind 0, a character and its other bits zero, or it is one of the mode's fault words.
+-- A well-formed word of a mode is a character, its other bits zero, so of kind 0; or one of the mode's fault words.
 abbrev pub isWord : Mode → ℕ → Bool
 isWord mode w = leb w highestChar || isOneOf w (faultWords mode)
 
@@ -60,17 +61,10 @@ unfoldable pub allWords : Mode → List ℕ → Bool
 allWords mode [] = true
 allWords mode (w ∷ ws) = isWord mode w && allWords mode ws
 
--- The values of the station's mode go up to this: 0 quiet, 1 mark, 2 space; in DTMF 0 quiet or a key, 1 to 16.
-abbrev pub highestSent : Station → ℕ
-highestSent s = highestLevel (modeOfStation s)
-
 -- For every station in range and every list of heard ms, each output word is well formed.
 abbrev pub WordsWellFormed : Type 0
-WordsWellFormed = (s : Station) (heard : List ℕ) → inRange s ≡ true → allWords (modeOfStation s) (wordsBy s heard) ≡ true
-
--- For every station and every list of heard ms, each sent ms is a value of the mode.
-abbrev pub SentInMode : Type 0
-SentInMode = (s : Station) (heard : List ℕ) → allAtMost (highestSent s) (sentBy s heard) ≡ true
+WordsWellFormed =
+    (s : Station) (heard : List ℕ) → inRange s ≡ true → allWords (modeOfStation s) (wordsBy s heard) ≡ true
 
 -- A run of any station on any slices: the words that it counts, in front in the word slice, are well formed.
 abbrev pub RunWordsWellFormed : Type 0
@@ -100,6 +94,14 @@ pub record FaultBits (c : Cause) (ms : ℕ) : Type 0 where
 
 abbrev pub FaultLayout : Type 0
 FaultLayout = (c : Cause) (ms : ℕ) → ms < 2 ^ 20 → FaultBits c ms
+
+-- The values of the station's mode go up to this: 0 quiet, 1 mark, 2 space; in DTMF 0 quiet or a key, 1 to 16.
+abbrev pub highestSent : Station → ℕ
+highestSent s = highestLevel (modeOfStation s)
+
+-- For every station and every list of heard ms, each sent ms is a value of the mode.
+abbrev pub SentInMode : Type 0
+SentInMode = (s : Station) (heard : List ℕ) → allAtMost (highestSent s) (sentBy s heard) ≡ true
 
 -- A run that succeeds: as many ms as were heard, in front in the sent slice, are values of the mode.
 abbrev pub RunSentInMode : Type 0

@@ -58,7 +58,8 @@ returns c =
     let d = c .before .before .before .e .given .0 .0 in
     known _ _ (s .args .f .place - 1) (s .args .f .digits) _ (c .before .before .before .e .given .1)
     (c .at .ensures
-    ∙ ap (λ (p : ℕ). gives (record { place = p; digits = d }) Nothing) (place-on (s .args .f .place) (s .pre .0 .at-least)))
+    ∙ ap (λ (p : ℕ). gives (record { place = p; digits = d }) Nothing)
+    (place-on (s .args .f .place) (s .pre .0 .at-least)))
 
 returns-2 : tie.Need-returns-2
 returns-2 c = known _ _ _ _ _ (c .before .enum-told .given .1) (c .at2 .ensures)

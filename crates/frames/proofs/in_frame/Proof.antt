@@ -24,7 +24,8 @@ abbrev sample-of : tie.After-effect-of → tie.After-sample-ms
 sample-of c = c .before .before .before
 
 -- the sample's ms
-ms-is : (c : tie.After-sample-ms) → c .sample-ms .result ≡ sampleMs (start-of c .args .mode) (c .before .number-at .result)
+ms-is : (c : tie.After-sample-ms)
+    → c .sample-ms .result ≡ sampleMs (start-of c .args .mode) (c .before .number-at .result)
 ms-is c = c .sample-ms .ensures
 
 -- what it does on this ms

@@ -159,8 +159,8 @@ loop-again c =
     let l = t .before .loop in
     let x = getD (s .args .heard .now) (l .at) 0 in
     ahead-turn (s .args .mode) (s .pre .0) _ _ (s .pre .1 .0) _ _ _ _ _ (l .inv) (t .loop-test .taken) _
-    (subst (Does (kindOf (s .args .mode) (l .j)) (l .d) x) (c .before .before .e .given .1) (effect-of c .effect-of .ensures)) _ _ _ refl
-    (c .sample-ms2 .ensures) refl
+    (subst (Does (kindOf (s .args .mode) (l .j)) (l .d) x) (c .before .before .e .given .1)
+    (effect-of c .effect-of .ensures)) _ _ _ refl (c .sample-ms2 .ensures) refl
 
 add-t14 : tie.Need-add-t14 Inv-loop μ-loop
 add-t14 c = search needs
