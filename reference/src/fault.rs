@@ -42,9 +42,9 @@ impl Fault {
         let mut faults: Vec<_> =
             (1..mode.elements()).map(|element| at(Cause::Quiet, element)).collect();
         if mode == Mode::Edt {
-            faults.extend([at(Cause::OddParity, 8), at(Cause::StopNotMark, 9)]);
+            faults.push(at(Cause::OddParity, Mode::PARITY));
         }
-        faults.push(at(Cause::StopNotMark, mode.elements() - 1));
+        faults.extend(mode.stops().map(|stop| at(Cause::StopNotMark, stop)));
         faults
     }
 

@@ -72,7 +72,7 @@ impl Comparison<'_> {
             let mut signals = vec![clean.clone()];
             if mode == Mode::Edt {
                 let odd = |(ms, &level)| match mode.element_at(ms) {
-                    8 => MARK + SPACE - level,
+                    Mode::PARITY => MARK + SPACE - level,
                     _ => level,
                 };
                 signals.push(clean.iter().enumerate().map(odd).collect());

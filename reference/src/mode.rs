@@ -2,6 +2,7 @@
 
 use crate::line::{KEY_GAP, KEY_LENGTH};
 use crate::normal::Alphabet;
+use std::ops::Range;
 
 #[derive(Clone, Copy, Debug, PartialEq, Eq)]
 pub enum Mode {
@@ -75,6 +76,18 @@ impl Mode {
             Mode::Edt => 11,
         }
     }
+
+    /// The elements that are stops: in Baudot one and a half as one.
+    pub const fn stops(self) -> Range<usize> {
+        match self {
+            Mode::Baudot45 | Mode::Baudot50 => 6..7,
+            Mode::Dtmf => 0..0,
+            Mode::Edt => 9..11,
+        }
+    }
+
+    /// The element of EDT's parity.
+    pub const PARITY: usize = 8;
 
     /// The element that a ms of a code belongs to. The last one of Baudot is half as long again.
     pub const fn element_at(self, ms: usize) -> usize {

@@ -437,15 +437,6 @@ mod tests {
         (ms, Fault { cause, ms }.word())
     }
 
-    /// The elements that are stops.
-    fn stops(mode: Mode) -> std::ops::Range<usize> {
-        if mode == Mode::Edt {
-            9..11
-        } else {
-            6..7
-        }
-    }
-
     /// The signal of a code with another level in one ms.
     fn damaged(mode: Mode, code: &Code, at: usize, level: u8) -> Vec<u8> {
         let mut heard = signal(mode, code);
@@ -469,7 +460,7 @@ mod tests {
     #[test]
     fn a_stop_that_is_space_is_one_fault_there() {
         for mode in FRAME_MODES {
-            for at in stops(mode).map(|element| mode.sample_at(element)) {
+            for at in mode.stops().map(|element| mode.sample_at(element)) {
                 let heard = &damaged(mode, &some_code(mode), at, SPACE)[..=at];
                 let mut reader = Reader::fresh(mode);
                 assert_eq!(hears(&mut reader, heard), [fault(Cause::StopNotMark, at)]);
@@ -481,7 +472,7 @@ mod tests {
     #[test]
     fn odd_parity_is_one_fault_at_its_sample() {
         for (character, wrong) in [(b'S', MARK), (b'C', SPACE)] {
-            let at = Mode::Edt.sample_at(8);
+            let at = Mode::Edt.sample_at(Mode::PARITY);
             let heard = damaged(Mode::Edt, &Code::SevenBits(character), at, wrong);
             let mut reader = Reader::fresh(Mode::Edt);
             assert_eq!(hears(&mut reader, &heard[..=at]), [fault(Cause::OddParity, at)]);
@@ -495,8 +486,8 @@ mod tests {
             let marks = levels[1..=element].iter().filter(|&&level| level == MARK).count();
             let cause = match levels[element] {
                 QUIET => 1,
-                SPACE if stops(mode).contains(&element) => 2,
-                _ if mode == Mode::Edt && element == 8 && marks % 2 == 1 => 3,
+                SPACE if mode.stops().contains(&element) => 2,
+                _ if mode == Mode::Edt && element == Mode::PARITY && marks % 2 == 1 => 3,
                 _ => continue,
             };
             let ms = mode.sample_at(element);

@@ -1,7 +1,7 @@
 //! What a fitter sees of a wrong setting: the rows of the table in docs/MAKERS.md, section 5, that
-//! speak of a setting, a swapped or a lost level, a signal that ends too early and a held space. Two
-//! codes follow one another, every code with every code, and the engine must give the words that the
-//! table says. Part of `differential`.
+//! speak of a setting or of a level that is swapped or lost, with every code behind every code; of a
+//! signal that ends too early, with every code; and of a held space. The engine must give the words
+//! that the table says. Part of `differential`.
 
 use crate::engine::Station;
 use reference::annex::{BAUDOT_READS, FIGURES, FIGURES_CODE, LETTERS, LETTERS_CODE};
@@ -61,15 +61,6 @@ fn fault(mode: Mode, cause: Cause, element: usize) -> u32 {
     Fault { cause, ms: mode.sample_at(element) }.word()
 }
 
-/// The element that is the first stop.
-fn first_stop(mode: Mode) -> usize {
-    if mode == Mode::Edt {
-        9
-    } else {
-        6
-    }
-}
-
 /// Every code of a mode behind every code, by their bits.
 fn pairs(mode: Mode) -> impl Iterator<Item = [u8; 2]> {
     let all = 0..codes(mode).len() as u8;
@@ -94,7 +85,8 @@ fn wrong_parity() -> u64 {
     let even = |character: u8| if character.count_ones() % 2 == 1 { MARK } else { SPACE };
     let odd = |character: u8| MARK + SPACE - even(character);
     let sent = |character: u8, parity: u8| {
-        let level = |(ms, level)| if Mode::Edt.element_at(ms) == 8 { parity } else { level };
+        let level =
+            |(ms, level)| if Mode::Edt.element_at(ms) == Mode::PARITY { parity } else { level };
         sounds(Mode::Edt, character).into_iter().enumerate().map(level).collect::<Vec<u8>>()
     };
     let mut lines = 0;
@@ -104,7 +96,7 @@ fn wrong_parity() -> u64 {
         assert_eq!((0..128).filter(|&character| passes(character)).count(), passing);
         for pair in pairs(Mode::Edt) {
             let heard = pair.map(|character| sent(character, parity(character))).concat();
-            let odd = fault(Mode::Edt, Cause::OddParity, 8);
+            let odd = fault(Mode::Edt, Cause::OddParity, Mode::PARITY);
             let wanted = pair.map(|c| if passes(c) { u32::from(c) } else { odd });
             lines += gives(Mode::Edt, &heard, &wanted);
         }
@@ -165,39 +157,39 @@ fn wrong_speed() -> u64 {
     lines
 }
 
-/// Mark and space swapped: the preamble is a held space, and the first word its fault at the stop.
-fn swapped_levels() -> u64 {
+/// Bursts of two codes, with these levels for those sent, and quiet behind: what is said of the words
+/// must hold.
+fn bursts(level: impl Fn(u8) -> u8, holds: impl Fn(Mode, &[u32]) -> bool) -> u64 {
     let mut lines = 0;
     for mode in FRAMES {
         for pair in pairs(mode) {
-            let burst = [preamble(mode), both(mode, pair)].concat();
-            let heard: Vec<u8> = burst.iter().map(|level| MARK + SPACE - level).collect();
+            let sent = [preamble(mode), both(mode, pair)].concat();
+            let line: Vec<u8> = sent.into_iter().map(&level).collect();
+            let heard = [&line[..], &[QUIET; 200]].concat();
             let found = words(mode, &heard);
-            let wanted = fault(mode, Cause::StopNotMark, first_stop(mode));
-            expect(found.first() == Some(&wanted), mode, &heard, &found);
+            expect(holds(mode, &found), mode, &heard, &found);
             lines += 1;
         }
     }
     lines
 }
 
+/// Mark and space swapped: the preamble is a held space, and the first word its fault at the stop.
+fn swapped_levels() -> u64 {
+    bursts(
+        |level| MARK + SPACE - level,
+        |mode, words| words.first() == Some(&fault(mode, Cause::StopNotMark, mode.stops().start)),
+    )
+}
+
 /// Mark reported as quiet: faults by quiet alone, and never a character.
 fn mark_as_quiet() -> u64 {
-    let mut lines = 0;
-    for mode in FRAMES {
-        for pair in pairs(mode) {
-            let burst = [preamble(mode), both(mode, pair), vec![QUIET; 200]].concat();
-            let heard: Vec<u8> =
-                burst.iter().map(|&level| if level == SPACE { SPACE } else { QUIET }).collect();
-            let found = words(mode, &heard);
-            let by_quiet = |&word: &u32| {
-                Fault::of_word(mode, word).is_some_and(|fault| fault.cause == Cause::Quiet)
-            };
-            expect(!found.is_empty() && found.iter().all(by_quiet), mode, &heard, &found);
-            lines += 1;
-        }
-    }
-    lines
+    let by_quiet =
+        |mode, word| Fault::of_word(mode, word).is_some_and(|fault| fault.cause == Cause::Quiet);
+    bursts(
+        |level| if level == MARK { QUIET } else { level },
+        |mode, words| !words.is_empty() && words.iter().all(|&word| by_quiet(mode, word)),
+    )
 }
 
 /// A signal that ends behind the last sample of a digit or parity: quiet at the first stop's sample
@@ -207,7 +199,7 @@ fn early_ends() -> u64 {
     for mode in FRAMES {
         for code in codes(mode) {
             let signal = signal(mode, &code);
-            for stop in first_stop(mode)..mode.elements() {
+            for stop in mode.stops() {
                 for ms in mode.sample_at(stop - 1) + 1..=mode.sample_at(stop) {
                     let heard = [&signal[..ms], &[QUIET; 200]].concat();
                     lines += gives(mode, &heard, &[fault(mode, Cause::Quiet, stop)]);
@@ -222,7 +214,7 @@ fn early_ends() -> u64 {
 fn held_spaces() -> u64 {
     let mut lines = 0;
     for mode in FRAMES {
-        let stop = first_stop(mode);
+        let stop = mode.stops().start;
         for ms in mode.sample_at(stop) + 1..LONGEST - 200 {
             let heard = [vec![SPACE; ms], vec![QUIET; 200]].concat();
             lines += gives(mode, &heard, &[fault(mode, Cause::StopNotMark, stop)]);

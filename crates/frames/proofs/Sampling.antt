@@ -16,7 +16,7 @@ use Rattle.frames.specs.declared.Cause.the-variants.{Quiet}
 use Rattle.frames.specs.declared.samples.Effect.{Effect}
 use Rattle.frames.specs.declared.samples.Effect.the-variants.{Breaks}
 use Rattle.frames.specs.Frames.{sampled}
-use Rattle.frames.specs.Samples.{Sample, None, Start, Digit, Parity, Stop, Last, samplesOf, placed, sampleAt, baudotKinds, baudotPlace, baudotSamples, edtKinds, edtPlace, edtSamples}
+use Rattle.frames.specs.Samples.{Sample, None, Start, Digit, Parity, Stop, Last, isLater, samplesOf, placed, sampleAt, baudotKinds, baudotPlace, baudotSamples, edtKinds, edtPlace, edtSamples}
 use Rattle.frames.specs.code.Samples.{numberAt, sampleMs, kindOf, Does}
 
 -- samples at any places
@@ -162,15 +162,7 @@ first-start Dtmf j e h = absurd (omega arith)
 first-start Edt j e h = ap (kindOf Edt) e
 
 -- and quiet at each behind it breaks the frame off
-abbrev isLater : Sample → Bool
-isLater None = false
-isLater Start = false
-isLater (Digit top) = true
-isLater Parity = true
-isLater Stop = true
-isLater Last = true
-
-later-quiet : (k : Sample) (digits : ℕ) → T (isLater k) → Does k digits 0 (Breaks Quiet)
+pub later-quiet : (k : Sample) (digits : ℕ) → T (isLater k) → Does k digits 0 (Breaks Quiet)
 unfolding sampled
 later-quiet None digits t = absurd t
 later-quiet Start digits t = absurd t

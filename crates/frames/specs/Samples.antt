@@ -1,6 +1,6 @@
 -- Document 01, "Line signal": where a frame of Baudot or EDT is sampled (there: the looks), and what for.
 use Prim.Native.Nat.{ℕ, suc, _+_, _*_, _/_}
-use mathlib.Core.Bool.{cond}
+use mathlib.Core.Bool.{Bool, true, false, cond}
 use mathlib.Core.List.{List, [], _∷_}
 use lib.Dec.{eqb}
 use Rattle.alphabet.specs.declared.Mode.{Mode}
@@ -15,6 +15,15 @@ pub data Sample : Type 0 where
   Parity : Sample
   Stop : Sample
   Last : Sample
+
+-- A sample behind the start's (document 01: a later look).
+abbrev pub isLater : Sample → Bool
+isLater None = false
+isLater Start = false
+isLater (Digit top) = true
+isLater Parity = true
+isLater Stop = true
+isLater Last = true
 
 -- A sample: the ms of the frame on which it falls, and its kind.
 pub record Placed : Type 0 where

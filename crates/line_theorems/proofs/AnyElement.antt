@@ -1,5 +1,6 @@
 -- Baudot, for every element length from 2 on: a code's signal is read as that code; where a frame breaks, and why.
 use mathlib.Core.Path.{_≡_, _∙_, refl, sym, ap}
+use mathlib.Core.Bool.{Bool}
 use mathlib.Core.List.{List, [], _∷_, _++_, append-nil, append-assoc}
 use Prim.Native.Nat.{ℕ, zero, suc, _+_, _-_, _*_, _/_, _%_, _<_, _≤_}
 use native.Mathlib.Omega.{arith}
@@ -12,10 +13,10 @@ use Rattle.frames.specs.declared.Cause.the-variants.{Quiet, StopNotMark}
 use Rattle.frames.specs.declared.Found.{Found}
 use Rattle.frames.specs.declared.Found.the-variants.{Nothing, Code}
 use Rattle.signal.specs.Signal.{levelOf, digits, held, baudotSignal}
-use Rattle.frames.specs.Samples.{Sample, None, Digit, Placed, baudotKinds, baudotPlace, baudotSamples}
+use Rattle.frames.specs.Samples.{Sample, None, Digit, isLater, Placed, baudotKinds, baudotPlace, baudotSamples}
 use Rattle.frames.specs.Frames.{inFrame, hunting, gives, goesOn, faulty, sampled, frameStep}
-use Rattle.frames.proofs.Sampling.{baudot-on, baudot-off, place-element, kind-digit}
-use Rattle.line_theorems.proofs.FrameRules.{Hears, none, chain, next, hunting-space, hunting-other, in-frame, no-sample, start-other, digit-quiet, last-quiet, last-other}
+use Rattle.frames.proofs.Sampling.{baudot-on, baudot-off, place-element}
+use Rattle.line_theorems.proofs.FrameRules.{Hears, none, chain, next, hunting-space, hunting-other, in-frame, no-sample, start-other, later-quiet, last-other}
 
 abbrev silent : ℕ → List Found
 silent n = replicate n Nothing
@@ -38,6 +39,14 @@ digits-test = tt
 
 digits-back : (k : ℕ) → k < 32 → cameIn k ≡ k
 digits-back k h = eqb→eq (cameIn k) k (passes-at (λ (i : ℕ). eqb (cameIn i) i) 32 digits-test k h)
+
+-- the samples behind the start's
+abbrev isLaterOne : ℕ → Bool
+isLaterOne j = isLater (getD baudotKinds (suc j) None)
+
+later-test : T (passes isLaterOne 6 0)
+unfolding passes baudotKinds
+later-test = tt
 
 module _ (e : ℕ) (big : 2 ≤ e) where
   abbrev samples : List Placed
@@ -182,17 +191,14 @@ module _ (e : ℕ) (big : 2 ≤ e) where
   unfolding baudotKinds
   start-breaks d x = start-other samples (baudotPlace e 0) d (omega arith) x (baudot-on e (omega arith) 0)
 
-  -- quiet at a digit, numbers 1 to 5
-  pub digit-breaks : (j d : ℕ) → (j ≡ 0 → ⊥) → j < 6
-      → frameStep samples (inFrame (baudotPlace e j) d) 0 ≡ faulty Quiet (baudotPlace e j)
-  digit-breaks j d n h =
-      digit-quiet samples (baudotPlace e j) d (omega arith) 16 (baudot-on e (omega arith) j ∙ kind-digit j n h)
+  -- quiet at a later one, numbers 1 to 6
+  pub quiet-breaks : (j d : ℕ) → j < 6
+      → frameStep samples (inFrame (baudotPlace e (suc j)) d) 0 ≡ faulty Quiet (baudotPlace e (suc j))
+  quiet-breaks j d h =
+      later-quiet samples (baudotPlace e (suc j)) d (omega arith)
+      (rw (baudot-on e (omega arith) (suc j)) (passes-at isLaterOne 6 later-test j h))
 
-  -- quiet at the stop, number 6; neither quiet nor mark there
-  pub stop-quiet : (d : ℕ) → frameStep samples (inFrame (baudotPlace e 6) d) 0 ≡ faulty Quiet (baudotPlace e 6)
-  unfolding baudotKinds
-  stop-quiet d = last-quiet samples (baudotPlace e 6) d (omega arith) (baudot-on e (omega arith) 6)
-
+  -- a stop that is neither mark nor quiet, number 6
   pub stop-breaks : (d x : ℕ) → (x ≡ 0 → ⊥) → (x ≡ 1 → ⊥)
       → frameStep samples (inFrame (baudotPlace e 6) d) x ≡ faulty StopNotMark (baudotPlace e 6)
   unfolding baudotKinds

@@ -3,6 +3,7 @@ use mathlib.Core.Path.{_≡_, _∙_, refl, ap}
 use mathlib.Core.List.{List, [], _∷_, _++_}
 use Prim.Native.Nat.{ℕ, _+_, _-_, _/_, _≤_}
 use native.Mathlib.Omega.{arith}
+use lib.Dec.{T}
 use borrow.Author.Tests.{eq-eqb, ne-eqb}
 use Rattle.frames.specs.declared.Cause.the-variants.{Quiet, StopNotMark, OddParity}
 use Rattle.frames.specs.declared.Frame.{Frame}
@@ -10,9 +11,10 @@ use Rattle.frames.specs.declared.Found.{Found}
 use Rattle.frames.specs.declared.Found.the-variants.{Nothing, Code}
 use Rattle.frames.specs.declared.FrameRead.{FrameRead}
 use Rattle.signal.specs.Signal.{parityOf}
-use Rattle.frames.specs.Samples.{Sample, None, Start, Digit, Parity, Stop, Last, Placed, sampleAt}
+use Rattle.frames.specs.Samples.{Sample, None, Start, Digit, Parity, Stop, Last, isLater, Placed, sampleAt}
 use Rattle.frames.specs.Frames.{inFrame, hunting, waiting, gives, goesOn, faulty, parityHeard, sampled, frameStep, frameNext, frameFound}
 use Rattle.frames.proofs.Range as range
+use Rattle.frames.proofs.Sampling as sampling
 use Rattle.lists.proofs.Steps as steps
 use Rattle.lists.proofs.Steps.{Takes}
 
@@ -77,22 +79,9 @@ module _ (samples : List Placed) where
     unfolding sampled
     start-space e = by Start 2 e
 
-    -- quiet at a later sample gives one fault, of that cause and at this ms, and the wait
-    pub digit-quiet : (top : ℕ) → sampleAt samples m ≡ Digit top → frameStep samples (inFrame m d) 0 ≡ faulty Quiet m
-    unfolding sampled
-    digit-quiet top e = by (Digit top) 0 e
-
-    pub parity-quiet : sampleAt samples m ≡ Parity → frameStep samples (inFrame m d) 0 ≡ faulty Quiet m
-    unfolding sampled
-    parity-quiet e = by Parity 0 e
-
-    pub stop-quiet : sampleAt samples m ≡ Stop → frameStep samples (inFrame m d) 0 ≡ faulty Quiet m
-    unfolding sampled
-    stop-quiet e = by Stop 0 e
-
-    pub last-quiet : sampleAt samples m ≡ Last → frameStep samples (inFrame m d) 0 ≡ faulty Quiet m
-    unfolding sampled
-    last-quiet e = by Last 0 e
+    -- quiet at a later sample, whatever it is for, gives one fault, of that cause and at this ms, and the wait
+    pub later-quiet : T (isLater (sampleAt samples m)) → frameStep samples (inFrame m d) 0 ≡ faulty Quiet m
+    later-quiet t = in-frame m d 0 first ∙ sampling.later-quiet (sampleAt samples m) d t m
 
     -- a digit: 1 as mark
     pub digit-mark : (top : ℕ) → sampleAt samples m ≡ Digit top

@@ -425,14 +425,14 @@ impl Cases {
         if mode == Mode::Edt {
             let mut odd = clean.clone();
             for (ms, level) in odd.iter_mut().enumerate() {
-                if mode.element_at(ms) == 8 {
+                if mode.element_at(ms) == Mode::PARITY {
                     *level = MARK + SPACE - *level;
                 }
             }
             self.damaged("odd parity", &odd, 0);
             let mut quiet = clean.clone();
             quiet[mode.sample_at(3)] = MARK + SPACE - quiet[mode.sample_at(3)];
-            quiet[mode.sample_at(8)] = QUIET;
+            quiet[mode.sample_at(Mode::PARITY)] = QUIET;
             self.damaged("one wrong digit, and quiet at the parity", &quiet, 20);
         }
     }
