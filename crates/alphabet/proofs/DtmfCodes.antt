@@ -11,6 +11,8 @@ use lib.ListN.{length}
 use lib.Text.{eqt, eqt→eq}
 use borrow.Author.Tests.{eqb-true, ne-eqb, leb-true, ltb-true, ltb-false, le-leb, lt-ltb}
 use Rattle.lists.proofs.Lists.{either, and-left, and-right}
+use Rattle.alphabet.specs.declared.Alphabet.the-variants.{Dtmf}
+use Rattle.alphabet.specs.declared.LineCode.{LineCode}
 use Rattle.alphabet.specs.declared.Sends.{Sends}
 use Rattle.alphabet.specs.declared.Sends.the-variants.{Nothing, Code}
 use Rattle.alphabet.specs.Print.{Row, rows, keys}
@@ -18,6 +20,7 @@ use Rattle.alphabet.specs.TableB1.{b1}
 use Rattle.alphabet.specs.TableB2.{b2}
 use Rattle.alphabet.specs.Baudot.{printedAt}
 use Rattle.alphabet.specs.Dtmf.{isDigit, isMark, withMark, isDtmfCode, codeFrom, codeOfKeys, marksThenDigit, isCode}
+use Rattle.alphabet.specs.Normal.{sends}
 use Rattle.alphabet.specs.Dtmf.{among, notStruck, remaining, drawn, sendIn, hasRow, sendFrom, sendDtmf}
 
 -- the tests on a key, taken apart
@@ -40,6 +43,10 @@ prefix-few n e = ltb-true (n / 16) 15 (and-left (ltb (n / 16) 15) (isDigit (n % 
 
 pub number-few : (n : ℕ) → isDtmfCode n ≡ true → n < 256
 number-few n e = let h = prefix-few n e in omega arith
+
+pub number-some : (n : ℕ) → isDtmfCode n ≡ true → 1 ≤ n
+unfolding isDtmfCode
+number-some n e = let d = digit-bounds (n % 16) (and-right (ltb (n / 16) 15) (isDigit (n % 16)) e) .0 in omega arith
 
 -- ---- the number of a code that is given by its keys
 
@@ -176,3 +183,7 @@ dtmf-sent c = either CodeSent (eqb c 0x00) Nothing _ tt (in-rows c _ remaining (
         → CodeSent (cond b (Code 3 (record { 0 = codeOfKeys (keys s) })) Nothing)
     by-b2 true e = row-code s remaining all e
     by-b2 false e = tt
+
+pub sent-code : (c s : ℕ) (k : LineCode) → sends Dtmf c ≡ Code s k → isDtmfCode (k .0) ≡ true
+unfolding sends
+sent-code c s k e = subst CodeSent e (dtmf-sent c)

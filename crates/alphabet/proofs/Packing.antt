@@ -4,10 +4,12 @@ use mathlib.Core.Bool.{Bool, true, false, cond, _&&_}
 use mathlib.Core.List.{List, [], _∷_, _++_}
 use Prim.Native.Nat.{ℕ, zero, suc, _+_, _*_, _-_, _/_, _%_, _<_, _≤_}
 use native.Mathlib.Omega.{arith}
-use lib.Dec.{T, eqb, ltb, ltb→lt}
+use native.Mathlib.Nat.{zero-add}
+use lib.Dec.{T, eqb, eqb→eq, ltb, ltb→lt}
 use lib.ListN.{getD}
-use borrow.Author.Tests.{ne-eqb, eqb-true}
+use borrow.Author.Tests.{ne-eqb, eqb-true, ltb-true, ltb-false, lt-ltb, le-ltb}
 use Rattle.lists.specs.Tables.{passes}
+use Rattle.lists.proofs.Lists.{either-by}
 use Rattle.lists.proofs.Tables.{both-left, both-right, tabulate-at, passes-at}
 use Rattle.alphabet.specs.declared.Alphabet.{Alphabet}
 use Rattle.alphabet.specs.declared.Alphabet.the-variants.{Baudot, Dtmf, Edt}
@@ -15,92 +17,126 @@ use Rattle.alphabet.specs.declared.Sends.{Sends}
 use Rattle.alphabet.specs.declared.Sends.the-variants.{Nothing, Code}
 use Rattle.alphabet.specs.declared.Reads.{Reads}
 use Rattle.alphabet.specs.declared.Reads.the-variants.{Character, Shift, NoRow}
-use Rattle.alphabet.specs.Print.{keys}
-use Rattle.alphabet.specs.Baudot.{lettersCode, figuresCode, readBaudot}
+use Rattle.alphabet.specs.Print.{leftRows, rightRows, rows, bitsFrom, bits, keys}
+use Rattle.alphabet.specs.TableA2.{a2}
+use Rattle.alphabet.specs.Baudot.{lettersCode, figuresCode, printedAt, sendBaudot, readBaudot}
 use Rattle.alphabet.specs.Dtmf.{prefixes, keysOf, readDtmf}
 use Rattle.alphabet.specs.Normal.{sends}
-use Rattle.alphabet.specs.code.Packing.{base, alphabetAt, packed, entryAt, sendTable, readTable, shiftOf, packedRead, charIn, baudotAt, dtmfAt, keyAt}
-use Rattle.alphabet.proofs.Ranges.{some-shift, few-codes, charOrNone, range-of, dtmf-read}
+use Rattle.alphabet.specs.code.Packing.{base, alphabetAt, sendsAt, packed, codeIn, unpacked, entryAt, numberAt, placeOf, sendTable}
+use Rattle.alphabet.specs.code.Packing.{readTable, shiftOf, packedRead, charIn, baudotAt, dtmfAt, keyAt}
+use Rattle.alphabet.proofs.Ranges.{charOrNone, range-of, dtmf-read}
+use Rattle.alphabet.proofs.DtmfCodes.{number-some, sent-code}
 
--- the place of a character's entry in the table of 384, taken apart
-pub entry-place : {A : Type 0} (f : Alphabet → ℕ → A) (a : Alphabet) (c : ℕ) → c < 128
-    → f (alphabetAt ((base a + c) / 128)) ((base a + c) % 128) ≡ f a c
-entry-place f Baudot c h =
-    let d : (0 + c) / 128 ≡ 0 = omega arith in
+-- ---- the table of sending
+
+-- what is asked of the alphabet of a number and of what its character sends
+abbrev pub asked : {A : Type 0} → (Alphabet → Sends → A) → ℕ → A
+asked f n = f (alphabetAt n) (sendsAt n)
+
+-- the number of a character, taken apart
+pub number-of : {A : Type 0} (f : Alphabet → Sends → A) (a : Alphabet) (c : ℕ) → c < 128
+    → asked f (base a + c) ≡ f a (sends a c)
+number-of f Baudot c h =
     let m : (0 + c) % 128 ≡ c = omega arith in
-    simp (d, m)
-entry-place f Dtmf c h =
-    let d : (128 + c) / 128 ≡ 1 = omega arith in
+    simp (lt-ltb (0 + c) 128 (omega arith), m)
+number-of f Dtmf c h =
     let m : (128 + c) % 128 ≡ c = omega arith in
-    simp (d, m)
-entry-place f Edt c h =
-    let d : (256 + c) / 128 ≡ 2 = omega arith in
+    simp (le-ltb (128 + c) 128 (omega arith), lt-ltb (128 + c) 256 (omega arith), m)
+number-of f Edt c h =
     let m : (256 + c) % 128 ≡ c = omega arith in
-    simp (d, m)
+    simp (le-ltb (256 + c) 128 (omega arith), le-ltb (256 + c) 256 (omega arith), m)
 
-pub entry-below : (a : Alphabet) (c : ℕ) → c < 128 → base a + c < 384
-entry-below Baudot c h = omega arith
-entry-below Dtmf c h = omega arith
-entry-below Edt c h = omega arith
+pub number-below : (a : Alphabet) (c : ℕ) → c < 128 → base a + c < 384
+number-below Baudot c h = omega arith
+number-below Dtmf c h = omega arith
+number-below Edt c h = omega arith
 
--- the entry of a character
-pub entry-of : (a : Alphabet) (c : ℕ) → c < 128 → entryAt (base a + c) ≡ packed (sends a c)
-unfolding entryAt
-entry-of a c h = entry-place (λ b d. packed (sends b d)) a c h
-
--- an entry below 256 sends nothing
-pub packed-nothing : (a : Alphabet) (c : ℕ) → c < 128 → packed (sends a c) < 256 → sends a c ≡ Nothing
-packed-nothing a c h g = go (sends a c) refl g
+-- what was packed is unpacked as it was
+pub unpacked-packed : (a : Alphabet) (c : ℕ) → c < 128 → unpacked a (packed a (sends a c)) ≡ sends a c
+unpacked-packed a c h = go a (sends a c) refl
   where
-    go : (x : Sends) → sends a c ≡ x → packed x < 256 → x ≡ Nothing
-    go Nothing e g = refl
-    go (Code s k) e g =
-        let f = some-shift a in
-        let b = range-of a c h s k e .shift-least in
-        absurd (omega arith)
+    go : (a : Alphabet) (x : Sends) → sends a c ≡ x → unpacked a (packed a x) ≡ x
+    go a Nothing e = refl
+    go Baudot (Code s k) e =
+        let b = range-of Baudot c h s k e in
+        let l = b .shift-least in
+        let i = b .code-in in
+        let p : (32 * s + k .0) / 32 ≡ s = omega arith in
+        let q : (32 * s + k .0) % 32 ≡ k .0 = omega arith in
+        simp (ne-eqb (32 * s + k .0) 0 (λ z. omega arith)) (λ j. Code (p j) (record { 0 = q j }))
+    go Dtmf (Code s k) e =
+        let b = range-of Dtmf c h s k e in
+        let l = b .shift-least in
+        let m = b .shift-most in
+        let n = number-some (k .0) (sent-code c s k e) in
+        let p : 3 ≡ s = omega arith in
+        simp (ne-eqb (k .0) 0 (λ z. omega arith)) (λ j. Code (p j) k)
+    go Edt (Code s k) e =
+        let b = range-of Edt c h s k e in
+        let l = b .shift-least in
+        let m = b .shift-most in
+        let i = b .code-in in
+        let p : 3 ≡ s = omega arith in
+        let q : (128 + k .0) % 128 ≡ k .0 = omega arith in
+        simp (ne-eqb (128 + k .0) 0 (λ z. omega arith)) (λ j. Code (p j) (record { 0 = q j }))
 
--- any other holds its shift and its code
-pub packed-code : (a : Alphabet) (c : ℕ) → c < 128 → 256 ≤ packed (sends a c)
-    → sends a c ≡ Code (packed (sends a c) / 256) (record { 0 = packed (sends a c) % 256 })
-packed-code a c h g = go (sends a c) refl g
+-- a to z of Baudot have the entries of A to Z, computed over the 26
+abbrev likeCapital : ℕ → Bool
+likeCapital i = eqb (packed Baudot (sends Baudot (0x41 + i))) (packed Baudot (sends Baudot (0x61 + i)))
+
+capital-test : T (passes likeCapital 26 0)
+unfolding passes sends bits bitsFrom leftRows rightRows rows a2 printedAt sendBaudot
+capital-test = tt
+
+pub capital-sends : (c : ℕ) → 0x61 ≤ c → c < 0x7b → sends Baudot (c - 0x20) ≡ sends Baudot c
+capital-sends c l h =
+    let t = passes-at likeCapital 26 capital-test (c - 0x61) (omega arith) in
+    let p : 0x41 + (c - 0x61) ≡ c - 0x20 = omega arith in
+    let q : 0x61 + (c - 0x61) ≡ c = omega arith in
+    let u : packed Baudot (sends Baudot (c - 0x20)) ≡ packed Baudot (sends Baudot c) = eqb→eq _ _ (simp (p, q) at t) in
+    sym (unpacked-packed Baudot (c - 0x20) (omega arith)) ∙ ap (unpacked Baudot) u
+    ∙ unpacked-packed Baudot c (omega arith)
+
+pub place-below : (n : ℕ) → n < 384 → placeOf n < 358
+place-below n h =
+    either-by (λ (i : ℕ). i < 358) (ltb n 0x61) (λ e. let l = ltb-true n 0x61 e in omega arith)
+    (λ e. either-by (λ (i : ℕ). i < 358) (ltb n 0x7b) (λ g. let l = ltb-true n 0x7b g in omega arith)
+    (λ g. omega arith))
+
+-- what stands at a number's place is its own or, for a to z of Baudot, its capital's, which sends the same
+pub place-serves : {A : Type 0} (f : Alphabet → Sends → A) (n : ℕ) → asked f (numberAt (placeOf n)) ≡ asked f n
+place-serves f n = go (ltb n 0x61) (ltb n 0x7b) refl refl
   where
-    go : (x : Sends) → sends a c ≡ x → 256 ≤ packed x → x ≡ Code (packed x / 256) (record { 0 = packed x % 256 })
-    go Nothing e g = absurd (omega arith)
-    go (Code s k) e g =
-        let f = few-codes a in
-        let b = range-of a c h s k e .code-in in
-        let p : s ≡ (256 * s + k .0) / 256 = omega arith in
-        let q : k .0 ≡ (256 * s + k .0) % 256 = omega arith in
-        λ i. Code (p i) (record { 0 = q i })
+    small : (m : ℕ) → m < 128 → asked f m ≡ f Baudot (sends Baudot m)
+    small m h = ap (asked f) (sym (zero-add m)) ∙ number-of f Baudot m h
+
+    go : (b d : Bool) → ltb n 0x61 ≡ b → ltb n 0x7b ≡ d
+        → asked f (numberAt (cond b n (cond d (n - 0x20) (n - 26)))) ≡ asked f n
+    go true d e g = ap (λ (b : Bool). asked f (cond b n (n + 26))) e
+    go false true e g =
+        let l = ltb-false n 0x61 e in
+        let h = ltb-true n 0x7b g in
+        let t = lt-ltb (n - 0x20) 0x61 (omega arith) in
+        ap (λ (b : Bool). asked f (cond b (n - 0x20) (n - 0x20 + 26))) t
+        ∙ small (n - 0x20) (omega arith) ∙ ap (f Baudot) (capital-sends n l h) ∙ sym (small n (omega arith))
+    go false false e g =
+        let h = ltb-false n 0x7b g in
+        let t = le-ltb (n - 26) 0x61 (omega arith) in
+        let p : n - 26 + 26 ≡ n = omega arith in
+        ap (λ (b : Bool). asked f (cond b (n - 26) (n - 26 + 26))) t ∙ ap (asked f) p
 
 -- what a lookup makes of the entry at b + c of the table t
 module _ (t : List ℕ) (is : t ≡ sendTable) (a : Alphabet) (c b : ℕ) (h : c < 128) (at-base : b ≡ base a) where
   pub lookup-below : b + c < 384
-  lookup-below = rw at-base (entry-below a c h)
+  lookup-below = rw at-base (number-below a c h)
 
-  entry-is : getD t (b + c) 0 ≡ packed (sends a c)
-  unfolding sendTable
-  entry-is =
+  pub lookup-entry : unpacked a (getD t (b + c) 0) ≡ sends a c
+  unfolding sendTable entryAt
+  lookup-entry =
+      let found : getD t (b + c) 0 ≡ packed a (sends a c) =
       ap (λ (l : List ℕ). getD l (b + c) 0) is ∙ tabulate-at entryAt 0 384 (b + c) lookup-below
-      ∙ ap (λ (n : ℕ). entryAt (n + c)) at-base ∙ entry-of a c h
-
-  pub lookup-small : getD t (b + c) 0 < 1024
-  lookup-small = rw entry-is (go (sends a c) refl)
-    where
-      go : (x : Sends) → sends a c ≡ x → packed x < 1024
-      go Nothing e = omega arith
-      go (Code s k) e =
-          let f = few-codes a in
-          let r = range-of a c h s k e .code-in in
-          let m = range-of a c h s k e .shift-most in
-          omega arith
-
-  pub lookup-nothing : getD t (b + c) 0 < 256 → Nothing ≡ sends a c
-  lookup-nothing g = sym (packed-nothing a c h (subst (λ (n : ℕ). n < 256) entry-is g))
-
-  pub lookup-code : 256 ≤ getD t (b + c) 0
-      → Code (getD t (b + c) 0 / 256) (record { 0 = getD t (b + c) 0 % 256 }) ≡ sends a c
-  lookup-code g = rw entry-is (sym (packed-code a c h (subst (λ (n : ℕ). 256 ≤ n) entry-is g)))
+      ∙ ap (λ (n : ℕ). entryAt (n + c)) at-base ∙ number-of packed a c h in
+      ap (unpacked a) found ∙ unpacked-packed a c h
 
 -- what the lookup of a DTMF code makes of an entry e
 module _ (i e : ℕ) (found : e ≡ dtmfAt i) where

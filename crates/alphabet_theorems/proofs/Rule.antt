@@ -1,7 +1,8 @@
--- The reading-back rule of the sending table, computed once over its 384 entries and carried to each.
-use mathlib.Core.Path.{_≡_, subst}
+-- The reading-back rule of the sending table, computed once over its 358 entries and carried to each of the 384
+-- characters of the three alphabets, to a to z of Baudot by their capitals.
+use mathlib.Core.Path.{_≡_, _∙_, subst}
 use mathlib.Core.Bool.{Bool, true, cond, _&&_}
-use Prim.Native.Nat.{ℕ, _+_, _/_, _%_, _<_, _≤_}
+use Prim.Native.Nat.{ℕ, _+_, _<_, _≤_}
 use lib.Dec.{T, eqb, ltb, ltb→lt}
 use Rattle.lists.specs.Tables.{passes}
 use Rattle.lists.proofs.Tables.{both-left, both-right, passes-at}
@@ -20,9 +21,9 @@ use Rattle.alphabet.specs.Baudot.{printedAt, readBaudot, sendBaudot}
 use Rattle.alphabet.specs.Dtmf.{withMark, codeFrom, marksThenDigit, among, notStruck, remaining, names, firstSign, named, readIn, readDtmf, sendIn, hasRow, sendFrom, sendDtmf}
 use Rattle.alphabet.specs.Normal.{sends, reads}
 use Rattle.alphabet.specs.Modes.{codes}
-use Rattle.alphabet.specs.code.Packing.{base, alphabetAt}
+use Rattle.alphabet.specs.code.Packing.{base, numberAt, placeOf}
 use Rattle.alphabet.proofs.Ranges.{leastShift, InRange, range-of}
-use Rattle.alphabet.proofs.Packing.{entry-place, entry-below}
+use Rattle.alphabet.proofs.Packing.{asked, number-of, number-below, place-below, place-serves}
 use Rattle.alphabet_theorems.proofs.Same.{sameSends, same-sends, isCharacter, is-character}
 
 charOf : Reads → ℕ
@@ -41,9 +42,9 @@ rule a (Code s k) =
     && isCharacter n (reads a (cond (eqb s 3) 1 s) (k .0)) && isCharacter n (reads a (cond (eqb s 3) 2 s) (k .0))
 
 abbrev ruleAt : ℕ → Bool
-ruleAt i = rule (alphabetAt (i / 128)) (sends (alphabetAt (i / 128)) (i % 128))
+ruleAt i = asked rule (numberAt i)
 
-rule-test : T (passes ruleAt 384 0)
+rule-test : T (passes ruleAt 358 0)
 unfolding passes charOf sends reads bits bitsFrom leftRows rightRows rows a1 a2 b1 b2 printedAt readBaudot sendBaudot
     keys withMark codeFrom marksThenDigit among notStruck remaining names firstSign named readIn readDtmf sendIn hasRow
     sendFrom sendDtmf
@@ -81,9 +82,10 @@ rule-read a s k g t =
       figures = is-character n (reads a (cond (eqb s 3) 2 s) (k .0)) (both-right (b₀ && b₁ && b₂) b₃ t);
     }
 
--- the rule at each entry
+-- the rule at each character: that of the entry which serves it
 pub rule-of : (a : Alphabet) (c : ℕ) → c < 128 → (s : ℕ) (k : LineCode) → sends a c ≡ Code s k → ReadBack a s k
 rule-of a c h s k e =
-    let t = passes-at ruleAt 384 rule-test (base a + c) (entry-below a c h) in
-    let u : T (rule a (sends a c)) = subst T (entry-place (λ b d. rule b (sends b d)) a c h) t in
+    let n = base a + c in
+    let t = passes-at ruleAt 358 rule-test (placeOf n) (place-below n (number-below a c h)) in
+    let u : T (rule a (sends a c)) = subst T (place-serves rule n ∙ number-of rule a c h) t in
     rule-read a s k (range-of a c h s k e) (subst (λ (x : Sends). T (rule a x)) e u)

@@ -1,5 +1,6 @@
 // Codes to text: the bare Baudot conversion of reading.
 use alphabet::LineCode;
+use alphabet::table::ReadTable;
 use baudot::BaudotText;
 ghost use mathlib.Core.Path.{_≡_};
 ghost use mathlib.Core.Bool.{true};
@@ -22,7 +23,7 @@ pub struct Taken {
 }
 
 // A code, read at a place.
-fn put_code(table: &[u8; 64], text: &mut [u8], at: usize, shift: u8, code: LineCode) -> Taken
+fn put_code(table: &ReadTable, text: &mut [u8], at: usize, shift: u8, code: LineCode) -> Taken
     requires { ⌜ now table ≡ readTable ⌝ }
     requires { ⌜ (1 ≤ shift) × (shift ≤ 2) ⌝ }
     requires { ⌜ code .0 < 32 ⌝ }
@@ -45,7 +46,7 @@ fn put_code(table: &[u8; 64], text: &mut [u8], at: usize, shift: u8, code: LineC
 }
 
 // A list of codes, read from the front.
-fn put_codes(table: &[u8; 64], codes: &[u8], shift: u8, text: &mut [u8]) -> Taken
+fn put_codes(table: &ReadTable, codes: &[u8], shift: u8, text: &mut [u8]) -> Taken
     requires { ⌜ now table ≡ readTable ⌝ }
     requires { ⌜ (1 ≤ shift) × (shift ≤ 2) ⌝ }
     requires { ⌜ allCodes (now codes) ≡ true ⌝ }

@@ -2,6 +2,7 @@
 use alphabet::Alphabet;
 use alphabet::Char;
 use alphabet::Sends;
+use alphabet::table::SendTable;
 use baudot::BaudotSent;
 use baudot::Sender;
 ghost use mathlib.Core.Path.{_≡_};
@@ -42,7 +43,7 @@ fn shifted(s: Sender, w: u8) -> Sender
 }
 
 // The codes of a character, written at a place by a running sender.
-fn put_char(table: &[u16; 384], codes: &mut [u8], at: usize, s: Sender, c: Char) -> Placed
+fn put_char(table: &SendTable, codes: &mut [u8], at: usize, s: Sender, c: Char) -> Placed
     requires { ⌜ now table ≡ sendTable ⌝ }
     requires { ⌜ c .0 < 128 ⌝ }
     requires { ⌜ Running s ⌝ }
@@ -78,7 +79,7 @@ fn put_char(table: &[u16; 384], codes: &mut [u8], at: usize, s: Sender, c: Char)
 
 // The codes of a text from a place of it on, written at a place by a running sender.
 fn put_from(
-    table: &[u16; 384],
+    table: &SendTable,
     text: &[u8],
     from: usize,
     codes: &mut [u8],
@@ -116,7 +117,7 @@ fn behind(at: usize, w: u8) -> usize
 }
 
 // The place and the sender behind the codes of a character; nothing is written.
-fn count_char(table: &[u16; 384], at: usize, s: Sender, c: Char) -> Placed
+fn count_char(table: &SendTable, at: usize, s: Sender, c: Char) -> Placed
     requires { ⌜ now table ≡ sendTable ⌝ }
     requires { ⌜ c .0 < 128 ⌝ }
     requires { ⌜ Running s ⌝ }
@@ -146,7 +147,7 @@ fn count_char(table: &[u16; 384], at: usize, s: Sender, c: Char) -> Placed
 }
 
 // The place behind the codes of a text from a place of it on; nothing is written.
-fn count_from(table: &[u16; 384], text: &[u8], from: usize, at: usize, s: Sender) -> usize
+fn count_from(table: &SendTable, text: &[u8], from: usize, at: usize, s: Sender) -> usize
     requires { ⌜ now table ≡ sendTable ⌝ }
     requires { ⌜ allChars (now text) ≡ true ⌝ }
     requires { ⌜ (from < length (now text) → Running s) ⌝ }
@@ -163,7 +164,7 @@ fn count_from(table: &[u16; 384], text: &[u8], from: usize, at: usize, s: Sender
 }
 
 // Does a character send anything?
-fn sends_code(table: &[u16; 384], c: Char) -> bool
+fn sends_code(table: &SendTable, c: Char) -> bool
     requires { ⌜ now table ≡ sendTable ⌝ }
     requires { ⌜ c .0 < 128 ⌝ }
     ensures { λ r. ⌜ r ≡ isCode (sends Baudot (c .0)) ⌝ }
@@ -173,7 +174,7 @@ fn sends_code(table: &[u16; 384], c: Char) -> bool
 }
 
 // The place of the first character that sends anything, or the end.
-fn first_code(table: &[u16; 384], text: &[u8]) -> usize
+fn first_code(table: &SendTable, text: &[u8]) -> usize
     requires { ⌜ now table ≡ sendTable ⌝ }
     requires { ⌜ allChars (now text) ≡ true ⌝ }
     ensures { λ r. ⌜ Silent (now (text .entry)) r ⌝ }
@@ -189,7 +190,7 @@ fn first_code(table: &[u16; 384], text: &[u8]) -> usize
 }
 
 // Where a text is taken up: a fresh sender's first shift code stands ahead of the first character that sends anything.
-fn open_text(table: &[u16; 384], text: &[u8], s: Sender) -> Opening
+fn open_text(table: &SendTable, text: &[u8], s: Sender) -> Opening
     requires { ⌜ now table ≡ sendTable ⌝ }
     requires { ⌜ allChars (now text) ≡ true ⌝ }
     requires { ⌜ (s .shift ≤ 2) × (s .count ≤ 72) ⌝ }
@@ -218,7 +219,7 @@ fn open_text(table: &[u16; 384], text: &[u8], s: Sender) -> Opening
 }
 
 // Is there room for the codes of a text? The codes are counted only where twice the text and one more would not do.
-fn fits(table: &[u16; 384], text: &[u8], from: usize, at: usize, s: Sender, room: usize) -> bool
+fn fits(table: &SendTable, text: &[u8], from: usize, at: usize, s: Sender, room: usize) -> bool
     requires { ⌜ now table ≡ sendTable ⌝ }
     requires { ⌜ allChars (now text) ≡ true ⌝ }
     requires { ⌜ (from < length (now text) → Running s) ⌝ }
@@ -244,7 +245,7 @@ fn refused(answer: u8, shift: u8, count: u8) -> BaudotSent
 }
 
 // The codes of an opened text, written from the front.
-fn put_opened(table: &[u16; 384], text: &[u8], o: Opening, codes: &mut [u8]) -> Placed
+fn put_opened(table: &SendTable, text: &[u8], o: Opening, codes: &mut [u8]) -> Placed
     requires { ⌜ now table ≡ sendTable ⌝ }
     requires { ⌜ allChars (now text) ≡ true ⌝ }
     requires { ⌜ (o .from < length (now text) → Running (o .sender)) ⌝ }

@@ -1,7 +1,8 @@
--- `table::lookup_in` meets its contract: an entry below 256 sends nothing, any other holds its shift and its code.
+-- `table::lookup_in` meets its contract: the entry of the character, unpacked.
+use mathlib.Core.Path.{_∙_}
 use Prim.Native.Nat.{_+_, _<_}
 use native.Mathlib.Omega.{arith}
-use Rattle.alphabet.proofs.Packing.{lookup-below, lookup-small, lookup-nothing, lookup-code}
+use Rattle.alphabet.proofs.Packing.{lookup-below, lookup-entry}
 use borrow.Author.Needs.{needs}
 use Rattle.alphabet.proofs.table.lookup_in.Statement.{statement}
 use Rattle.alphabet.proofs.table.lookup_in.Tie as tie
@@ -21,46 +22,19 @@ cast-at c = search needs
 add-at : tie.Need-add-at
 add-at c = omega (arith, below (c .before))
 
-mul-e : tie.Need-mul-e
-mul-e c = omega (arith, below (c .before))
+element-copy-out-unpacked : tie.Need-element-copy-out-unpacked
+element-copy-out-unpacked c = below (c .before)
 
-element-copy-out-e : tie.Need-element-copy-out-e
-element-copy-out-e c = below (c .before)
+unpacked-requires : tie.Need-unpacked-requires
+unpacked-requires c κs = search needs
 
 returns : tie.Need-returns
 returns c =
     let b = c .before .before .before in
     let s = b .before in
-    lookup-nothing (s .args .table .now) (s .pre .0) (s .args .a) (s .args .c .0) _ (s .pre .1) (b .base .ensures)
-    (c .if1 .taken)
-
-cast-t12 : tie.Need-cast-t12
-cast-t12 c =
-    let b = c .before .before .before in
-    let s = b .before in
-    let e = b .base .ensures in
-    omega (arith, lookup-small (s .args .table .now) (s .pre .0) (s .args .a) (s .args .c .0) _ (s .pre .1) e)
-
-cast-t14 : tie.Need-cast-t14
-cast-t14 c = search needs
-
-returns-2 : tie.Need-returns-2
-returns-2 c =
-    let b = c .before .before .before in
-    let s = b .before in
-    lookup-code (s .args .table .now) (s .pre .0) (s .args .a) (s .args .c .0) _ (s .pre .1) (b .base .ensures)
-    (c .if1 .left)
+    c .unpacked .ensures
+    ∙ lookup-entry (s .args .table .now) (s .pre .0) (s .args .a) (s .args .c .0) _ (s .pre .1) (b .base .ensures)
 
 pub lookup-in-spec : {M : Type 1} → statement M
 lookup-in-spec =
-    tie.close
-    (tie.spec
-    base-requires
-    cast-at
-    add-at
-    mul-e
-    element-copy-out-e
-    returns
-    cast-t12
-    cast-t14
-    returns-2)
+    tie.close (tie.spec base-requires cast-at add-at element-copy-out-unpacked unpacked-requires returns)

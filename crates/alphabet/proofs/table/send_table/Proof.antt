@@ -1,21 +1,41 @@
--- `table::send_table` meets its contract: each of the 384 entries is what the definition gives.
-use mathlib.Core.Path.{refl}
-use Rattle.alphabet.specs.Print.{leftRows, rightRows, rows, bitsFrom, bits, keys}
-use Rattle.alphabet.specs.TableA2.{a2}
-use Rattle.alphabet.specs.TableB1.{b1}
-use Rattle.alphabet.specs.TableB2.{b2}
-use Rattle.alphabet.specs.Baudot.{printedAt, sendBaudot}
-use Rattle.alphabet.specs.Dtmf.{withMark, codeFrom, marksThenDigit, among, notStruck, remaining, names, firstSign, named, sendIn, hasRow, sendFrom, sendDtmf}
-use Rattle.alphabet.specs.Normal.{sends}
-use Rattle.lists.specs.Tables.{tabulate}
-use Rattle.alphabet.specs.code.Packing.{entryAt, sendTable}
+-- `table::send_table` meets its contract: the entries of all numbers, laid out in three parts.
+use mathlib.Core.Path.{_≡_, refl}
+use native.Mathlib.Omega.{arith}
+use Rattle.alphabet.specs.code.Packing.{storedTable}
+use Rattle.alphabet.proofs.Laying.{first-place, letter-place, later-place, all-laid}
+use borrow.Author.Needs.{needs}
 use Rattle.alphabet.proofs.table.send_table.Statement.{statement}
 use Rattle.alphabet.proofs.table.send_table.Tie as tie
 
+-- the moments ahead of the first and of the second part
+abbrev first : tie.After-stored3 → tie.After-stored2
+first c = c .before .before .before
+
+abbrev second : tie.After-stored4 → tie.After-stored3
+second c = c .before .before .before
+
+is-stored : (c : tie.After-stored2) → c .before .before .stored .result ≡ storedTable
+is-stored c = c .before .before .stored .ensures
+
+stored-requires : tie.Need-stored-requires
+stored-requires c κs = search needs
+
+lay-out-requires : tie.Need-lay-out-requires
+lay-out-requires c κs = (is-stored c, ((omega arith, omega arith), first-place))
+
+lay-out-requires-2 : tie.Need-lay-out-requires-2
+lay-out-requires-2 c κs = (is-stored (first c), ((omega arith, omega arith), letter-place))
+
+lay-out-requires-3 : tie.Need-lay-out-requires-3
+lay-out-requires-3 c κs = (is-stored (first (second c)), ((omega arith, omega arith), later-place))
+
 returns : tie.Need-returns
-unfolding tabulate sendTable entryAt sends bits bitsFrom leftRows rightRows rows a2 b1 b2 printedAt sendBaudot keys
-    withMark codeFrom marksThenDigit among notStruck remaining names firstSign named sendIn hasRow sendFrom sendDtmf
-returns c = refl
+returns c =
+    let l₂ = c .before .before .before in
+    let l₁ = l₂ .before .before .before in
+    all-laid _ _ _ _ refl (l₁ .lay-out .ensures) (l₂ .lay-out2 .ensures) (c .lay-out3 .ensures)
 
 pub send-table-spec : {M : Type 1} → statement M
-send-table-spec = tie.close (tie.spec returns)
+send-table-spec =
+    tie.close
+    (tie.spec stored-requires lay-out-requires lay-out-requires-2 lay-out-requires-3 returns)
