@@ -318,6 +318,20 @@ static void silent(void)
     sends("all that send nothing, figures", text, n, CQ_SHIFT_FIGURES, 0, ROOM, text, 0, CQ_SHIFT_FIGURES, 0);
 }
 
+/* a to z send what A to Z send; what stands around the letters in T.50 has codes of its own. */
+static void letters(void)
+{
+    static const uint8_t capitals[] = "@ABCDEFGHIJKLMNOPQRSTUVWXYZ", small[] = "@abcdefghijklmnopqrstuvwxyz";
+    static const uint8_t codes[] = {29, 3,  25, 14, 9,  1,  13, 26, 20, 6,  11, 15, 18, 28,
+                                    12, 24, 22, 23, 10, 5,  16, 7,  30, 19, 29, 21, 17};
+    static const uint8_t around[] = {0x5B, 0x5C, 0x5D, 0x5E, 0x5F, 0x60, 0x7B, 0x7C, 0x7D, 0x7E, 0x7F};
+    static const uint8_t around_codes[] = {15, 29, 18, 11, 4, 11, 15, 13, 18, 4};
+    size_t n = sizeof codes, m = sizeof around_codes;
+    sends("@ and A to Z", capitals, n, CQ_SHIFT_LETTERS, 0, n, codes, n, CQ_SHIFT_LETTERS, (uint8_t)n);
+    sends("@ and a to z", small, n, CQ_SHIFT_LETTERS, 0, n, codes, n, CQ_SHIFT_LETTERS, (uint8_t)n);
+    sends("around them", around, sizeof around, CQ_SHIFT_FIGURES, 0, m, around_codes, m, CQ_SHIFT_FIGURES, (uint8_t)m);
+}
+
 static void empty(void)
 {
     static const uint8_t none[1] = {0xFF};
@@ -989,6 +1003,7 @@ int main(void)
     examples();
     continued();
     silent();
+    letters();
     empty();
     refusals();
     whole_and_cut();

@@ -160,7 +160,7 @@ row-code s (r ∷ rs) h e = go (eqt s (r .from)) refl e (row-code s rs (h .1))
     go true f g rest = subst IsCode (sym (eqt→eq s (r .from) (subst T (sym f) tt))) (h .0)
     go false f g rest = rest g
 
-abbrev pub CodeSent : Sends → Type 0
+abbrev CodeSent : Sends → Type 0
 CodeSent Nothing = Unit {0}
 CodeSent (Code own k) = isDtmfCode (k .0) ≡ true
 
@@ -169,7 +169,7 @@ unfolding AllCodes sendIn
 in-rows c x [] f h = f
 in-rows c x (r ∷ rs) f h = either CodeSent (eqb (drawn (r .sign)) c) _ _ (h .0) (in-rows c x rs f (h .1))
 
-pub dtmf-sent : (c : ℕ) → CodeSent (sendDtmf c)
+dtmf-sent : (c : ℕ) → CodeSent (sendDtmf c)
 unfolding remaining sendFrom sendDtmf
 dtmf-sent c = either CodeSent (eqb c 0x00) Nothing _ tt (in-rows c _ remaining (by-b2 (hasRow s remaining) refl) all)
   where
@@ -184,6 +184,7 @@ dtmf-sent c = either CodeSent (eqb c 0x00) Nothing _ tt (in-rows c _ remaining (
     by-b2 true e = row-code s remaining all e
     by-b2 false e = tt
 
-pub sent-code : (c s : ℕ) (k : LineCode) → sends Dtmf c ≡ Code s k → isDtmfCode (k .0) ≡ true
+-- a code that a character sends is one of these
+pub dtmf-sends : (c s : ℕ) (k : LineCode) → sends Dtmf c ≡ Code s k → isDtmfCode (k .0) ≡ true
 unfolding sends
-sent-code c s k e = subst CodeSent e (dtmf-sent c)
+dtmf-sends c s k e = subst CodeSent e (dtmf-sent c)

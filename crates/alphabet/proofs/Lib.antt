@@ -1,5 +1,5 @@
 pub mod Ranges
 pub mod Packing
-pub mod Laying
+pub mod Storage
 pub mod ReadingBack
 pub mod DtmfCodes

@@ -4,12 +4,10 @@ use mathlib.Core.Bool.{Bool, true, false, cond, _&&_}
 use mathlib.Core.List.{List, [], _∷_, _++_}
 use Prim.Native.Nat.{ℕ, zero, suc, _+_, _*_, _-_, _/_, _%_, _<_, _≤_}
 use native.Mathlib.Omega.{arith}
-use native.Mathlib.Nat.{zero-add}
-use lib.Dec.{T, eqb, eqb→eq, ltb, ltb→lt}
+use lib.Dec.{T, eqb, ltb, ltb→lt}
 use lib.ListN.{getD}
-use borrow.Author.Tests.{ne-eqb, eqb-true, ltb-true, ltb-false, lt-ltb, le-ltb}
+use borrow.Author.Tests.{ne-eqb, eqb-true, lt-ltb, le-ltb}
 use Rattle.lists.specs.Tables.{passes}
-use Rattle.lists.proofs.Lists.{either-by}
 use Rattle.lists.proofs.Tables.{both-left, both-right, tabulate-at, passes-at}
 use Rattle.alphabet.specs.declared.Alphabet.{Alphabet}
 use Rattle.alphabet.specs.declared.Alphabet.the-variants.{Baudot, Dtmf, Edt}
@@ -17,15 +15,14 @@ use Rattle.alphabet.specs.declared.Sends.{Sends}
 use Rattle.alphabet.specs.declared.Sends.the-variants.{Nothing, Code}
 use Rattle.alphabet.specs.declared.Reads.{Reads}
 use Rattle.alphabet.specs.declared.Reads.the-variants.{Character, Shift, NoRow}
-use Rattle.alphabet.specs.Print.{leftRows, rightRows, rows, bitsFrom, bits, keys}
-use Rattle.alphabet.specs.TableA2.{a2}
-use Rattle.alphabet.specs.Baudot.{lettersCode, figuresCode, printedAt, sendBaudot, readBaudot}
+use Rattle.alphabet.specs.Print.{keys}
+use Rattle.alphabet.specs.Baudot.{lettersCode, figuresCode, readBaudot}
 use Rattle.alphabet.specs.Dtmf.{prefixes, keysOf, readDtmf}
 use Rattle.alphabet.specs.Normal.{sends}
-use Rattle.alphabet.specs.code.Packing.{base, alphabetAt, sendsAt, packed, codeIn, unpacked, entryAt, numberAt, placeOf, sendTable}
+use Rattle.alphabet.specs.code.Packing.{base, alphabetAt, sendsAt, packed, unpacked, entryAt, sendTable}
 use Rattle.alphabet.specs.code.Packing.{readTable, shiftOf, packedRead, charIn, baudotAt, dtmfAt, keyAt}
 use Rattle.alphabet.proofs.Ranges.{charOrNone, range-of, dtmf-read}
-use Rattle.alphabet.proofs.DtmfCodes.{number-some, sent-code}
+use Rattle.alphabet.proofs.DtmfCodes.{number-some, dtmf-sends}
 
 -- ---- the table of sending
 
@@ -68,7 +65,7 @@ unpacked-packed a c h = go a (sends a c) refl
         let b = range-of Dtmf c h s k e in
         let l = b .shift-least in
         let m = b .shift-most in
-        let n = number-some (k .0) (sent-code c s k e) in
+        let n = number-some (k .0) (dtmf-sends c s k e) in
         let p : 3 ≡ s = omega arith in
         simp (ne-eqb (k .0) 0 (λ z. omega arith)) (λ j. Code (p j) k)
     go Edt (Code s k) e =
@@ -79,51 +76,6 @@ unpacked-packed a c h = go a (sends a c) refl
         let p : 3 ≡ s = omega arith in
         let q : (128 + k .0) % 128 ≡ k .0 = omega arith in
         simp (ne-eqb (128 + k .0) 0 (λ z. omega arith)) (λ j. Code (p j) (record { 0 = q j }))
-
--- a to z of Baudot have the entries of A to Z, computed over the 26
-abbrev likeCapital : ℕ → Bool
-likeCapital i = eqb (packed Baudot (sends Baudot (0x41 + i))) (packed Baudot (sends Baudot (0x61 + i)))
-
-capital-test : T (passes likeCapital 26 0)
-unfolding passes sends bits bitsFrom leftRows rightRows rows a2 printedAt sendBaudot
-capital-test = tt
-
-pub capital-sends : (c : ℕ) → 0x61 ≤ c → c < 0x7b → sends Baudot (c - 0x20) ≡ sends Baudot c
-capital-sends c l h =
-    let t = passes-at likeCapital 26 capital-test (c - 0x61) (omega arith) in
-    let p : 0x41 + (c - 0x61) ≡ c - 0x20 = omega arith in
-    let q : 0x61 + (c - 0x61) ≡ c = omega arith in
-    let u : packed Baudot (sends Baudot (c - 0x20)) ≡ packed Baudot (sends Baudot c) = eqb→eq _ _ (simp (p, q) at t) in
-    sym (unpacked-packed Baudot (c - 0x20) (omega arith)) ∙ ap (unpacked Baudot) u
-    ∙ unpacked-packed Baudot c (omega arith)
-
-pub place-below : (n : ℕ) → n < 384 → placeOf n < 358
-place-below n h =
-    either-by (λ (i : ℕ). i < 358) (ltb n 0x61) (λ e. let l = ltb-true n 0x61 e in omega arith)
-    (λ e. either-by (λ (i : ℕ). i < 358) (ltb n 0x7b) (λ g. let l = ltb-true n 0x7b g in omega arith)
-    (λ g. omega arith))
-
--- what stands at a number's place is its own or, for a to z of Baudot, its capital's, which sends the same
-pub place-serves : {A : Type 0} (f : Alphabet → Sends → A) (n : ℕ) → asked f (numberAt (placeOf n)) ≡ asked f n
-place-serves f n = go (ltb n 0x61) (ltb n 0x7b) refl refl
-  where
-    small : (m : ℕ) → m < 128 → asked f m ≡ f Baudot (sends Baudot m)
-    small m h = ap (asked f) (sym (zero-add m)) ∙ number-of f Baudot m h
-
-    go : (b d : Bool) → ltb n 0x61 ≡ b → ltb n 0x7b ≡ d
-        → asked f (numberAt (cond b n (cond d (n - 0x20) (n - 26)))) ≡ asked f n
-    go true d e g = ap (λ (b : Bool). asked f (cond b n (n + 26))) e
-    go false true e g =
-        let l = ltb-false n 0x61 e in
-        let h = ltb-true n 0x7b g in
-        let t = lt-ltb (n - 0x20) 0x61 (omega arith) in
-        ap (λ (b : Bool). asked f (cond b (n - 0x20) (n - 0x20 + 26))) t
-        ∙ small (n - 0x20) (omega arith) ∙ ap (f Baudot) (capital-sends n l h) ∙ sym (small n (omega arith))
-    go false false e g =
-        let h = ltb-false n 0x7b g in
-        let t = le-ltb (n - 26) 0x61 (omega arith) in
-        let p : n - 26 + 26 ≡ n = omega arith in
-        ap (λ (b : Bool). asked f (cond b (n - 26) (n - 26 + 26))) t ∙ ap (asked f) p
 
 -- what a lookup makes of the entry at b + c of the table t
 module _ (t : List ℕ) (is : t ≡ sendTable) (a : Alphabet) (c b : ℕ) (h : c < 128) (at-base : b ≡ base a) where

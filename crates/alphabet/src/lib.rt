@@ -4,6 +4,7 @@ ghost use Rattle.alphabet.specs.Modes.{modeNumber, modeOf, preambleOf, a
 ghost use Rattle.alphabet.specs.code.Numbers.{lastSample};
 
 pub mod dtmf;
+mod stored;
 pub mod table;
 
 // A T.50 character, 00 to 7F.

@@ -23,7 +23,8 @@ use Rattle.alphabet.specs.Normal.{sends, reads}
 use Rattle.alphabet.specs.Modes.{codes}
 use Rattle.alphabet.specs.code.Packing.{base, numberAt, placeOf}
 use Rattle.alphabet.proofs.Ranges.{leastShift, InRange, range-of}
-use Rattle.alphabet.proofs.Packing.{asked, number-of, number-below, place-below, place-serves}
+use Rattle.alphabet.proofs.Packing.{asked, number-of, number-below}
+use Rattle.alphabet.proofs.Storage.{place-below, place-serves}
 use Rattle.alphabet_theorems.proofs.Same.{sameSends, same-sends, isCharacter, is-character}
 
 charOf : Reads → ℕ

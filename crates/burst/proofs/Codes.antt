@@ -1,5 +1,5 @@
 -- Codes of an alphabet: each is below all codes, and what a character sends is one.
-use mathlib.Core.Path.{_≡_, subst}
+use mathlib.Core.Path.{_≡_}
 use mathlib.Core.Bool.{true}
 use Prim.Native.Nat.{ℕ, _<_}
 use borrow.Author.Tests.{ltb-true, lt-ltb}
@@ -10,7 +10,7 @@ use Rattle.alphabet.specs.declared.Sends.the-variants.{Code}
 use Rattle.alphabet.specs.Normal.{sends}
 use Rattle.alphabet.specs.Modes.{codes}
 use Rattle.alphabet.proofs.Ranges.{range-of}
-use Rattle.alphabet.proofs.DtmfCodes.{number-few, CodeSent, dtmf-sent}
+use Rattle.alphabet.proofs.DtmfCodes.{number-few, dtmf-sends}
 use Rattle.burst.specs.Range.{isCodeOf}
 
 pub code-few : (a : Alphabet) (n : ℕ) → isCodeOf a n ≡ true → n < codes a
@@ -22,7 +22,7 @@ code-few Edt n e = ltb-true n 128 e
 -- a code that a character sends is a code of its alphabet
 pub sent-code : (a : Alphabet) (c : ℕ) → c < 128 → (own : ℕ) (k : LineCode) → sends a c ≡ Code own k
     → isCodeOf a (k .0) ≡ true
-unfolding sends isCodeOf
+unfolding isCodeOf
 sent-code Baudot c h own k e = lt-ltb (k .0) 32 (range-of Baudot c h own k e .code-in)
-sent-code Dtmf c h own k e = subst CodeSent e (dtmf-sent c)
+sent-code Dtmf c h own k e = dtmf-sends c own k e
 sent-code Edt c h own k e = lt-ltb (k .0) 128 (range-of Edt c h own k e .code-in)

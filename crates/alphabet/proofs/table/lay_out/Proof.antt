@@ -3,8 +3,7 @@ use mathlib.Core.Path.{_≡_}
 use Prim.Native.Nat.{_+_, _-_, _<_}
 use native.Mathlib.Omega.{arith}
 use Rattle.alphabet.specs.code.Packing.{placeOf}
-use Rattle.alphabet.proofs.Packing.{place-below}
-use Rattle.alphabet.proofs.Laying.{stored-entry, Laid, laid-start, laid-turn, laid-end}
+use Rattle.alphabet.proofs.Storage.{place-below, stored-entry, Laid, laid-start, laid-turn, laid-end}
 use borrow.Author.Needs.{needs}
 use Rattle.alphabet.proofs.table.lay_out.Statement.{statement}
 use Rattle.alphabet.proofs.table.lay_out.Tie as tie

@@ -2,23 +2,23 @@
 use mathlib.Core.Path.{_≡_, refl}
 use native.Mathlib.Omega.{arith}
 use Rattle.alphabet.specs.code.Packing.{storedTable}
-use Rattle.alphabet.proofs.Laying.{first-place, letter-place, later-place, all-laid}
+use Rattle.alphabet.proofs.Storage.{first-place, letter-place, later-place, all-laid}
 use borrow.Author.Needs.{needs}
 use Rattle.alphabet.proofs.table.send_table.Statement.{statement}
 use Rattle.alphabet.proofs.table.send_table.Tie as tie
 
 -- the moments ahead of the first and of the second part
-abbrev first : tie.After-stored3 → tie.After-stored2
+abbrev first : tie.After-stored2 → tie.After-stored
 first c = c .before .before .before
 
-abbrev second : tie.After-stored4 → tie.After-stored3
+abbrev second : tie.After-stored3 → tie.After-stored2
 second c = c .before .before .before
 
-is-stored : (c : tie.After-stored2) → c .before .before .stored .result ≡ storedTable
-is-stored c = c .before .before .stored .ensures
+is-stored : (c : tie.After-stored) → c .before .before .entries .result ≡ storedTable
+is-stored c = c .before .before .entries .ensures
 
-stored-requires : tie.Need-stored-requires
-stored-requires c κs = search needs
+entries-requires : tie.Need-entries-requires
+entries-requires c κs = search needs
 
 lay-out-requires : tie.Need-lay-out-requires
 lay-out-requires c κs = (is-stored c, ((omega arith, omega arith), first-place))
@@ -38,4 +38,4 @@ returns c =
 pub send-table-spec : {M : Type 1} → statement M
 send-table-spec =
     tie.close
-    (tie.spec stored-requires lay-out-requires lay-out-requires-2 lay-out-requires-3 returns)
+    (tie.spec entries-requires lay-out-requires lay-out-requires-2 lay-out-requires-3 returns)

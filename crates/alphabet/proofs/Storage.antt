@@ -1,18 +1,72 @@
--- How the table of sending is laid out from the one that is stored: number by number, the entry at its place.
+-- The table of sending, as it is stored: what serves a number, and how the table that is lent is laid out from it.
 use mathlib.Core.Path.{_≡_, _∙_, refl, sym, ap}
+use mathlib.Core.Bool.{Bool, true, false, cond}
 use mathlib.Core.List.{List, [], _∷_, _++_, append-nil}
 use Prim.Native.Nat.{ℕ, suc, _+_, _-_, _<_, _≤_}
 use native.Mathlib.Nat.{add-zero, zero-add}
 use native.Mathlib.Numerals.{add-one}
 use native.Mathlib.Omega.{arith}
+use lib.Dec.{T, eqb, eqb→eq, ltb}
 use lib.ListN.{length, getD, set, drop, drop-of-length-le}
 use lib.Seq.{sets}
-use borrow.Author.Tests.{lt-ltb, le-ltb}
-use Rattle.lists.specs.Tables.{tabulate}
-use Rattle.lists.proofs.Lists.{sets-append, sets-front}
-use Rattle.lists.proofs.Tables.{tabulate-at, tabulate-length, tabulate-append}
-use Rattle.alphabet.specs.code.Packing.{packed, entryAt, numberAt, placeOf, sendTable, storedTable}
-use Rattle.alphabet.proofs.Packing.{place-below, place-serves}
+use borrow.Author.Tests.{ltb-true, ltb-false, lt-ltb, le-ltb}
+use Rattle.lists.specs.Tables.{tabulate, passes}
+use Rattle.lists.proofs.Lists.{either-by, sets-append, sets-front}
+use Rattle.lists.proofs.Tables.{passes-at, tabulate-at, tabulate-length, tabulate-append}
+use Rattle.alphabet.specs.declared.Alphabet.{Alphabet}
+use Rattle.alphabet.specs.declared.Alphabet.the-variants.{Baudot}
+use Rattle.alphabet.specs.declared.Sends.{Sends}
+use Rattle.alphabet.specs.Print.{leftRows, rightRows, rows, bitsFrom, bits}
+use Rattle.alphabet.specs.TableA2.{a2}
+use Rattle.alphabet.specs.Baudot.{printedAt, sendBaudot}
+use Rattle.alphabet.specs.Normal.{sends}
+use Rattle.alphabet.specs.code.Packing.{packed, unpacked, entryAt, sendTable, numberAt, storedTable, placeOf}
+use Rattle.alphabet.proofs.Packing.{asked, number-of, unpacked-packed}
+
+-- a to z of Baudot have the entries of A to Z, computed over the 26
+abbrev likeCapital : ℕ → Bool
+likeCapital i = eqb (packed Baudot (sends Baudot (0x41 + i))) (packed Baudot (sends Baudot (0x61 + i)))
+
+capital-test : T (passes likeCapital 26 0)
+unfolding passes sends bits bitsFrom leftRows rightRows rows a2 printedAt sendBaudot
+capital-test = tt
+
+pub capital-sends : (c : ℕ) → 0x61 ≤ c → c < 0x7b → sends Baudot (c - 0x20) ≡ sends Baudot c
+capital-sends c l h =
+    let t = passes-at likeCapital 26 capital-test (c - 0x61) (omega arith) in
+    let p : 0x41 + (c - 0x61) ≡ c - 0x20 = omega arith in
+    let q : 0x61 + (c - 0x61) ≡ c = omega arith in
+    let u : packed Baudot (sends Baudot (c - 0x20)) ≡ packed Baudot (sends Baudot c) = eqb→eq _ _ (simp (p, q) at t) in
+    sym (unpacked-packed Baudot (c - 0x20) (omega arith)) ∙ ap (unpacked Baudot) u
+    ∙ unpacked-packed Baudot c (omega arith)
+
+pub place-below : (n : ℕ) → n < 384 → placeOf n < 358
+place-below n h =
+    either-by (λ (i : ℕ). i < 358) (ltb n 0x61) (λ e. let l = ltb-true n 0x61 e in omega arith)
+    (λ e. either-by (λ (i : ℕ). i < 358) (ltb n 0x7b) (λ g. let l = ltb-true n 0x7b g in omega arith)
+    (λ g. omega arith))
+
+-- what stands at a number's place is its own or, for a to z of Baudot, its capital's, which sends the same
+pub place-serves : {A : Type 0} (f : Alphabet → Sends → A) (n : ℕ) → asked f (numberAt (placeOf n)) ≡ asked f n
+place-serves f n = go (ltb n 0x61) (ltb n 0x7b) refl refl
+  where
+    small : (m : ℕ) → m < 128 → asked f m ≡ f Baudot (sends Baudot m)
+    small m h = ap (asked f) (sym (zero-add m)) ∙ number-of f Baudot m h
+
+    go : (b d : Bool) → ltb n 0x61 ≡ b → ltb n 0x7b ≡ d
+        → asked f (numberAt (cond b n (cond d (n - 0x20) (n - 26)))) ≡ asked f n
+    go true d e g = ap (λ (b : Bool). asked f (cond b n (n + 26))) e
+    go false true e g =
+        let l = ltb-false n 0x61 e in
+        let h = ltb-true n 0x7b g in
+        let t = lt-ltb (n - 0x20) 0x61 (omega arith) in
+        ap (λ (b : Bool). asked f (cond b (n - 0x20) (n - 0x20 + 26))) t
+        ∙ small (n - 0x20) (omega arith) ∙ ap (f Baudot) (capital-sends n l h) ∙ sym (small n (omega arith))
+    go false false e g =
+        let h = ltb-false n 0x7b g in
+        let t = le-ltb (n - 26) 0x61 (omega arith) in
+        let p : n - 26 + 26 ≡ n = omega arith in
+        ap (λ (b : Bool). asked f (cond b (n - 26) (n - 26 + 26))) t ∙ ap (asked f) p
 
 -- the entry that is stored at a number's place
 pub stored-entry : (t : List ℕ) → t ≡ storedTable → (n i : ℕ) → n < 384 → i ≡ placeOf n → getD t i 0 ≡ entryAt n
