@@ -3,7 +3,7 @@ use mathlib.Core.Path.{_≡_, _∙_, refl, sym, ap}
 use mathlib.Core.Bool.{Bool, true, false, cond}
 use mathlib.Core.List.{List, [], _∷_, _++_, append-nil}
 use Prim.Native.Nat.{ℕ, suc, _+_, _-_, _<_, _≤_}
-use native.Mathlib.Nat.{add-zero, zero-add}
+use native.Mathlib.Nat.{zero-add}
 use native.Mathlib.Numerals.{add-one}
 use native.Mathlib.Omega.{arith}
 use lib.Dec.{T, eqb, eqb→eq, ltb}
@@ -75,15 +75,20 @@ stored-entry t is n i h e =
     ap (λ (l : List ℕ). getD l i 0) is ∙ ap (λ (j : ℕ). getD storedTable j 0) e
     ∙ tabulate-at (λ j. entryAt (numberAt j)) 0 358 (placeOf n) (place-below n h) ∙ place-serves packed n
 
--- the places ahead of a number's: a to z of Baudot, those before them, and those behind them
-pub first-place : (n : ℕ) → 0 ≤ n → n < 0x61 → placeOf n + 0 ≡ n
-first-place n l h = simp (lt-ltb n 0x61 h, add-zero)
+-- how far the places stand ahead of their numbers: before a to z of Baudot, for these, and behind them
+pub first-place : (from to ahead : ℕ) → to ≤ 0x61 → ahead ≡ 0
+    → (n : ℕ) → from ≤ n → n < to → placeOf n + ahead ≡ n
+first-place from to ahead m e n l h = rw (lt-ltb n 0x61 (omega arith)) (omega arith)
 
-pub letter-place : (n : ℕ) → 0x61 ≤ n → n < 0x7b → placeOf n + 0x20 ≡ n
-letter-place n l h = rw (le-ltb n 0x61 l, lt-ltb n 0x7b h) (omega arith)
+pub letter-place : (from to ahead : ℕ) → 0x61 ≤ from → to ≤ 0x7b → ahead ≡ 0x20
+    → (n : ℕ) → from ≤ n → n < to → placeOf n + ahead ≡ n
+letter-place from to ahead k m e n l h =
+    rw (le-ltb n 0x61 (omega arith), lt-ltb n 0x7b (omega arith)) (omega arith)
 
-pub later-place : (n : ℕ) → 0x7b ≤ n → n < 384 → placeOf n + 26 ≡ n
-later-place n l h = rw (le-ltb n 0x61 (omega arith), le-ltb n 0x7b l) (omega arith)
+pub later-place : (from to ahead : ℕ) → 0x7b ≤ from → ahead ≡ 26
+    → (n : ℕ) → from ≤ n → n < to → placeOf n + ahead ≡ n
+later-place from to ahead k e n l h =
+    rw (le-ltb n 0x61 (omega arith), le-ltb n 0x7b (omega arith)) (omega arith)
 
 -- ---- some numbers: what is left of them, written behind what stands there, is the whole
 
@@ -119,14 +124,17 @@ laid-end table₀ from to table n l h =
 
 -- ---- the whole table, in parts
 
-two-parts : (f : ℕ → ℕ) (l : List ℕ) (m n : ℕ)
-    → sets (sets l 0 (tabulate f m 0)) m (tabulate f n m) ≡ sets l 0 (tabulate f (m + n) 0)
-two-parts f l m n =
+two-parts : (f : ℕ → ℕ) (l : List ℕ) (m n : ℕ) → m ≤ n
+    → sets (sets l 0 (tabulate f m 0)) m (tabulate f (n - m) m) ≡ sets l 0 (tabulate f n 0)
+two-parts f l m n h =
+    let k = n - m in
     let front = sets l 0 (tabulate f m 0) in
     let p : 0 + length (tabulate f m 0) ≡ m = zero-add (length (tabulate f m 0)) ∙ tabulate-length f m 0 in
     let q : m + 0 ≡ m = omega arith in
-    sym (ap (sets l 0) (tabulate-append f m n 0) ∙ sets-append l 0 (tabulate f m 0) (tabulate f n (m + 0))
-    ∙ ap (λ (i : ℕ). sets front i (tabulate f n (m + 0))) p ∙ ap (λ (i : ℕ). sets front m (tabulate f n i)) q)
+    let e : m + k ≡ n = omega arith in
+    sym (ap (λ (i : ℕ). sets l 0 (tabulate f i 0)) (sym e) ∙ ap (sets l 0) (tabulate-append f m k 0)
+    ∙ sets-append l 0 (tabulate f m 0) (tabulate f k (m + 0))
+    ∙ ap (λ (i : ℕ). sets front i (tabulate f k (m + 0))) p ∙ ap (λ (i : ℕ). sets front m (tabulate f k i)) q)
 
 whole : (f : ℕ → ℕ) (l : List ℕ) (n : ℕ) → length l ≡ n → sets l 0 (tabulate f n 0) ≡ tabulate f n 0
 whole f l n size =
@@ -135,13 +143,15 @@ whole f l n size =
     let h : length l ≤ length t = omega arith in
     sets-front l t (omega arith) ∙ ap (λ (d : List ℕ). t ++ d) (drop-of-length-le l h) ∙ append-nil t
 
-pub all-laid : (l t₁ t₂ t₃ : List ℕ) → length l ≡ 384
-    → t₁ ≡ sets l 0 (tabulate entryAt 0x61 0)
-    → t₂ ≡ sets t₁ 0x61 (tabulate entryAt 26 0x61)
-    → t₃ ≡ sets t₂ 0x7b (tabulate entryAt 261 0x7b)
-    → t₃ ≡ sendTable
+pub all-laid : (l t₁ t₂ t₃ : List ℕ) (m n : ℕ)
+    → t₃ ≡ sets t₂ n (tabulate entryAt (384 - n) n)
+    → t₂ ≡ sets t₁ m (tabulate entryAt (n - m) m)
+    → t₁ ≡ sets l 0 (tabulate entryAt (m - 0) 0)
+    → length l ≡ 384 → m ≤ n → n ≤ 384 → t₃ ≡ sendTable
 unfolding sendTable
-all-laid l t₁ t₂ t₃ size e₁ e₂ e₃ =
-    let p = e₂ ∙ ap (λ (t : List ℕ). sets t 0x61 (tabulate entryAt 26 0x61)) e₁ ∙ two-parts entryAt l 0x61 26 in
-    e₃ ∙ ap (λ (t : List ℕ). sets t 0x7b (tabulate entryAt 261 0x7b)) p ∙ two-parts entryAt l 0x7b 261
+all-laid l t₁ t₂ t₃ m n e₃ e₂ e₁ size h g =
+    let z : m - 0 ≡ m = omega arith in
+    let p₁ = e₁ ∙ ap (λ (i : ℕ). sets l 0 (tabulate entryAt i 0)) z in
+    let p₂ = e₂ ∙ ap (λ (t : List ℕ). sets t m (tabulate entryAt (n - m) m)) p₁ ∙ two-parts entryAt l m n h in
+    e₃ ∙ ap (λ (t : List ℕ). sets t n (tabulate entryAt (384 - n) n)) p₂ ∙ two-parts entryAt l n 384 g
     ∙ whole entryAt l 384 size

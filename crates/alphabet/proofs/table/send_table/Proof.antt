@@ -21,19 +21,26 @@ entries-requires : tie.Need-entries-requires
 entries-requires c κs = search needs
 
 lay-out-requires : tie.Need-lay-out-requires
-lay-out-requires c κs = (is-stored c, ((omega arith, omega arith), first-place))
+lay-out-requires c κs = (is-stored c, ((omega arith, omega arith), first-place _ _ _ (omega arith) (omega arith)))
 
 lay-out-requires-2 : tie.Need-lay-out-requires-2
-lay-out-requires-2 c κs = (is-stored (first c), ((omega arith, omega arith), letter-place))
+lay-out-requires-2 c κs = (
+  is-stored (first c),
+  ((omega arith, omega arith), letter-place _ _ _ (omega arith) (omega arith) (omega arith)),
+)
 
 lay-out-requires-3 : tie.Need-lay-out-requires-3
-lay-out-requires-3 c κs = (is-stored (first (second c)), ((omega arith, omega arith), later-place))
+lay-out-requires-3 c κs = (
+  is-stored (first (second c)),
+  ((omega arith, omega arith), later-place _ _ _ (omega arith) (omega arith)),
+)
 
 returns : tie.Need-returns
 returns c =
     let l₂ = c .before .before .before in
     let l₁ = l₂ .before .before .before in
-    all-laid _ _ _ _ refl (l₁ .lay-out .ensures) (l₂ .lay-out2 .ensures) (c .lay-out3 .ensures)
+    all-laid _ _ _ _ 0x61 0x7b (c .lay-out3 .ensures) (l₂ .lay-out2 .ensures) (l₁ .lay-out .ensures)
+    refl (omega arith) (omega arith)
 
 pub send-table-spec : {M : Type 1} → statement M
 send-table-spec =
