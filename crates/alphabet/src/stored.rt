@@ -2,8 +2,8 @@
 ghost use mathlib.Core.Path.{_≡_};
 ghost use Rattle.alphabet.specs.code.Packing.{storedTable};
 
-// 102 entries of Baudot, for 00 to 60 and for 7B to 7F, then 128 of DTMF and 128 of EDT. An entry is 0 for a character that
-// sends nothing, else 32 times its shift plus its code (Baudot), its code (DTMF), or 128 plus its code (EDT).
+// 102 entries of Baudot, for 00 to 60 and for 7B to 7F, then 128 of DTMF and 128 of EDT. An entry is 0 for a character
+// that sends nothing, else 32 times its shift plus its code (Baudot), its code (DTMF), or 128 plus its code (EDT).
 pub type Stored = [u8; 358];
 
 const SEND: Stored = [

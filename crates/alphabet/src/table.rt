@@ -1,4 +1,4 @@
-// The tables of sending and reading, and their lookups. How an entry is packed, and where it is stored, is known to this
+// The tables of sending and reading, and their lookups. How an entry is packed and where it is stored is known to this
 // module and to `stored` alone.
 use crate::Alphabet;
 use crate::Char;
@@ -23,7 +23,8 @@ pub const LETTERS: LineCode = LineCode(0b11111);
 
 pub const FIGURES: LineCode = LineCode(0b11011);
 
-// The table of reading Baudot: the characters of Table A.1, letters and then figures; 0 for a code that selects a shift.
+// The table of reading Baudot: the characters of Table A.1, letters and then figures; 0 for a code that selects a
+// shift.
 pub type ReadTable = [u8; 64];
 
 const READ_BAUDOT: ReadTable = [
@@ -356,12 +357,12 @@ const READ_DTMF: [u8; 256] = [
 // The table of sending, as it is lent to lookups: 128 entries for each alphabet.
 pub type SendTable = [u8; 384];
 
-// The numbers of a to z in Baudot, which have no entries: from the first one on, below the second.
-const LOWER: usize = 0x61;
+// The numbers of a to z of Baudot, for which no entries are stored: from this one on, and below that one.
+const LOWER_A: usize = 0x61;
 
-const BEHIND: usize = 0x7b;
+const PAST_LOWER_Z: usize = 0x7b;
 
-// The entries of some numbers, each from the place that stands `ahead` of its number.
+// The entries of the numbers from one on, below another, each from the place that is so far ahead of its number.
 fn lay_out(table: &mut SendTable, stored: &Stored, from: usize, to: usize, ahead: usize)
     requires { ⌜ now stored ≡ storedTable ⌝ }
     requires { ⌜ (from ≤ to) × (to ≤ 384) ⌝ }
@@ -381,9 +382,11 @@ pub fn send_table() -> SendTable
 {
     let stored = crate::stored::entries();
     let mut table: SendTable = [0; 384];
-    lay_out(&mut table, &stored, 0, LOWER, 0);
-    lay_out(&mut table, &stored, LOWER, BEHIND, 0x20);
-    lay_out(&mut table, &stored, BEHIND, 384, 26);
+    lay_out(&mut table, &stored, 0, LOWER_A, 0);
+    // A to Z serve them, 32 ahead
+    lay_out(&mut table, &stored, LOWER_A, PAST_LOWER_Z, 0x20);
+    // all others have moved up by 26
+    lay_out(&mut table, &stored, PAST_LOWER_Z, 384, 26);
     table
 }
 
@@ -405,6 +408,9 @@ fn base(a: Alphabet) -> usize
     }
 }
 
+// The shift of every code of DTMF and EDT.
+const BOTH_SHIFTS: u8 = 3;
+
 // What an entry says.
 fn unpacked(a: Alphabet, e: u8) -> Sends
     ensures { λ r. ⌜ r ≡ unpacked a e ⌝ }
@@ -418,11 +424,11 @@ fn unpacked(a: Alphabet, e: u8) -> Sends
             code: LineCode(e % 32),
         },
         Alphabet::Dtmf => Sends::Code {
-            shift: 3,
+            shift: BOTH_SHIFTS,
             code: LineCode(e),
         },
         Alphabet::Edt => Sends::Code {
-            shift: 3,
+            shift: BOTH_SHIFTS,
             code: LineCode(e % 128),
         },
     }
