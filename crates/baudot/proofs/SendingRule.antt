@@ -1,6 +1,6 @@
 -- Laws of the sending rule.
 use mathlib.Core.Path.{_≡_, _∙_, refl, sym, ap}
-use mathlib.Core.Bool.{Bool, true, false, cond, not, _&&_, false≢true}
+use mathlib.Core.Bool.{Bool, true, false, cond, not, _&&_, _||_, false≢true}
 use mathlib.Core.List.{List, [], _∷_}
 use mathlib.Core.Logic.{_⊎_, inl, inr, ⊎-elim}
 use Prim.Native.Nat.{ℕ, _+_, _*_, _/_, _%_, _≤_, _<_}
@@ -8,7 +8,7 @@ use native.Mathlib.Omega.{arith}
 use lib.Bits.{bitAnd}
 use lib.Dec.{T, eqb, leb}
 use lib.ListN.{length, length-append}
-use borrow.Author.Tests.{eq-eqb, ne-eqb, eqb-false, le-leb, lt-leb, leb-true, leb-false}
+use borrow.Author.Tests.{eq-eqb, ne-eqb, eqb-false, le-leb, lt-leb, leb-true, leb-false, not-true}
 use Rattle.lists.specs.Tables.{passes}
 use Rattle.lists.proofs.Tables.{agree, agreed, passes-at}
 use Rattle.alphabet.specs.declared.Alphabet.the-variants.{Baudot}
@@ -19,7 +19,7 @@ use Rattle.alphabet.specs.Normal.{sends, allChars}
 use Rattle.lists.proofs.Lists.{at-most-head, at-most-tail}
 use Rattle.alphabet.proofs.Ranges.{range-of}
 use Rattle.baudot.specs.declared.Sender.{Sender}
-use Rattle.baudot.specs.Sending.{sender, differs, wanted, shifted, shiftCodes, shiftCode, counted, codesFor, senderFor, codesOf, Running}
+use Rattle.baudot.specs.Sending.{sender, differs, wanted, opened, shifted, shiftCodes, shiftCode, counted, codesFor, senderFor, codesOf, Running}
 
 meetAt : ℕ → Bool
 meetAt i =
@@ -57,15 +57,41 @@ module _ (s : Sender) (own : ℕ) (r : Running s) where
   unfolding wanted
   wanted-none d l = simp (not-fresh, d, lt-leb 72 (s .count) l)
 
+  -- behind a shift code that is wanted, its shift is in force
+  pub behind-wanted : not (eqb (wanted s own) 0) ≡ true → opened s own .shift ≡ wanted s own
+  behind-wanted n = simp (not-true (eqb (wanted s own) 0) n)
+
+  -- a code that is of the shift in force leaves it
+  pub behind-same : differs own (s .shift) ≡ false → s .shift ≡ opened s own .shift
+  behind-same d = go (leb 72 (s .count)) refl
+    where
+      go : (b : Bool) → leb 72 (s .count) ≡ b → s .shift ≡ opened s own .shift
+      go true e = simp (wanted-again d (leb-true 72 (s .count) e), not-fresh)
+      go false e = simp (wanted-none d (leb-false 72 (s .count) e))
+
   module _ (range : (1 ≤ own) × (own ≤ 3)) where
-    meets : eqb (bitAnd own (s .shift)) 0 ≡ differs own (s .shift)
+    pub meets : eqb (bitAnd own (s .shift)) 0 ≡ differs own (s .shift)
     meets = meet-differs own (s .shift) (range .0) (range .1) (r .shift-low) (r .shift-in)
 
-    pub apart : bitAnd own (s .shift) ≡ 0 → differs own (s .shift) ≡ true
-    apart e = sym meets ∙ eq-eqb (bitAnd own (s .shift)) 0 e
+    -- another brings its own
+    pub behind-other : differs own (s .shift) ≡ true → own ≡ opened s own .shift
+    behind-other d = simp (wanted-change d, ne-eqb own 0 (λ z. let l = range .0 in omega arith))
 
-    pub together : (bitAnd own (s .shift) ≡ 0 → ⊥) → differs own (s .shift) ≡ false
-    together n = sym meets ∙ ne-eqb (bitAnd own (s .shift)) 0 n
+    -- whether a shift code is wanted, by the two tests
+    pub wants-is : (differs own (s .shift) || leb 72 (s .count)) ≡ not (eqb (wanted s own) 0)
+    wants-is = by-shift (differs own (s .shift)) refl
+      where
+        some : (w : ℕ) → 1 ≤ w → wanted s own ≡ w → true ≡ not (eqb (wanted s own) 0)
+        some w l e = rw e (sym (ap not (ne-eqb w 0 (λ z. omega arith))))
+
+        by-count : (b : Bool) → leb 72 (s .count) ≡ b → differs own (s .shift) ≡ false
+            → b ≡ not (eqb (wanted s own) 0)
+        by-count true e d = some (s .shift) (r .shift-low) (wanted-again d (leb-true 72 (s .count) e))
+        by-count false e d = simp (wanted-none d (leb-false 72 (s .count) e))
+
+        by-shift : (b : Bool) → differs own (s .shift) ≡ b → (b || leb 72 (s .count)) ≡ not (eqb (wanted s own) 0)
+        by-shift true d = some own (range .0) (wanted-change d)
+        by-shift false d = by-count (leb 72 (s .count)) refl d
 
 differs-self : (n : ℕ) → differs n n ≡ false
 differs-self n = simp (eq-eqb n n refl) (go (not (eqb n 3)))

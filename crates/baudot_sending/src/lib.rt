@@ -58,8 +58,7 @@ fn put_char(table: &SendTable, codes: &mut [u8], at: usize, s: Sender, c: Char) 
     let Sends::Code { shift: own, code } = e else {
         return Placed { at, sender: s };
     };
-    let w = baudot::sending::wanted(s, own);
-    if w == 0 {
+    if !baudot::sending::wants_shift(s, own) {
         codes[at] = code.0;
         return Placed {
             at: at + 1,
@@ -69,6 +68,7 @@ fn put_char(table: &SendTable, codes: &mut [u8], at: usize, s: Sender, c: Char) 
             },
         };
     }
+    let w = baudot::sending::shift_behind(s, own);
     codes[at] = baudot::sending::shift_code(w).0;
     codes[at + 1] = code.0;
     Placed {

@@ -1,13 +1,16 @@
 -- `sending::put_char` meets its contract, by what is wanted ahead of the character's code.
 use mathlib.Core.Path.{_≡_, _∙_, sym}
+use mathlib.Core.Bool.{true, not}
 use Prim.Native.Nat.{ℕ, _+_, _≤_, _<_}
 use native.Mathlib.Omega.{arith}
+use lib.Dec.{eqb}
 use lib.ListN.{length, length-set}
+use borrow.Author.Tests.{eqb-true, eqb-false, not-true, not-false}
 use Rattle.alphabet.specs.declared.Alphabet.the-variants.{Baudot}
 use Rattle.alphabet.specs.declared.Sends.the-variants.{Code}
 use Rattle.alphabet.specs.Normal.{sends}
 use Rattle.baudot.specs.Sending.{wanted}
-use Rattle.baudot.proofs.SendingRule.{own-range}
+use Rattle.baudot.proofs.SendingRule.{own-range, behind-wanted}
 use Rattle.baudot_sending.proofs.Put.{put-nothing, put-none, put-some, room-none, room-some}
 use borrow.Author.Needs.{needs}
 use Rattle.baudot_sending.proofs.put_char.Statement.{statement}
@@ -29,10 +32,15 @@ range-is k = own-range _ _ _ (start k .pre .1 .0) (sent-is k)
 
 -- no shift code is wanted; one is
 none-is : (c : tie.Then1) → wanted (start (c .before .before) .args .s) (own (c .before .before)) ≡ 0
-none-is c = sym (c .before .wanted .ensures) ∙ c .if1 .taken
+none-is c =
+    let b = not-true _ (c .if1 .taken) in
+    eqb-true _ 0 (not-false _ (sym (c .before .wants-shift .ensures) ∙ b))
 
-some-is : (c : tie.Else1) → wanted (start (c .before .before) .args .s) (own (c .before .before)) ≡ 0 → ⊥
-some-is c e = c .if1 .left (c .before .wanted .ensures ∙ e)
+some-is : (c : tie.Else1) → not (eqb (wanted (start (c .before .before) .args .s) (own (c .before .before))) 0) ≡ true
+some-is c = sym (c .before .wants-shift .ensures) ∙ not-false _ (c .if1 .left)
+
+not-none : (c : tie.Else1) → wanted (start (c .before .before) .args .s) (own (c .before .before)) ≡ 0 → ⊥
+not-none c = eqb-false _ 0 (not-true _ (some-is c))
 
 -- the room for both codes
 room : (c : tie.Else1) → start (c .before .before) .args .at + 1 < length (start (c .before .before) .args .codes .now)
@@ -40,7 +48,7 @@ room c =
     let k = c .before .before in
     let s = start k in
     room-some (s .args .codes .now) (s .args .at) (s .args .s) _ _ _
-    (sent-is k) (s .pre .1 .1 .0) (range-is k .0) (range-is k .1) (some-is c) (s .pre .1 .1 .1)
+    (sent-is k) (s .pre .1 .1 .0) (range-is k .0) (range-is k .1) (not-none c) (s .pre .1 .1 .1)
 
 lookup-in-requires : tie.Need-lookup-in-requires
 lookup-in-requires c κs = search needs
@@ -58,8 +66,8 @@ returns c =
     let p = put-nothing (a .codes .now) (a .at) (a .s) _ e in
     (p .placed, p .stored)
 
-wanted-requires : tie.Need-wanted-requires
-wanted-requires c κs = (start c .pre .1 .1 .0, range-is c)
+wants-shift-requires : tie.Need-wants-shift-requires
+wants-shift-requires c κs = (start c .pre .1 .1 .0, range-is c)
 
 slice-write-codes : tie.Need-slice-write-codes
 slice-write-codes c =
@@ -68,11 +76,11 @@ slice-write-codes c =
     room-none (s .args .codes .now) (s .args .at) (s .args .s) _ _ _
     (sent-is k) (s .pre .1 .1 .0) (range-is k .0) (range-is k .1) (none-is c) (s .pre .1 .1 .1)
 
-add-t13 : tie.Need-add-t13
-add-t13 c = search needs
-
 add-t14 : tie.Need-add-t14
 add-t14 c = search needs
+
+add-t15 : tie.Need-add-t15
+add-t15 c = search needs
 
 same-length : tie.Need-same-length
 same-length c = search needs
@@ -85,31 +93,37 @@ returns-2 c =
     (sent-is k) (s .pre .1 .1 .0) (range-is k .0) (range-is k .1) (none-is (c .before)) in
     (p .placed, p .stored)
 
+shift-behind-requires : tie.Need-shift-behind-requires
+shift-behind-requires c κs =
+    let k = c .before .before in
+    (start k .pre .1 .1 .0, range-is k)
+
 shift-code-requires : tie.Need-shift-code-requires
 shift-code-requires c κs = search needs
 
 slice-write-codes-2 : tie.Need-slice-write-codes-2
-slice-write-codes-2 c = omega (arith, room (c .before))
+slice-write-codes-2 c = omega (arith, room (c .before .before))
 
 add-codes : tie.Need-add-codes
 add-codes c = search needs
 
 slice-write-codes-3 : tie.Need-slice-write-codes-3
-slice-write-codes-3 c = rw length-set (room (c .before))
+slice-write-codes-3 c = rw length-set (room (c .before .before))
 
-add-t18 : tie.Need-add-t18
-add-t18 c = search needs
+add-t19 : tie.Need-add-t19
+add-t19 c = search needs
 
 same-length-2 : tie.Need-same-length-2
 same-length-2 c = search needs
 
 returns-3 : tie.Need-returns-3
 returns-3 c =
-    let k = c .before .before .before in
+    let i = c .before .before in
+    let k = i .before .before in
     let s = start k in
     let p = put-some (s .args .codes .now) (s .args .at) (s .args .s) _ _ _
-    (sent-is k) (s .pre .1 .1 .0) (range-is k .0) (range-is k .1) (some-is (c .before)) in
-    let w = c .before .before .wanted .ensures in
+    (sent-is k) (s .pre .1 .1 .0) (range-is k .0) (range-is k .1) (not-none i) in
+    let w = c .before .shift-behind .ensures ∙ behind-wanted _ _ (s .pre .1 .1 .0) (some-is i) in
     (simp w (p .placed), simp (c .shift-code .ensures, w) (p .stored))
 
 pub put-char-spec : {M : Type 1} → statement M
@@ -120,16 +134,17 @@ put-char-spec =
     enum-known-e
     enum-told
     returns
-    wanted-requires
+    wants-shift-requires
     slice-write-codes
-    add-t13
     add-t14
+    add-t15
     same-length
     returns-2
+    shift-behind-requires
     shift-code-requires
     slice-write-codes-2
     add-codes
     slice-write-codes-3
-    add-t18
+    add-t19
     same-length-2
     returns-3)

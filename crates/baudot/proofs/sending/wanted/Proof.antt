@@ -1,27 +1,25 @@
--- `sending::wanted` meets its contract: the common bits of the two shifts say whether they differ.
-use mathlib.Core.Path.{sym}
-use Rattle.baudot.proofs.SendingRule.{wanted-change, wanted-again, wanted-none, apart, together}
+-- `sending::wanted` meets its contract: the shift behind what is wanted, if anything is.
+use mathlib.Core.Path.{_∙_, sym}
+use borrow.Author.Tests.{eqb-true, not-false}
+use Rattle.baudot.proofs.SendingRule.{behind-wanted}
+use borrow.Author.Needs.{needs}
 use Rattle.baudot.proofs.sending.wanted.Statement.{statement}
 use Rattle.baudot.proofs.sending.wanted.Tie as tie
+
+wants-shift-requires : tie.Need-wants-shift-requires
+wants-shift-requires c κs = search needs
+
+shift-behind-requires : tie.Need-shift-behind-requires
+shift-behind-requires c κs = search needs
 
 returns : tie.Need-returns
 returns c =
     let k = c .before .before in
-    sym (wanted-change _ _ (k .pre .0) (apart _ _ (k .pre .0) (k .pre .1) (c .if1 .taken)))
+    c .shift-behind .ensures
+    ∙ behind-wanted _ _ (k .before .pre .0) (sym (k .wants-shift .ensures) ∙ c .before .if1 .taken)
 
 returns-2 : tie.Need-returns-2
-returns-2 c =
-    let e = c .before .before in
-    let k = e .before .before in
-    let t = together _ _ (k .pre .0) (k .pre .1) (e .if1 .left) in
-    sym (wanted-again _ _ (k .pre .0) t (c .if2 .taken))
-
-returns-3 : tie.Need-returns-3
-returns-3 c =
-    let e = c .before .before in
-    let k = e .before .before in
-    let t = together _ _ (k .pre .0) (k .pre .1) (e .if1 .left) in
-    sym (wanted-none _ _ (k .pre .0) t (c .if2 .left))
+returns-2 c = sym (eqb-true _ 0 (not-false _ (sym (c .before .wants-shift .ensures) ∙ c .if1 .left)))
 
 pub wanted-spec : {M : Type 1} → statement M
-wanted-spec = tie.close (tie.spec returns returns-2 returns-3)
+wanted-spec = tie.close (tie.spec wants-shift-requires shift-behind-requires returns returns-2)
