@@ -20,8 +20,8 @@ use Rattle.alphabet.specs.TableB1.{b1}
 use Rattle.alphabet.specs.TableB2.{b2}
 use Rattle.alphabet.specs.Baudot.{printedAt}
 use Rattle.alphabet.specs.Dtmf.{isDigit, isMark, withMark, isDtmfCode, codeFrom, codeOfKeys, marksThenDigit, isCode}
-use Rattle.alphabet.specs.Normal.{sends}
 use Rattle.alphabet.specs.Dtmf.{among, notStruck, remaining, drawn, sendIn, hasRow, sendFrom, sendDtmf}
+use Rattle.alphabet.specs.Normal.{sends}
 
 -- the tests on a key, taken apart
 pub digit-bounds : (k : ℕ) → isDigit k ≡ true → (1 ≤ k) × (k ≤ 10)

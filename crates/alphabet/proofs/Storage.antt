@@ -1,13 +1,13 @@
 -- The table of sending, as it is stored: what serves a number, and how the table that is lent is laid out from it.
 use mathlib.Core.Path.{_≡_, _∙_, refl, sym, ap}
 use mathlib.Core.Bool.{Bool, true, false, cond}
-use mathlib.Core.List.{List, [], _∷_, _++_, append-nil}
+use mathlib.Core.List.{List, _++_, append-nil}
 use Prim.Native.Nat.{ℕ, suc, _+_, _-_, _<_, _≤_}
 use native.Mathlib.Nat.{zero-add}
 use native.Mathlib.Numerals.{add-one}
 use native.Mathlib.Omega.{arith}
 use lib.Dec.{T, eqb, eqb→eq, ltb}
-use lib.ListN.{length, getD, set, drop, drop-of-length-le}
+use lib.ListN.{length, getD, set, drop-of-length-le}
 use lib.Seq.{sets}
 use borrow.Author.Tests.{ltb-true, ltb-false, lt-ltb, le-ltb}
 use Rattle.lists.specs.Tables.{tabulate, passes}
@@ -94,11 +94,10 @@ later-place from to ahead k e n l h =
 
 pub record Laid (table₀ : List ℕ) (from to : ℕ) (table : List ℕ) (n : ℕ) : Type 0 where
   pub least : from ≤ n
-  pub most : n ≤ to
   pub rest : sets table n (tabulate entryAt (to - n) n) ≡ sets table₀ from (tabulate entryAt (to - from) from)
 
-pub laid-start : (table : List ℕ) (from to : ℕ) → from ≤ to → Laid table from to table from
-laid-start table from to h = record { least = omega arith; most = h; rest = refl }
+pub laid-start : (table : List ℕ) (from to : ℕ) → Laid table from to table from
+laid-start table from to = record { least = omega arith; rest = refl }
 
 pub laid-turn : (table₀ : List ℕ) (from to : ℕ) (table : List ℕ) (n x : ℕ) → Laid table₀ from to table n
     → n < to → x ≡ entryAt n → Laid table₀ from to (set table n x) (n + 1)
@@ -109,7 +108,6 @@ laid-turn table₀ from to table n x l h e =
     let p : to - n ≡ suc k = omega arith in
     record {
       least = omega arith;
-      most = omega arith;
       rest = ap (λ (i : ℕ). sets (set table n x) i (tabulate entryAt k i)) (add-one n)
           ∙ ap (λ (v : ℕ). sets (set table n v) (suc n) (tabulate entryAt k (suc n))) e
           ∙ ap (λ (i : ℕ). sets table n (tabulate entryAt i n)) (sym p) ∙ l .rest;

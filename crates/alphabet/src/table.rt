@@ -365,7 +365,7 @@ const PAST_LOWER_Z: usize = 0x7b;
 // The entries of the numbers from one on, below another, each from the place that is so far ahead of its number.
 fn lay_out(table: &mut SendTable, stored: &Stored, from: usize, to: usize, ahead: usize)
     requires { ⌜ now stored ≡ storedTable ⌝ }
-    requires { ⌜ (from ≤ to) × (to ≤ 384) ⌝ }
+    requires { ⌜ to ≤ 384 ⌝ }
     requires { ⌜ ((n : ℕ) → from ≤ n → n < to → placeOf n + ahead ≡ n) ⌝ }
     ensures { λ r. ⌜ now (table .exit) ≡ sets (now (table .entry)) from (tabulate entryAt (to - from) from) ⌝ }
 {

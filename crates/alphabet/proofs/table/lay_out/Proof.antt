@@ -4,7 +4,6 @@ use Prim.Native.Nat.{_+_, _-_, _<_}
 use native.Mathlib.Omega.{arith}
 use Rattle.alphabet.specs.code.Packing.{placeOf}
 use Rattle.alphabet.proofs.Storage.{place-below, stored-entry, Laid, laid-start, laid-turn, laid-end}
-use borrow.Author.Needs.{needs}
 use Rattle.alphabet.proofs.table.lay_out.Statement.{statement}
 use Rattle.alphabet.proofs.table.lay_out.Tie as tie
 
@@ -20,10 +19,10 @@ served : (k : tie.In-loop Inv-loop μ-loop)
 served k = k .before .before .pre .1 .1 (k .before .loop .n) (k .before .loop .inv .least) (k .loop-test .taken)
 
 number : (k : tie.In-loop Inv-loop μ-loop) → k .before .loop .n < 384
-number k = let t = k .loop-test .taken in let m = k .before .before .pre .1 .0 .1 in omega arith
+number k = let t = k .loop-test .taken in let m = k .before .before .pre .1 .0 in omega arith
 
 loop-holds : tie.Need-loop-holds Inv-loop μ-loop
-loop-holds c = laid-start _ _ _ (c .pre .1 .0 .0)
+loop-holds c = laid-start _ _ _
 
 sub-table : tie.Need-sub-table Inv-loop μ-loop
 sub-table c = let p = served c in omega arith

@@ -21,18 +21,18 @@ entries-requires : tie.Need-entries-requires
 entries-requires c κs = search needs
 
 lay-out-requires : tie.Need-lay-out-requires
-lay-out-requires c κs = (is-stored c, ((omega arith, omega arith), first-place _ _ _ (omega arith) (omega arith)))
+lay-out-requires c κs = (is-stored c, (omega arith, first-place _ _ _ (omega arith) (omega arith)))
 
 lay-out-requires-2 : tie.Need-lay-out-requires-2
 lay-out-requires-2 c κs = (
   is-stored (first c),
-  ((omega arith, omega arith), letter-place _ _ _ (omega arith) (omega arith) (omega arith)),
+  (omega arith, letter-place _ _ _ (omega arith) (omega arith) (omega arith)),
 )
 
 lay-out-requires-3 : tie.Need-lay-out-requires-3
 lay-out-requires-3 c κs = (
   is-stored (first (second c)),
-  ((omega arith, omega arith), later-place _ _ _ (omega arith) (omega arith)),
+  (omega arith, later-place _ _ _ (omega arith) (omega arith)),
 )
 
 returns : tie.Need-returns

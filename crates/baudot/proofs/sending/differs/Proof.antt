@@ -1,6 +1,5 @@
 -- `sending::differs` meets its contract: the common bits of the two shifts say whether they differ.
 use Rattle.baudot.proofs.SendingRule.{meets}
-use borrow.Author.Needs.{needs}
 use Rattle.baudot.proofs.sending.differs.Statement.{statement}
 use Rattle.baudot.proofs.sending.differs.Tie as tie
 
