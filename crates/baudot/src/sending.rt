@@ -29,8 +29,8 @@ fn differs(s: Sender, own: u8) -> bool
     own & s.shift == 0
 }
 
-// Does a running sender want a shift code ahead of a code of the shift `own`? Both are asked, so that a loop over a text
-// has one branch here.
+// Does a running sender want a shift code ahead of a code of the shift `own`? Both tests are made, so that a loop over
+// a text has one branch here.
 pub fn wants_shift(s: Sender, own: u8) -> bool
     requires { ⌜ Running s ⌝ }
     requires { ⌜ (1 ≤ own) × (own ≤ 3) ⌝ }
