@@ -1,6 +1,6 @@
 -- What the functions of this crate need of the definitions.
 use mathlib.Core.Path.{_≡_, _∙_, refl, ap}
-use mathlib.Core.Bool.{Bool, true, false, and-false}
+use mathlib.Core.Bool.{Bool, true, false, not, _&&_, and-false}
 use mathlib.Core.List.{List, [], _∷_}
 use Prim.Native.Nat.{ℕ, zero, suc, _≤_, _<_}
 use native.Mathlib.Omega.{arith}
@@ -20,7 +20,7 @@ use Rattle.baudot.specs.declared.Sender.{Sender}
 use Rattle.baudot.specs.Sending.{sender, shiftCode}
 use Rattle.burst.specs.declared.OnLine.{OnLine}
 use Rattle.burst.specs.Rules.{openingShift, shiftWanted, senderAfterOwn}
-use Rattle.burst.specs.Line.{onLine, further, partMs, isOver, loaded, shiftBegins, codeBegins, isOpening, nextCode}
+use Rattle.burst.specs.Line.{onLine, further, inBurst, partMs, isOver, begun, loaded, shiftBegins, codeBegins, isOpening, nextCode}
 use Rattle.burst.specs.Line.{levelOn, oneGone, closed}
 use Rattle.burst.specs.code.Next.{shiftAhead, nextFor}
 
@@ -68,6 +68,15 @@ module _ (mode : Mode) (l : OnLine) where
 
   pub code-ms : l .part ≡ 2 → length (partMs mode l) ≡ length (signal mode (l .code .0))
   code-ms e = ap length (code-is e)
+
+-- where none begins what is on the line stays; in no burst one begins with its preamble
+pub begun-same : (begins : Bool) (l : OnLine) → (begins && not (inBurst l)) ≡ false → begun begins l ≡ l
+unfolding begun
+begun-same begins l e = rw e refl
+
+pub begun-first : (l : OnLine) → inBurst l ≡ false → begun true l ≡ onLine 1 0 0
+unfolding begun
+begun-first l e = rw e refl
 
 -- a shift code begins as the code makes it
 pub shift-made : (w k : ℕ) → k ≡ shiftCode w → loaded (onLine 2 k 0) (sender w 0) false ≡ shiftBegins w

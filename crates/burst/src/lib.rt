@@ -6,8 +6,8 @@ use alphabet::Mode;
 use alphabet::Sends;
 use baudot::Sender;
 ghost use mathlib.Core.Path.{_≡_};
-ghost use Prim.Native.Nat.{_+_, _≤_, _<_};
-ghost use mathlib.Core.Bool.{not, _&&_};
+ghost use Prim.Native.Nat.{_+_, _^_, _≤_, _<_};
+ghost use mathlib.Core.Bool.{cond, not, _&&_};
 ghost use lib.Dec.{eqb};
 ghost use lib.ListN.{length};
 ghost use Rattle.alphabet.specs.declared.Alphabet.the-variants.{Baudot};
@@ -18,7 +18,7 @@ ghost use Rattle.burst.specs.Line.{idle, isCode, partMs, isOver, begun, 
 ghost use Rattle.burst.specs.Range.{isCodeOf, codeIn, lineIn};
 ghost use Rattle.baudot.specs.code.Bounds.{SenderIn};
 ghost use Rattle.burst.specs.code.Bounds.{LineIn, SendsIn};
-ghost use Rattle.burst.specs.code.Next.{shiftAhead, nextFor};
+ghost use Rattle.burst.specs.code.Next.{shiftAhead, nextFor, whole};
 
 pub mod rules;
 
@@ -154,7 +154,7 @@ fn opening_shift(s: Sender) -> u8
 }
 
 // Is a shift code to open the burst, behind its preamble?
-fn is_opening(a: Alphabet, l: OnLine) -> bool
+pub fn is_opening(a: Alphabet, l: OnLine) -> bool
     ensures { λ r. ⌜ r ≡ isOpening a l ⌝ }
 {
     if l.part != PREAMBLE {
@@ -217,6 +217,43 @@ pub fn code_begins(a: Alphabet, l: OnLine, s: Sender, sends: Sends) -> Loaded
     }
 }
 
+// A code that begins, with all its ms sent.
+fn whole(mode: Mode, q: Loaded) -> Loaded
+    ensures { λ r. ⌜ r ≡ whole mode q ⌝ }
+{
+    let l = q.line;
+    let sender = q.sender;
+    Loaded {
+        line: OnLine {
+            at: signal::duration(mode, l.code),
+            ..l
+        },
+        sender,
+        takes: q.takes,
+    }
+}
+
+// The next code of a burst, with characters waiting, all of whose ms are sent: the place on the line is their number.
+// With it the sender after the code, and whether the front character is taken.
+pub fn whole_code(mode: Mode, a: Alphabet, l: OnLine, s: Sender, sends: Sends) -> Loaded
+    requires { ⌜ SenderIn s ⌝ }
+    requires { ⌜ SendsIn a sends ⌝ }
+    ensures { λ r. ⌜ r ≡ whole mode (nextFor a l s sends) ⌝ }
+{
+    whole(mode, code_begins(a, l, s, sends))
+}
+
+// The place of the front character after a code.
+pub fn place_after(takes: bool, place: usize) -> usize
+    requires { ⌜ place + 1 < 2 ^ 64 ⌝ }
+    ensures { λ r. ⌜ r ≡ cond takes (place + 1) place ⌝ }
+{
+    if takes {
+        return place + 1;
+    }
+    place
+}
+
 // The shift code that opens the burst.
 fn opening_begins(s: Sender) -> Loaded
     ensures { λ r. ⌜ r ≡ shiftBegins (openingShift s) ⌝ }
@@ -227,6 +264,13 @@ fn opening_begins(s: Sender) -> Loaded
         sender: Sender { shift, count: 0 },
         takes: false,
     }
+}
+
+// The same, and all its ms.
+pub fn whole_opening(mode: Mode, s: Sender) -> Loaded
+    ensures { λ r. ⌜ r ≡ whole mode (shiftBegins (openingShift s)) ⌝ }
+{
+    whole(mode, opening_begins(s))
 }
 
 // In a burst with no ms of a part left, the next code begins.

@@ -7,14 +7,14 @@ use native.Mathlib.Omega.{arith}
 use lib.Dec.{eqb, leb, ltb}
 use lib.ListN.{length, getD, take, drop, drop-of-length-le}
 use lib.Seq.{sets, length-sets, drop-cons, drop-drop, take-add}
-use borrow.Author.Tests.{leb-true, ltb-true, ltb-false, lt-ltb, le-leb, ne-eqb, eq-eqb, eqb-true, eqb-false}
+use borrow.Author.Tests.{leb-true, ltb-true, ltb-false, lt-ltb, le-leb, ne-eqb, eqb-true, eqb-false}
 use Rattle.lists.specs.Tables.{tabulate}
 use Rattle.lists.proofs.Lists.{sets-append, either, either-by, and-left, and-right}
 use Rattle.alphabet.specs.declared.Alphabet.{Alphabet}
 use Rattle.alphabet.specs.declared.Mode.{Mode}
 use Rattle.alphabet.specs.declared.Sends.{Sends}
 use Rattle.alphabet.specs.declared.Sends.the-variants.{Nothing, Code}
-use Rattle.alphabet.specs.Modes.{alphabetOf, codes}
+use Rattle.alphabet.specs.Modes.{alphabetOf, codes, longest}
 use Rattle.alphabet.specs.Normal.{sends, isCode}
 use Rattle.baudot.specs.declared.Sender.{Sender}
 use Rattle.signal.specs.Signal.{signal}
@@ -24,13 +24,13 @@ use Rattle.half_duplex.specs.declared.Core.{Core}
 use Rattle.burst.specs.declared.OnLine.{OnLine}
 use Rattle.burst.specs.declared.Loaded.{Loaded}
 use Rattle.burst.specs.Rules.{mayBegin, mayEnd, opensWithShift, openingShift, shiftWanted}
-use Rattle.burst.specs.Line.{further, onLine, inBurst, partMs, isOver, codeBegins, isOpening, nextCode}
-use Rattle.burst.specs.Line.{frontIsNext, ended, closed}
+use Rattle.burst.specs.Line.{further, onLine, inBurst, partMs, isOver, loaded, codeBegins, isOpening, nextCode}
+use Rattle.burst.specs.Line.{levelOn, ended, closed}
 use Rattle.half_duplex.specs.Core.{core, modeIn, settled, waitingAfter}
 use Rattle.baudot.specs.code.Bounds.{SenderIn}
 use Rattle.burst.specs.code.Bounds.{SendsIn}
-use Rattle.burst.specs.code.Next.{nextFor}
-use Rattle.burst.proofs.Laws.{code-ms, waiting-next}
+use Rattle.burst.specs.code.Next.{nextFor, whole}
+use Rattle.burst.proofs.Laws.{begun-same, waiting-next}
 use Rattle.burst.proofs.Range.{blank-in, sends-in, begins-in, shift-starts, opening-in}
 use Rattle.queue.proofs.Moves.{moved-place}
 use Rattle.queue.specs.Queue.{waits, allWait, waitingOf, movedBy, inRange as queueIn}
@@ -44,9 +44,9 @@ use Rattle.station.proofs.Takings.{taken-after}
 use Rattle.half_duplex_runs.specs.code.Cores.{silenceFor, deafReader, burstLeft, loadedCore, sentFor, codedCore}
 use Rattle.station_stretches.specs.code.Stretches.{between, Stretches}
 use Rattle.half_duplex_runs.proofs.Laws.{silence-full, silence-none, deaf-some, burst-some}
-use Rattle.station_stretches.proofs.Laws.{begun-same, left-burst, left-over, gone-over}
+use Rattle.station_stretches.proofs.Laws.{left-over}
 use Rattle.station_stretches.proofs.Joining.{between-length, begin-stretch, send-stretch}
-use Rattle.signal_runs.proofs.Elements.{code-levels}
+use Rattle.signal_runs.proofs.Elements.{short}
 use Rattle.station.proofs.Cuts.{after-none, sent-none, words-none}
 
 -- ---- the characters that wait
@@ -112,41 +112,48 @@ deaf-join r m (suc n) h =
 burst-join : (i m n : ℕ) → 1 ≤ n → burstLeft (burstLeft i m) n ≡ burstLeft i (m + n)
 burst-join i m n h = sym (burst-some (burstLeft i m) n h) ∙ burst-some i (m + n) (omega arith)
 
-waiting-join : (waiting taken : ℕ) (takes : Bool)
-    → waitingAfter takes (waiting - taken) ≡ waiting - cond takes (taken + 1) taken
-waiting-join waiting taken true = omega arith
-waiting-join waiting taken false = refl
+-- those that are gone after one more code
+waiting-join : (waiting taken gone : ℕ) (takes : Bool) → gone ≡ cond takes (taken + 1) taken
+    → waitingAfter takes (waiting - taken) ≡ waiting - gone
+waiting-join waiting taken gone true e = omega arith
+waiting-join waiting taken gone false e = omega arith
+
+pub gone-few : (waiting taken gone : ℕ) (takes : Bool) → gone ≡ cond takes (taken + 1) taken → taken < waiting
+    → gone ≤ waiting
+gone-few waiting taken gone true e h = omega arith
+gone-few waiting taken gone false e h = omega arith
 
 no-length : (l : List ℕ) → length l ≡ 0 → l ≡ []
 no-length [] e = refl
 no-length (x ∷ l) e = absurd (omega arith)
 
 -- a core after some codes, and one more
-module _ (c : Core) (taken : ℕ) (s : Sender) (line : OnLine) (m n : ℕ) (q : Loaded) (h : 1 ≤ n) where
-  abbrev gone : ℕ
-  gone = cond (q .takes) (taken + 1) taken
-
-  core-join : sentFor (loadedCore (codedCore c taken s line m) q) n
-      ≡ codedCore c gone (q .sender) (closed (modeIn c) (mayEnd (c .waiting - gone)) (further (q .line) n)) (m + n)
-  unfolding sentFor loadedCore codedCore
-  core-join =
-      let w = waiting-join (c .waiting) taken (q .takes) in
-      λ j. core (w j)
-      (silence-join (c .silence) m n j)
-      (burst-join (c .inhibited) m n h j)
-      (closed (modeIn c) (mayEnd (w j)) (further (q .line) n))
-      (q .sender)
-      (deaf-join (c .reader) m n h j)
-      (c .mode)
+core-join : (c : Core) (taken : ℕ) (s : Sender) (line : OnLine) (m n : ℕ) (q : Loaded) → 1 ≤ n
+    → (gone : ℕ) → gone ≡ cond (q .takes) (taken + 1) taken
+    → sentFor (loadedCore (codedCore c taken s line m) q) n
+    ≡ codedCore c gone (q .sender) (closed (modeIn c) (mayEnd (c .waiting - gone)) (further (q .line) n)) (m + n)
+unfolding sentFor loadedCore codedCore
+core-join c taken s line m n q h gone e =
+    let w = waiting-join (c .waiting) taken gone (q .takes) e in
+    λ j. core (w j)
+    (silence-join (c .silence) m n j)
+    (burst-join (c .inhibited) m n h j)
+    (closed (modeIn c) (mayEnd (w j)) (further (q .line) n))
+    (q .sender)
+    (deaf-join (c .reader) m n h j)
+    (c .mode)
 
 -- ---- the code that begins
 
--- a code from its first ms on, and a sender in range
-pub record Begins (mode : Mode) (q : Loaded) : Type 0 where
-  pub at-0 : q .line .at ≡ 0
-  pub part-2 : q .line .part ≡ 2
-  pub code-in : q .line .code .0 < codes (alphabetOf mode)
-  pub sender-in : SenderIn (q .sender)
+-- the code of q, from its first ms on
+abbrev fromFirst : Loaded → Loaded
+fromFirst q = loaded (onLine 2 (q .line .code .0) 0) (q .sender) (q .takes)
+
+-- a code begins, and the sender stays in range
+record Begins (mode : Mode) (q : Loaded) : Type 0 where
+  is : q ≡ fromFirst q
+  code-in : q .line .code .0 < codes (alphabetOf mode)
+  sender-in : SenderIn (q .sender)
 
 begins : (mode : Mode) (l : OnLine) (s : Sender) → SenderIn s → (x : Sends) → isCode x ≡ true
     → SendsIn (alphabetOf mode) x → Begins mode (nextFor (alphabetOf mode) l s x)
@@ -157,12 +164,11 @@ begins mode l s j (Code own k) e h =
     (λ o.
     let opens = and-right (eqb (l .part) 1) (opensWithShift a) (and-left (isOpening a l) true o) in
     let i = shift-starts mode opens (openingShift s) (opening-in s (j .shift-in)) in
-    record { at-0 = refl; part-2 = refl; code-in = i .line-in .code-in; sender-in = i .sender-in })
+    record { is = refl; code-in = i .line-in .code-in; sender-in = i .sender-in })
     (λ o.
     let i = begins-in mode (onLine 0 0 0) s (blank-in mode 0 (omega arith)) j (Code own k) h in
     record {
-      at-0 = either (λ (q : Loaded). q .line .at ≡ 0) (eqb w 0) _ _ refl refl;
-      part-2 = either (λ (q : Loaded). q .line .part ≡ 2) (eqb w 0) _ _ refl refl;
+      is = either (λ (q : Loaded). q ≡ fromFirst q) (eqb (shiftWanted a s own) 0) _ _ refl refl;
       code-in = i .line-in .code-in;
       sender-in = i .sender-in;
     })
@@ -170,27 +176,28 @@ begins mode l s j (Code own k) e h =
     a : Alphabet
     a = alphabetOf mode
 
-    w : ℕ
-    w = shiftWanted a s own
-
 -- a list by its places
-pub tabulate-drop : (xs : List ℕ) (a n i : ℕ) → a + i + n ≡ length xs
-    → tabulate (λ (k : ℕ). getD xs (a + k) 0) n i ≡ drop (a + i) xs
+tabulate-drop : (xs : List ℕ) (n i : ℕ) → i + n ≡ length xs
+    → tabulate (λ (k : ℕ). getD xs (0 + k) 0) n i ≡ drop i xs
 unfolding tabulate
-tabulate-drop xs a zero i h = let l : length xs ≤ a + i = omega arith in sym (drop-of-length-le xs l)
-tabulate-drop xs a (suc n) i h =
-    let e : a + suc i ≡ suc (a + i) = omega arith in
-    let others = tabulate-drop xs a n (suc i) (omega arith) ∙ ap (λ (m : ℕ). drop m xs) e in
-    ap (λ (l : List ℕ). getD xs (a + i) 0 ∷ l) others ∙ sym (drop-cons xs (a + i) 0 (omega arith))
+tabulate-drop xs zero i h = let l : length xs ≤ i = omega arith in sym (drop-of-length-le xs l)
+tabulate-drop xs (suc n) i h =
+    let z : 0 + i ≡ i = omega arith in
+    let others = tabulate-drop xs n (suc i) (omega arith) in
+    (λ j. getD xs (z j) 0 ∷ others j) ∙ sym (drop-cons xs i 0 (omega arith))
 
-module _ (mode : Mode) (l : OnLine) (z : l .at ≡ 0) (p : l .part ≡ 2) where
-  abbrev levels : List ℕ
-  levels = signal mode (l .code .0)
+-- a code of the mode with all its ms sent, which have room
+pub record Whole (mode : Mode) (room : ℕ) (q : Loaded) : Type 0 where
+  pub code-in : q .line .code .0 < codes (alphabetOf mode)
+  pub all-ms : q .line .at ≡ length (signal mode (q .line .code .0))
+  pub some : 0 < q .line .at
+  pub fits : q .line .at ≤ room
 
-  whole-levels : levels ≡ tabulate (λ (k : ℕ). getD levels (l .at + k) 0) (length levels) 0
-  whole-levels =
-      let d : l .at + 0 ≡ 0 = omega arith in
-      sym (tabulate-drop levels (l .at) (length levels) 0 (omega arith) ∙ ap (λ (m : ℕ). drop m levels) d)
+begins-whole : (mode : Mode) (q : Loaded) → Begins mode q → (room : ℕ) → longest mode ≤ room
+    → Whole mode room (whole mode q)
+begins-whole mode q b room h =
+    let w = short mode (q .line .code .0) (b .code-in) .longest in
+    record { code-in = b .code-in; all-ms = refl; some = some-ms mode (q .line .code .0); fits = omega arith }
 
 -- ---- the loop
 
@@ -251,200 +258,185 @@ module _ (heard chars sent₀ : List ℕ) (c : Core) (i : ℕ) (within : i ≤ l
 
   module _ (in-range : inRange start ≡ true) (full : length chars ≡ 256)
       (sent₁ : List ℕ) (taken : ℕ) (s : Sender) (line : OnLine) (at : ℕ)
-      (d : Coded heard chars sent₀ c i sent₁ taken s line at) (h : taken < c .waiting) where
+      (d : Coded heard chars sent₀ c i sent₁ taken s line at)
+      (g : Goes taken (c .waiting) (longest (modeIn c)) (length heard - at)) where
     abbrev a : Alphabet
     a = alphabetOf (modeIn c)
 
-    few-wait : c .waiting ≤ 256
-    few-wait = station-in start in-range .core-in .waiting-in
+    abbrev front : ℕ
+    front = getD chars taken 0
 
     here : taken < length chars
-    here = let f = few-wait in omega arith
+    here = let f = station-in start in-range .core-in .waiting-in in omega arith
 
-    char-waits : waits a (getD chars taken 0) ≡ true
+    char-waits : waits a front ≡ true
     unfolding queueIn
     char-waits =
         let q = station-in start in-range .queue-in in
         let all = and-right (leb (c .waiting) 256) (allWait a (waitingOf (queueOf start))) q in
-        wait-at a (c .waiting) chars taken h here all
+        wait-at a (c .waiting) chars taken (g .more) here all
 
-    pub char-in-range : getD chars taken 0 < 128
-    char-in-range = char-in a (getD chars taken 0) char-waits
+    pub char-in-range : front < 128
+    char-in-range = char-in a front char-waits
 
-    pub sends-in-range : SendsIn a (sends a (getD chars taken 0))
-    sends-in-range = sends-in a (getD chars taken 0) char-in-range
+    sends-one : isCode (sends a front) ≡ true
+    sends-one = and-right (leb front 0x7f) (isCode (sends a front)) char-waits
 
-    sends-one : isCode (sends a (getD chars taken 0)) ≡ true
-    sends-one = let x = getD chars taken 0 in and-right (leb x 0x7f) (isCode (sends a x)) char-waits
+    -- what begins
+    abbrev begun : Loaded
+    begun = nextFor a line s (sends a front)
 
-    module _ (q : Loaded) (e : q ≡ nextFor a line s (sends a (getD chars taken 0))) where
-      pub q-begins : Begins (modeIn c) q
-      q-begins =
-          let x = sends a (getD chars taken 0) in
-          subst (Begins (modeIn c)) (sym e) (begins (modeIn c) line s (d .sender-in) x sends-one sends-in-range)
+    begun-begins : Begins (modeIn c) begun
+    begun-begins = begins (modeIn c) line s (d .sender-in) (sends a front) sends-one (sends-in a front char-in-range)
 
-      abbrev now : Core
-      now = codedCore c taken s line (at - i)
+    begun-whole : Whole (modeIn c) (length heard - at) (whole (modeIn c) begun)
+    begun-whole = begins-whole (modeIn c) begun begun-begins (length heard - at) (g .fits)
 
-      -- the station after the codes so far
-      coded-station : station now (movedBy taken chars) ≡ stationAfter start (between i at heard)
-      unfolding codedCore
-      coded-station =
-          let w = ap (λ (k : Core). k .waiting) (d .after) in
-          let f = d .few in
-          let e : taken ≡ c .waiting - stationAfter start (between i at heard) .core .waiting = omega arith in
-          let moves = ap (λ (k : ℕ). movedBy k chars) e ∙ sym (taken-after start (between i at heard) .moves) in
-          λ j. station (d .after j) (moves j)
+    pub q-whole : (q : Loaded) → q ≡ whole (modeIn c) begun → Whole (modeIn c) (length heard - at) q
+    q-whole q e = subst (Whole (modeIn c) (length heard - at)) (sym e) begun-whole
 
-      -- the ms in which the code begins starts with it
-      q-settled : q ≡ settled now (getD (movedBy taken chars) 0 0)
-      unfolding settled codedCore isOver
-      q-settled =
-          let o = d .over h in
-          let b : inBurst line ≡ true = and-left (inBurst line) (leb (length (partMs (modeIn c) line)) (line .at)) o in
-          let m = mayBegin (c .waiting - taken) (silenceFor (c .silence) (at - i)) in
-          let t : (m && not (inBurst line)) ≡ false = rw (b, and-false) refl in
-          let same : taken + 0 ≡ taken = omega arith in
-          let there = moved-place taken chars 0 (omega (arith, here)) ∙ ap (λ (k : ℕ). getD chars k 0) same in
-          let front = getD (movedBy taken chars) 0 0 in
-          let left = c .waiting - taken in
-          let one = subst (λ (x : ℕ). isCode (sends a x) ≡ true) (sym there) sends-one in
-          e
-          ∙ sym (ap (λ (x : ℕ). nextFor a line s (sends a x)) there)
-          ∙ sym (waiting-next (modeIn c) left front line s o (λ (z : c .waiting - taken ≡ 0). omega arith) one)
-          ∙ sym (ap (λ (x : OnLine). nextCode (modeIn c) left front x s) (begun-same m line t))
+    abbrev now : Core
+    now = codedCore c taken s line (at - i)
 
-      module _ (ms : ℕ) (em : ms ≡ length (signal (modeIn c) (q .line .code .0))) (room : at + ms ≤ length heard)
-          (sent' : List ℕ) (es : sent' ≡ sets sent₁ at (signal (modeIn c) (q .line .code .0))) where
-        some : 1 ≤ ms
-        some =
-            let o = some-ms (modeIn c) (q .line .code .0) in
-            omega arith
+    -- the station after the codes so far
+    coded-station : station now (movedBy taken chars) ≡ stationAfter start (between i at heard)
+    unfolding codedCore
+    coded-station =
+        let w = ap (λ (k : Core). k .waiting) (d .after) in
+        let e : taken ≡ c .waiting - stationAfter start (between i at heard) .core .waiting = omega arith in
+        let moves = ap (λ (k : ℕ). movedBy k chars) e ∙ sym (taken-after start (between i at heard) .moves) in
+        λ j. station (d .after j) (moves j)
 
-        part-length : length (partMs (modeIn c) (q .line)) ≡ ms
-        part-length = code-ms (modeIn c) (q .line) (q-begins .part-2) ∙ sym em
+    -- the ms in which the code begins starts with it
+    begun-settled : begun ≡ settled now (getD (movedBy taken chars) 0 0)
+    unfolding settled codedCore isOver
+    begun-settled =
+        let o = d .over (g .more) in
+        let b : inBurst line ≡ true = and-left (inBurst line) (leb (length (partMs (modeIn c) line)) (line .at)) o in
+        let m = mayBegin (c .waiting - taken) (silenceFor (c .silence) (at - i)) in
+        let t : (m && not (inBurst line)) ≡ false = rw (b, and-false) refl in
+        let same : taken + 0 ≡ taken = omega arith in
+        let there = moved-place taken chars 0 (omega (arith, here)) ∙ ap (λ (k : ℕ). getD chars k 0) same in
+        let x = getD (movedBy taken chars) 0 0 in
+        let left = c .waiting - taken in
+        let one = subst (λ (y : ℕ). isCode (sends a y) ≡ true) (sym there) sends-one in
+        sym (ap (λ (y : ℕ). nextFor a line s (sends a y)) there)
+        ∙ sym (waiting-next (modeIn c) left x line s o (λ (z : c .waiting - taken ≡ 0). omega arith) one)
+        ∙ sym (ap (λ (y : OnLine). nextCode (modeIn c) left x y s) (begun-same m line t))
 
-        more : q .line .at < length (partMs (modeIn c) (q .line))
-        more = let z = q-begins .at-0 in let l = part-length in let o = some in omega arith
+    -- a turn sends the whole code q
+    abbrev Turns : Loaded → Type 0
+    Turns q =
+        (sent' : List ℕ) → sent' ≡ sets sent₁ at (signal (modeIn c) (q .line .code .0))
+        → (taken' : ℕ) → taken' ≡ cond (q .takes) (taken + 1) taken
+        → (line' : OnLine) → line' ≡ ended true (mayEnd (c .waiting - taken')) (q .line)
+        → Coded heard chars sent₀ c i sent' taken' (q .sender) line' (at + q .line .at)
 
-        abbrev chars' : List ℕ
-        chars' = charsAfter (q .takes) (movedBy taken chars)
+    -- the code k begins, with room for its ms
+    module _ (k : ℕ) (s' : Sender) (takes : Bool) (j : SenderIn s')
+        (e : loaded (onLine 2 k 0) s' takes ≡ settled now (getD (movedBy taken chars) 0 0))
+        (room : at + length (signal (modeIn c) k) ≤ length heard) where
+      abbrev code : Loaded
+      code = loaded (onLine 2 k 0) s' takes
 
-        abbrev next : Core
-        next = sentFor (loadedCore now q) ms
+      abbrev ms : ℕ
+      ms = length (signal (modeIn c) k)
 
-        abbrev level : ℕ → ℕ
-        level k = getD (signal (modeIn c) (q .line .code .0)) (q .line .at + k) 0
+      more : 0 < length (partMs (modeIn c) (code .line))
+      unfolding partMs
+      more = some-ms (modeIn c) k
 
-        written-levels : sent' ≡ sets sent₁ at (tabulate level (at + ms - at) 0)
-        written-levels =
-            let n : length (signal (modeIn c) (q .line .code .0)) ≡ at + ms - at = omega arith in
-            let all = whole-levels (modeIn c) (q .line) (q-begins .at-0) (q-begins .part-2) in
-            es ∙ ap (sets sent₁ at) (all ∙ ap (λ (m : ℕ). tabulate level m 0) n)
+      abbrev next : Core
+      next = sentFor (loadedCore now code) ms
 
-        stretch : Stretches heard now (movedBy taken chars) sent₁ [] at 0
-            (record { core = next; at = at + ms; words = 0 }) sent' []
-        unfolding loadedCore codedCore
-        stretch =
-            let o = some in
-            let l = part-length in
-            let z = q-begins .at-0 in
-            let n : ms ≡ at + ms - at = omega arith in
-            let same = code-levels (modeIn c) (q .line) (at + ms - at) (omega arith) (q-begins .part-2) in
-            begin-stretch heard now (movedBy taken chars) sent₁ [] at 0 q q-settled more (loadedCore now q) refl _ _ _
-            (send-stretch heard (loadedCore now q) chars' sent₁ [] at 0 (at + ms) (omega arith) room next
-            (silence-most (c .silence) (at - i)) (left-burst (modeIn c) (q .line) more)
-            (left-over (modeIn c) (q .line) more) (omega arith) (ap (sentFor (loadedCore now q)) n)
-            sent' (written-levels ∙ ap (sets sent₁ at) same))
+      stretch : (sent' : List ℕ) → sent' ≡ sets sent₁ at (signal (modeIn c) k)
+          → Stretches heard now (movedBy taken chars) sent₁ [] at 0
+          (record { core = next; at = at + ms; words = 0 }) sent' []
+      unfolding loadedCore codedCore partMs levelOn
+      stretch sent' es =
+          let o = more in
+          let n : ms ≡ at + ms - at = omega arith in
+          let levels = sym (tabulate-drop (signal (modeIn c) k) (at + ms - at) 0 (omega arith)) in
+          begin-stretch heard now (movedBy taken chars) sent₁ [] at 0 code e more (loadedCore now code) refl _ _ _
+          (send-stretch heard (loadedCore now code) (charsAfter takes (movedBy taken chars)) sent₁ [] at 0
+          (at + ms) (omega arith) room next (silence-most (c .silence) (at - i)) refl
+          (left-over (modeIn c) (code .line) more) (omega arith) (ap (sentFor (loadedCore now code)) n)
+          sent' (es ∙ ap (sets sent₁ at) levels))
 
-        together : between i (at + ms) heard ≡ between i at heard ++ between at (at + ms) heard
-        together =
-            let low = d .low in
-            let e₁ : at + ms - i ≡ (at - i) + (at + ms - at) = omega arith in
-            let e₂ : i + (at - i) ≡ at = omega arith in
-            let later = drop-drop (at - i) i heard ∙ ap (λ (m : ℕ). drop m heard) e₂ in
-            ap (λ (m : ℕ). take m (drop i heard)) e₁
-            ∙ take-add (at - i) (at + ms - at) (drop i heard)
-            ∙ ap (λ (l : List ℕ). between i at heard ++ take (at + ms - at) l) later
+      together : between i (at + ms) heard ≡ between i at heard ++ between at (at + ms) heard
+      together =
+          let e₁ : at + ms - i ≡ (at - i) + (at + ms - at) = omega arith in
+          let e₂ : i + (at - i) ≡ at = omega arith in
+          let later = drop-drop (at - i) i heard ∙ ap (λ (m : ℕ). drop m heard) e₂ in
+          ap (λ (m : ℕ). take m (drop i heard)) e₁
+          ∙ take-add (at - i) (at + ms - at) (drop i heard)
+          ∙ ap (λ (l : List ℕ). between i at heard ++ take (at + ms - at) l) later
 
-        -- the code with all its ms gone, and the core behind it with so many taken
-        abbrev whole : OnLine
-        whole = onLine (q .line .part) (q .line .code .0) ms
+      -- the code with all its ms sent
+      abbrev over : OnLine
+      over = onLine 2 k ms
 
-        abbrev behind : ℕ → Core
-        behind m =
-            let line = closed (modeIn c) (mayEnd (c .waiting - m)) (further (q .line) ms) in
-            codedCore c m (q .sender) line ((at - i) + ms)
+      is-over : isOver (modeIn c) over ≡ true
+      unfolding isOver partMs
+      is-over = le-leb ms ms (omega arith)
 
-        whole-over : isOver (modeIn c) whole ≡ true
-        whole-over =
-            let z = q-begins .at-0 in
-            let l = part-length in
-            let n : q .line .at + ms ≡ ms = omega arith in
-            sym (ap (λ (m : ℕ). isOver (modeIn c) (onLine (q .line .part) (q .line .code .0) m)) n)
-            ∙ sym (gone-over (modeIn c) (q .line) more ms ms (omega arith) (omega arith)) ∙ eq-eqb ms ms refl
+      -- behind it the burst ends where it is to end
+      over-closed : (ends : Bool) → ended true ends over ≡ closed (modeIn c) ends (further (code .line) ms)
+      unfolding closed
+      over-closed ends =
+          let n : ms ≡ 0 + ms = omega arith in
+          sym (ap (λ (b : Bool). ended (b && true) ends over) is-over)
+          ∙ ap (λ (m : ℕ). closed (modeIn c) ends (onLine 2 k m)) n
 
-        whole-next : frontIsNext (modeIn c) whole ≡ true
-        whole-next = rw (whole-over, q-begins .part-2) refl
+      not-ended : (taken' : ℕ) → taken' < c .waiting → ended true (mayEnd (c .waiting - taken')) over ≡ over
+      unfolding mayEnd
+      not-ended taken' x =
+          rw (ne-eqb (c .waiting - taken') 0 (λ (z : c .waiting - taken' ≡ 0). omega arith)) refl
 
-        whole-closed : (ends : Bool) → ended true ends whole ≡ closed (modeIn c) ends (further (q .line) ms)
-        unfolding closed
-        whole-closed ends =
-            let z = q-begins .at-0 in
-            let n : ms ≡ q .line .at + ms = omega arith in
-            sym (ap (λ (b : Bool). ended b ends whole) whole-next)
-            ∙ ap (λ (m : ℕ). closed (modeIn c) ends (onLine (q .line .part) (q .line .code .0) m)) n
+      over-turn : Turns (whole (modeIn c) code)
+      unfolding partMs
+      over-turn sent' es taken' et line' el =
+          let o = more in
+          let t = stretch sent' es in
+          let xs = between i at heard in
+          let ys = between at (at + ms) heard in
+          let both = cut start xs ys in
+          let line = el ∙ over-closed (mayEnd (c .waiting - taken')) in
+          let z : at + ms - i ≡ (at - i) + ms = omega arith in
+          let f : codedCore c taken' s' line' (at + ms - i) ≡ next =
+          (λ j. codedCore c taken' s' (line j) (z j)) ∙ sym (core-join c taken s _ (at - i) ms code o taken' et) in
+          let b = coded-station in
+          let size = between-length heard i at (d .high) in
+          let sl = sent-length start xs in
+          let sa : at ≡ i + length (sentBy start xs) = omega arith in
+          record {
+            low = omega arith;
+            high = room;
+            few = gone-few (c .waiting) taken taken' takes et (g .more);
+            first = λ (x : at + ms ≡ i). absurd (omega arith);
+            size = ap length es ∙ length-sets sent₁ at (signal (modeIn c) k) ∙ d .size;
+            sender-in = j;
+            over = λ (x : taken' < c .waiting). ap (isOver (modeIn c)) (el ∙ not-ended taken' x) ∙ is-over;
+            after = f
+                ∙ t .after
+                ∙ ap (λ (y : Station). stationAfter y ys .core) b
+                ∙ sym (ap (λ (y : Station). y .core) (ap (stationAfter start) together ∙ both .station));
+            sent = t .sent
+                ∙ (λ j. sets (d .sent j) (sa j) (sentBy (b j) ys))
+                ∙ sym (sets-append sent₀ i (sentBy start xs) (sentBy (stationAfter start xs) ys))
+                ∙ ap (sets sent₀ i) (sym (both .sent) ∙ sym (ap (sentBy start) together));
+            words = ap (wordsBy start) together
+                ∙ both .words
+                ∙ (λ j. d .words j ++ wordsBy (sym b j) ys)
+                ∙ no-length _ (omega arith);
+          }
 
-        not-ended : (taken' : ℕ) → taken' < c .waiting → ended true (mayEnd (c .waiting - taken')) whole ≡ whole
-        unfolding mayEnd
-        not-ended taken' x =
-            rw (ne-eqb (c .waiting - taken') 0 (λ (z : c .waiting - taken' ≡ 0). omega arith)) refl
-
-        pub coded-turn : (taken' : ℕ) → taken' ≡ cond (q .takes) (taken + 1) taken
-            → (line' : OnLine)
-            → line' ≡ ended true (mayEnd (c .waiting - taken')) (onLine (q .line .part) (q .line .code .0) ms)
-            → Coded heard chars sent₀ c i sent' taken' (q .sender) line' (at + ms)
-        coded-turn taken' et line' el =
-            let low = d .low in
-            let o = some in
-            let t = stretch in
-            let xs = between i at heard in
-            let ys = between at (at + ms) heard in
-            let k = cut start xs ys in
-            let w = c .waiting - taken' in
-            let line = el ∙ whole-closed (mayEnd w) in
-            let z : at + ms - i ≡ (at - i) + ms = omega arith in
-            let f : codedCore c taken' (q .sender) line' (at + ms - i) ≡ next =
-            (λ j. codedCore c taken' (q .sender) (line j) (z j))
-            ∙ ap behind et
-            ∙ sym (core-join c taken s _ (at - i) ms q o) in
-            let b = coded-station in
-            let size = between-length heard i at (d .high) in
-            let sl = sent-length start xs in
-            let sa : at ≡ i + length (sentBy start xs) = omega arith in
-            let p = t .place in
-            record {
-              low = omega arith;
-              high = room;
-              few = subst (λ (m : ℕ). m ≤ c .waiting) (sym et)
-                  (either (λ (m : ℕ). m ≤ c .waiting) (q .takes) (taken + 1) taken (omega arith) (omega arith));
-              first = λ (x : at + ms ≡ i). absurd (omega arith);
-              size = ap length es ∙ length-sets sent₁ at (signal (modeIn c) (q .line .code .0)) ∙ d .size;
-              sender-in = q-begins .sender-in;
-              over = λ (x : taken' < c .waiting). ap (isOver (modeIn c)) (el ∙ not-ended taken' x) ∙ whole-over;
-              after = f
-                  ∙ t .after
-                  ∙ ap (λ (y : Station). stationAfter y ys .core) b
-                  ∙ sym (ap (λ (y : Station). y .core) (ap (stationAfter start) together ∙ k .station));
-              sent = t .sent
-                  ∙ (λ j. sets (d .sent j) (sa j) (sentBy (b j) ys))
-                  ∙ sym (sets-append sent₀ i (sentBy start xs) (sentBy (stationAfter start xs) ys))
-                  ∙ ap (sets sent₀ i) (sym (k .sent) ∙ sym (ap (sentBy start) together));
-              words = ap (wordsBy start) together
-                  ∙ k .words
-                  ∙ (λ j. d .words j ++ wordsBy (sym b j) ys)
-                  ∙ no-length _ (omega arith);
-            }
+    pub coded-turn : (q : Loaded) → q ≡ whole (modeIn c) begun → Turns q
+    coded-turn q e =
+        let b = begun-begins in
+        let w = begun-whole in
+        subst Turns (sym (e ∙ ap (whole (modeIn c)) (b .is)))
+        (over-turn _ _ _ (b .sender-in) (sym (b .is) ∙ begun-settled) (omega arith))
 
   -- a stretch of whole codes
   module _ (sent₁ : List ℕ) (taken : ℕ) (s : Sender) (line : OnLine) (at : ℕ)

@@ -1,12 +1,11 @@
 // Whole codes of a burst, one after the other.
 use alphabet::Char;
 use alphabet::Mode;
-use burst::OnLine;
 use burst::rules;
 use half_duplex::Core;
 use station_stretches::Stretched;
 ghost use mathlib.Core.Path.{_≡_};
-ghost use mathlib.Core.Bool.{true, cond, _&&_};
+ghost use mathlib.Core.Bool.{true, _&&_};
 ghost use mathlib.Core.List.{List};
 ghost use Prim.Native.Nat.{ℕ, _+_, _≤_};
 ghost use lib.Dec.{leb, ltb};
@@ -41,17 +40,6 @@ pub fn follows(c: Core, room: usize) -> bool
     goes_on(0, c.waiting as usize, mode.longest() as usize, room)
 }
 
-// How many are taken.
-fn taken_after(takes: bool, taken: usize) -> usize
-    requires { ⌜ taken ≤ 256 ⌝ }
-    ensures { λ r. ⌜ r ≡ cond takes (taken + 1) taken ⌝ }
-{
-    if takes {
-        return taken + 1;
-    }
-    taken
-}
-
 // Whole codes, as long as characters wait and any code has room. The front character stands at a place of those lent.
 pub fn codes(
     c: Core,
@@ -83,16 +71,13 @@ pub fn codes(
     let mut at = i;
     while goes_on(taken, waiting, most, heard.len() - at) {
         let sends = alphabet::table::lookup_in(&table, a, Char(chars[from + taken]));
-        let l = burst::code_begins(a, line, sender, sends);
-        let begins = l.line;
-        let code = begins.code;
-        signal_codes::put_whole(mode, code, sent, at);
-        let ms = signal::duration(mode, code);
-        taken = taken_after(l.takes, taken);
-        sender = l.sender;
-        let over = OnLine { at: ms, ..begins };
+        let next = burst::whole_code(mode, a, line, sender, sends);
+        let over = next.line;
+        signal_codes::put_whole(mode, over.code, sent, at);
+        taken = burst::place_after(next.takes, taken);
+        sender = next.sender;
         line = burst::ended(true, rules::may_end((waiting - taken) as u16), over);
-        at += ms as usize;
+        at += over.at as usize;
     }
     Stretched {
         core: half_duplex_runs::coded(c, taken, sender, line, at - i),

@@ -1,6 +1,6 @@
 -- Document 01, "The station's turn": the characters that wait.
 use Prim.Native.Nat.{ℕ, zero, suc, _+_, _-_}
-use mathlib.Core.Bool.{Bool, true, false, cond, _&&_}
+use mathlib.Core.Bool.{Bool, true, cond, _&&_}
 use mathlib.Core.List.{List, [], _∷_}
 use lib.Dec.{leb}
 use lib.ListN.{length, take, drop}
@@ -31,11 +31,6 @@ pub record Queue : Type 0 where
   pub waiting : ℕ
   pub chars : List ℕ
 
--- A queue after an offer, and whether there was space.
-pub record QueueOffered : Type 0 where
-  pub accepted : Bool
-  pub queue : Queue
-
 abbrev pub queue : ℕ → List ℕ → Queue
 queue n chars = record { waiting = n; chars = chars }
 
@@ -54,11 +49,6 @@ room a q text = leb (q .waiting + length (waiters a text)) most
 -- An offer puts them behind those waiting, in the order offered.
 unfoldable pub offered : Alphabet → Queue → List ℕ → Queue
 offered a q text = queue (q .waiting + length (waiters a text)) (sets (q .chars) (q .waiting) (waiters a text))
-
--- A refused offer leaves the queue.
-unfoldable pub offerOf : Alphabet → Queue → List ℕ → QueueOffered
-offerOf a q text =
-    cond (room a q text) (record { accepted = true; queue = offered a q text }) (record { accepted = false; queue = q })
 
 -- The one in front is taken first: the others move up one place.
 abbrev pub moved : List ℕ → List ℕ

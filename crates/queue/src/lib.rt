@@ -2,14 +2,14 @@
 use alphabet::Alphabet;
 use alphabet::Char;
 ghost use mathlib.Core.Path.{_≡_};
-ghost use mathlib.Core.Bool.{_&&_};
+ghost use mathlib.Core.Bool.{true, _&&_};
 ghost use mathlib.Core.List.{[], _∷_};
 ghost use Prim.Native.Nat.{_+_, _≤_};
 ghost use lib.Dec.{leb};
 ghost use lib.ListN.{length, getD, replicate};
 ghost use lib.Seq.{sets};
 ghost use Rattle.alphabet.specs.declared.Alphabet.the-variants.{Baudot, Dtmf};
-ghost use Rattle.queue.specs.Queue.{waits, waiters, allWait, queue, inRange, offerOf, movedBy};
+ghost use Rattle.queue.specs.Queue.{waits, waiters, allWait, queue, inRange, room, offered, movedBy};
 
 // The most characters that wait.
 pub const MOST: u16 = 256;
@@ -191,19 +191,18 @@ pub fn in_range(a: Alphabet, waiting: u16, chars: &[u8; 256]) -> bool
     all_wait(a, &all[..n])
 }
 
-// Whether there was space for an offer, and how many wait then.
-pub struct Offered {
+// Whether there is space for an offer, and how many wait after it.
+pub struct Room {
     pub accepted: bool,
     pub waiting: u16,
 }
 
-// The characters of a text that wait, put behind those waiting, if there is space for all of them.
-pub fn offer(a: Alphabet, waiting: u16, chars: &mut [u8; 256], text: &[u8]) -> Offered
-    ensures { λ r. ⌜ r .accepted ≡ offerOf a (queue waiting (now (chars .entry))) (now (text .entry)) .accepted ⌝ }
-    ensures { λ r. ⌜ queue (r .waiting) (now (chars .exit)) ≡ offerOf a (queue waiting (now (chars .entry)))
-        (now (text .entry)) .queue ⌝ }
+// Question 4: is there space for the characters of a text that wait?
+pub fn space(a: Alphabet, waiting: u16, text: &[u8]) -> Room
+    ensures { λ r. ⌜ r .accepted ≡ room a (queue waiting []) (now (text .entry)) ⌝ }
+    ensures { λ r. ⌜ (r .accepted ≡ true → r .waiting ≡ waiting + length (waiters a (now (text .entry)))) ⌝ }
 {
-    let refused = Offered {
+    let refused = Room {
         accepted: false,
         waiting,
     };
@@ -215,9 +214,16 @@ pub fn offer(a: Alphabet, waiting: u16, chars: &mut [u8; 256], text: &[u8]) -> O
     if MOST as usize - before < n {
         return refused;
     }
-    put_waiters(a, text, chars, before);
-    Offered {
+    Room {
         accepted: true,
         waiting: (before + n) as u16,
     }
+}
+
+// The characters of a text that wait, put behind those waiting; there is space for them.
+pub fn offer(a: Alphabet, waiting: u16, chars: &mut [u8; 256], text: &[u8])
+    requires { ⌜ room a (queue waiting (now chars)) (now text) ≡ true ⌝ }
+    ensures { λ r. ⌜ now (chars .exit) ≡ offered a (queue waiting (now (chars .entry))) (now (text .entry)) .chars ⌝ }
+{
+    put_waiters(a, text, chars, waiting as usize);
 }

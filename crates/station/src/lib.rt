@@ -7,9 +7,9 @@ use reader::Reader;
 ghost use mathlib.Core.Path.{_≡_};
 ghost use Rattle.alphabet.specs.declared.Alphabet.the-variants.{Baudot};
 ghost use Rattle.half_duplex.specs.Core.{freshCore};
-ghost use Rattle.station.specs.Station.{station, hasDel, readerOffered, coreWith};
+ghost use Rattle.station.specs.Station.{station, hasDel, readerOffered, coreWith, offeredTo};
 ghost use Rattle.station.specs.Range.{inRange};
-ghost use Rattle.station.specs.Entries.{openOf, offerOf};
+ghost use Rattle.station.specs.Entries.{openOf, offerAnswer, offerOf};
 
 // A core, and the characters that wait, the front one first.
 #[repr(C)]
@@ -121,27 +121,63 @@ fn core_with(c: Core, waiting: u16, reader: Reader) -> Core
     }
 }
 
+// The answer to an offer, 0 or the number of the refusal, and how many wait after it.
+pub struct Asked {
+    pub answer: u8,
+    pub waiting: u16,
+}
+
+// The questions of an offer.
+pub fn ask(c: Core, chars: &[u8; 256], text: &[u8]) -> Asked
+    ensures { λ r. ⌜ r .answer ≡ offerAnswer (station c (now (chars .entry))) (now (text .entry)) ⌝ }
+    ensures { λ r. ⌜ (r .answer ≡ 0 → r .waiting ≡ offeredTo (station c (now (chars .entry))) (now (text .entry))
+        .core .waiting) ⌝ }
+{
+    if !in_range(c, chars) {
+        return Asked {
+            answer: 1,
+            waiting: c.waiting,
+        };
+    }
+    if !lists::checks::all_at_most(text, 127) {
+        return Asked {
+            answer: 3,
+            waiting: c.waiting,
+        };
+    }
+    let a = Mode::of(c.mode).alphabet();
+    let room = queue::space(a, c.waiting, text);
+    if !room.accepted {
+        return Asked {
+            answer: 4,
+            waiting: c.waiting,
+        };
+    }
+    Asked {
+        answer: 0,
+        waiting: room.waiting,
+    }
+}
+
 // Offering a text: those of its characters that send something wait behind the others.
 pub fn offer(c: Core, chars: &mut [u8; 256], text: &[u8]) -> Answered
     ensures { λ r. ⌜ station (r .core) (now (chars .exit)) ≡ offerOf (station c (now (chars .entry)))
         (now (text .entry)) .station ⌝ }
     ensures { λ r. ⌜ r .answer ≡ offerOf (station c (now (chars .entry))) (now (text .entry)) .answer ⌝ }
 {
-    if !in_range(c, chars) {
-        return Answered { core: c, answer: 1 };
-    }
-    if !lists::checks::all_at_most(text, 127) {
-        return Answered { core: c, answer: 3 };
+    let asked = ask(c, chars, text);
+    if asked.answer != 0 {
+        return Answered {
+            core: c,
+            answer: asked.answer,
+        };
     }
     let a = Mode::of(c.mode).alphabet();
-    let o = queue::offer(a, c.waiting, chars, text);
-    if !o.accepted {
-        return Answered { core: c, answer: 4 };
-    }
+    queue::offer(a, c.waiting, chars, text);
     let before = c.reader;
     let reader = reader_offered(a, text, before);
     Answered {
-        core: core_with(c, o.waiting, reader),
+        core: core_with(c, asked.waiting, reader),
         answer: 0,
     }
 }

@@ -24,9 +24,9 @@ use Rattle.half_duplex.specs.declared.Core.{Core}
 use Rattle.burst.specs.declared.OnLine.{OnLine}
 use Rattle.burst.specs.declared.Loaded.{Loaded}
 use Rattle.burst.specs.Rules.{mayBegin, isInhibited, isSilent, mayEnd}
-use Rattle.burst.specs.Line.{further, onLine, inBurst, partMs, isOver, begun, loaded, nextCode, levelOn, oneGone, closed}
+use Rattle.burst.specs.Line.{further, onLine, inBurst, partMs, isOver, loaded, nextCode, levelOn, oneGone, closed}
 use Rattle.half_duplex.specs.Core.{core, silenceAfter, eventMs, modeIn, settled, coreFrom}
-use Rattle.burst.proofs.Laws.{level-over, not-over, gone-none, gone-one, stays-left}
+use Rattle.burst.proofs.Laws.{begun-same, level-over, not-over, gone-none, gone-one, stays-left}
 use Rattle.station.specs.declared.Station.{Station}
 use Rattle.station.specs.Station.{station, front, charsAfter, stationMs, sentMs, eventOf, stationAfter, sentBy, wordsBy}
 use Rattle.signal_runs.specs.code.Levels.{partLevel}
@@ -75,10 +75,6 @@ walk f levels (x ∷ xs) h =
     }
 
 -- ---- sending is settled as it was
-
-pub begun-same : (may : Bool) (l : OnLine) → (may && not (inBurst l)) ≡ false → begun may l ≡ l
-unfolding begun
-begun-same may l e = rw e refl
 
 module _ (c : Core) (given : ℕ) where
   settled-by : (mayBegin (c .waiting) (c .silence) && not (inBurst (c .line))) ≡ false

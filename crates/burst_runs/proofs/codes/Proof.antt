@@ -8,26 +8,23 @@ use lib.ListN.{length, getD}
 use lib.Seq.{sets}
 use mir.Syntax.{w64}
 use mir.Val.{Fits}
-use Rattle.lists.proofs.Lists.{either}
-use Rattle.alphabet.specs.declared.Alphabet.{Alphabet}
 use Rattle.alphabet.specs.declared.Mode.{Mode}
-use Rattle.alphabet.specs.declared.Sends.{Sends}
-use Rattle.alphabet.specs.Modes.{alphabetOf, codes, longest}
+use Rattle.alphabet.specs.Modes.{alphabetOf, longest}
 use Rattle.alphabet.specs.Normal.{sends}
 use Rattle.signal.specs.Signal.{signal}
-use Rattle.burst.specs.Line.{onLine, ended}
+use Rattle.burst.specs.declared.Loaded.{Loaded}
+use Rattle.burst.specs.Line.{ended}
 use Rattle.half_duplex.specs.Core.{modeIn}
 use Rattle.burst.specs.code.Bounds.{SendsIn}
 use Rattle.half_duplex.specs.code.Bounds.{CoreIn}
-use Rattle.signal.proofs.Lengths.{some-ms, within-longest}
-use Rattle.burst.specs.code.Next.{nextFor}
+use Rattle.burst.specs.code.Next.{nextFor, whole}
 use Rattle.burst.proofs.Range.{sends-in}
 use Rattle.queue.specs.Queue.{movedBy}
 use Rattle.queue.proofs.Moves.{moved-by-length, moved-place}
 use Rattle.station.specs.Station.{station}
 use Rattle.station.proofs.Range.{station-in}
-use Rattle.alphabet.proofs.Ranges.{few-codes}
-use Rattle.burst_runs.proofs.Coding.{Coded, Goes, goes, Begins, coded-start, char-in-range, q-begins, coded-turn, goes-far, coded-stretch}
+use Rattle.burst_runs.proofs.Coding.{gone-few, Whole, Goes, goes, Coded, coded-start, char-in-range, q-whole}
+use Rattle.burst_runs.proofs.Coding.{coded-turn, goes-far, coded-stretch}
 use borrow.Author.Needs.{needs}
 use Rattle.burst_runs.proofs.codes.Statement.{statement}
 use Rattle.burst_runs.proofs.codes.Tie as tie
@@ -60,20 +57,17 @@ start-of c = start-of-longest (longest-of c)
 abbrev loop-of : tie.Then1 Inv-loop μ-loop → tie.At-loop Inv-loop μ-loop
 loop-of c = c .before .before
 
-abbrev turn-of : tie.After-code-begins Inv-loop μ-loop → tie.Then1 Inv-loop μ-loop
+abbrev turn-of : tie.After-whole-code Inv-loop μ-loop → tie.Then1 Inv-loop μ-loop
 turn-of c = c .before .before .before .before
 
-abbrev put-of : tie.After-duration Inv-loop μ-loop → tie.After-put-whole Inv-loop μ-loop
+abbrev put-of : tie.After-place-after Inv-loop μ-loop → tie.After-put-whole Inv-loop μ-loop
 put-of c = c .before .before .before
 
-abbrev begins-of : tie.After-duration Inv-loop μ-loop → tie.After-code-begins Inv-loop μ-loop
-begins-of c = put-of c .before .before .before .before
+abbrev code-of : tie.After-place-after Inv-loop μ-loop → tie.After-whole-code Inv-loop μ-loop
+code-of c = put-of c .before .before .before
 
-abbrev loop-of-duration : tie.After-duration Inv-loop μ-loop → tie.At-loop Inv-loop μ-loop
-loop-of-duration c = loop-of (turn-of (begins-of c))
-
-abbrev duration-of : tie.After-may-end Inv-loop μ-loop → tie.After-duration Inv-loop μ-loop
-duration-of c = c .before .before .before .before
+abbrev taken-of : tie.After-ended Inv-loop μ-loop → tie.After-place-after Inv-loop μ-loop
+taken-of c = c .before .before .before
 
 -- ---- what holds from the start on
 
@@ -160,13 +154,13 @@ module _ (c : tie.Then1 Inv-loop μ-loop) where
   char-in : getD (s .args .chars .now) (s .args .from + loop-of c .loop .taken) 0 < 128
   char-in =
       subst (λ (x : ℕ). x < 128) (sym char-at)
-      (char-in-range _ _ _ _ _ (start s) (s .pre .0) (full s) _ _ _ _ _ (loop-of c .loop .inv) (test .more))
+      (char-in-range _ _ _ _ _ (start s) (s .pre .0) (full s) _ _ _ _ _ (loop-of c .loop .inv) test)
 
-add-t26 : tie.Need-add-t26 Inv-loop μ-loop
-add-t26 c = let p = place (c .before) in search (needs, p)
+add-t23 : tie.Need-add-t23 Inv-loop μ-loop
+add-t23 c = let p = place (c .before) in search (needs, p)
 
-shared-slice-read-t30 : tie.Need-shared-slice-read-t30 Inv-loop μ-loop
-shared-slice-read-t30 c =
+shared-slice-read-t27 : tie.Need-shared-slice-read-t27 Inv-loop μ-loop
+shared-slice-read-t27 c =
     let t = c .before .before in
     let p = place t in
     let f = start-of (loop-of t) .pre .1 .0 in
@@ -177,90 +171,65 @@ lookup-in-requires c κs =
     let t = c .before .before in
     (longest-of (loop-of t) .before .send-table .ensures, char-in t)
 
-code-begins-requires : tie.Need-code-begins-requires Inv-loop μ-loop
-code-begins-requires c κs =
+whole-code-requires : tie.Need-whole-code-requires Inv-loop μ-loop
+whole-code-requires c κs =
     let t = c .before .before .before in
     (loop-of t .loop .inv .sender-in, subst (SendsIn _) (sym (c .lookup-in .ensures)) (sends-in _ _ (char-in t)))
 
--- the code that begins
-module _ (c : tie.After-code-begins Inv-loop μ-loop) where
+-- the whole code
+module _ (c : tie.After-whole-code Inv-loop μ-loop) where
   abbrev l : tie.At-loop Inv-loop μ-loop
   l = loop-of (turn-of c)
+
+  abbrev q : Loaded
+  q = c .whole-code .result
 
   abbrev mode : Mode
   mode = modeIn (start-of l .args .c)
 
-  abbrev code : ℕ
-  code = c .code-begins .result .line .code .0
+  mode-is : alphabet-of l .before .of .result ≡ mode
+  mode-is = alphabet-of l .before .of .ensures
 
-  begins-as : c .code-begins .result
-      ≡ nextFor (alphabetOf mode) (l .loop .line) (l .loop .sender)
-      (sends (alphabetOf mode) (getD (chars-of (start-of l)) (l .loop .taken) 0))
-  begins-as =
-      let a = alphabetOf mode in
-      let line = l .loop .line in
-      let q = l .loop .sender in
-      let x = getD (start-of l .args .chars .now) (start-of l .args .from + l .loop .taken) 0 in
-      c .code-begins .ensures
-      ∙ ap (λ (y : Sends). nextFor (alphabet-of l .alphabet .result) line q y) (c .before .lookup-in .ensures)
-      ∙ ap (λ (b : Alphabet). nextFor b line q (sends b x))
-      (alphabet-of l .alphabet .ensures ∙ ap alphabetOf (alphabet-of l .before .of .ensures))
-      ∙ ap (λ (y : ℕ). nextFor a line q (sends a y)) (char-at (turn-of c))
-
-  begins : Begins mode (c .code-begins .result)
-  begins =
-      let s = start-of l in
-      q-begins _ _ _ _ _ (start s) (s .pre .0) (full s) _ _ _ _ _ (l .loop .inv) (test (turn-of c) .more) _ begins-as
-
-  code-byte : code < 256
-  code-byte = let h = begins .code-in in let f = few-codes (alphabetOf mode) in omega arith
+  code-is : q
+      ≡ whole mode (nextFor (alphabetOf mode) (l .loop .line) (l .loop .sender)
+      (sends (alphabetOf mode) (getD (chars-of (start-of l)) (l .loop .taken) 0)))
+  code-is =
+      let a = alphabet-of l .alphabet .ensures ∙ ap alphabetOf mode-is in
+      let x = c .before .lookup-in .ensures ∙ (λ j. sends (a j) (char-at (turn-of c) j)) in
+      c .whole-code .ensures ∙ (λ j. whole (mode-is j) (nextFor (a j) (l .loop .line) (l .loop .sender) (x j)))
 
   -- it has room
-  code-fits : l .loop .at + length (signal mode code) ≤ length (start-of l .args .heard .now)
-  code-fits =
-      let w = within-longest mode code code-byte in
-      let r = test (turn-of c) .fits in
-      let u = l .loop .inv .high in
-      omega arith
+  abbrev WholeIn : Mode → Type 0
+  WholeIn d = Whole d (length (start-of l .args .heard .now) - l .loop .at) q
+
+  code : WholeIn (alphabet-of l .before .of .result)
+  code =
+      let s = start-of l in
+      subst WholeIn (sym mode-is)
+      (q-whole _ _ _ _ _ (start s) (s .pre .0) (full s) _ _ _ _ _ (l .loop .inv) (test (turn-of c)) _ code-is)
+
+  -- the place behind it is one of the slice
+  behind : l .loop .at + q .line .at ≤ length (start-of l .args .heard .now)
+  behind = let w = code in let d = l .loop .inv in omega arith
 
 put-whole-requires : tie.Need-put-whole-requires Inv-loop μ-loop
 put-whole-requires c κs =
-    let b = c .before .before .before in
-    let l = loop-of (turn-of b) in
-    let m = alphabet-of l .before .of .ensures in
-    let k = b .code-begins .result .line .code .0 in
-    let n = ap (λ (d : Mode). length (signal d k)) m in
-    let r = code-fits b in
-    let z = l .loop .inv .size in
-    let h = start-of l .pre .1 .1 .1 .1 .1 .1 in
-    (subst (λ (d : Mode). k < codes (alphabetOf d)) (sym m) (begins b .code-in), omega arith)
+    let b = c .before .before in
+    let w = code b in
+    let d = l b .loop .inv in
+    let h = start-of (l b) .pre .1 .1 .1 .1 .1 .1 in
+    (w .code-in, omega arith)
 
-duration-requires : tie.Need-duration-requires Inv-loop μ-loop
-duration-requires c κs = search needs
-
-ms : (c : tie.After-duration Inv-loop μ-loop)
-    → c .duration .result ≡ length (signal (mode (begins-of c)) (code (begins-of c)))
-ms c =
-    c .duration .ensures
-    ∙ ap (λ (d : Mode). length (signal d (code (begins-of c)))) (alphabet-of (loop-of-duration c) .before .of .ensures)
-
-taken-after-requires : tie.Need-taken-after-requires Inv-loop μ-loop
-taken-after-requires c κs = let p = place (turn-of (begins-of c)) in omega arith
+place-after-requires : tie.Need-place-after-requires Inv-loop μ-loop
+place-after-requires c κs = let p = place (turn-of (c .before .before .before .before .before)) in omega arith
 
 sub-may-end : tie.Need-sub-may-end Inv-loop μ-loop
 sub-may-end c =
-    let b = begins-of (c .before .before .before) in
-    let t = turn-of b in
-    let w = start-of (loop-of t) .args .c .waiting in
-    let n = loop-of t .loop .taken in
-    let m = test t .more in
-    subst (λ (k : ℕ). k ≤ w) (sym (c .before .before .taken-after .ensures))
-    (either (λ (k : ℕ). k ≤ w) (b .code-begins .result .takes) (n + 1) n (omega arith) (omega arith))
+    let b = code-of (c .before) in
+    gone-few _ _ _ (q b .takes) (c .before .place-after .ensures) (test (turn-of b) .more)
 
 cast-may-end : tie.Need-cast-may-end Inv-loop μ-loop
-cast-may-end c =
-    let w = core-in (start-of (loop-of (turn-of (begins-of (c .before .before .before))))) .waiting-in in
-    search (needs, w)
+cast-may-end c = let w = core-in (start-of (l (code-of (c .before)))) .waiting-in in search (needs, w)
 
 may-end-requires : tie.Need-may-end-requires Inv-loop μ-loop
 may-end-requires c κs = search needs
@@ -271,40 +240,24 @@ ended-requires c κs = search needs
 cast-at : tie.Need-cast-at Inv-loop μ-loop
 cast-at c = search needs
 
--- the place behind it is one of the slice
-behind : (c : tie.After-duration Inv-loop μ-loop)
-    → loop-of-duration c .loop .at + c .duration .result ≤ length (start-of (loop-of-duration c) .args .heard .now)
-behind c = let r = code-fits (begins-of c) in let m = ms c in omega arith
-
 add-at : tie.Need-add-at Inv-loop μ-loop
-add-at c =
-    let d = duration-of (c .before) in
-    fits (longest-of (loop-of-duration d)) _ (behind d)
+add-at c = let b = code-of (taken-of (c .before)) in fits (longest-of (l b)) _ (behind b)
 
 loop-less : tie.Need-loop-less Inv-loop μ-loop
-loop-less c =
-    let d = duration-of (c .before) in
-    let b = begins-of d in
-    let r = code-fits b in
-    let m = ms d in
-    let y = some-ms (mode b) (code b) in
-    omega arith
+loop-less c = let w = code (code-of (taken-of (c .before))) in omega arith
 
 loop-again : tie.Need-loop-again Inv-loop μ-loop
 loop-again c =
-    let d = duration-of (c .before) in
-    let b = begins-of d in
-    let l = loop-of (turn-of b) in
-    let s = start-of l in
-    let r = code-fits b in
-    let m = ms d in
-    let es = put-of d .put-whole .ensures
-    ∙ ap (λ (d : Mode). sets (l .loop .sent) (l .loop .at) (signal d (code b))) (alphabet-of l .before .of .ensures) in
-    let q = b .code-begins .result .line in
-    let over = onLine (q .part) (q .code .0) (d .duration .result) in
-    let ends = c .ended .ensures ∙ ap (λ (e : Bool). ended true e over) (c .before .may-end .ensures) in
-    coded-turn _ _ _ _ _ (start s) (s .pre .0) (full s) _ _ _ _ _ (l .loop .inv) (test (turn-of b) .more)
-    _ (begins-as b) _ m (omega arith) _ es _ (c .before .before .before .before .taken-after .ensures) _ ends
+    let t = taken-of (c .before) in
+    let b = code-of t in
+    let p = l b .loop in
+    let s = start-of (l b) in
+    let es = put-of t .put-whole .ensures
+    ∙ ap (λ (d : Mode). sets (p .sent) (p .at) (signal d (q b .line .code .0))) (mode-is b) in
+    let ends = c .before .ended .ensures
+    ∙ ap (λ (e : Bool). ended true e (q b .line)) (c .before .before .may-end .ensures) in
+    coded-turn _ _ _ _ _ (start s) (s .pre .0) (full s) _ _ _ _ _ (p .inv) (test (turn-of b))
+    _ (code-is b) _ es _ (t .place-after .ensures) _ ends
 
 -- ---- after the loop
 
@@ -348,13 +301,12 @@ codes-spec =
     loop-holds
     sub-goes-on
     goes-on-requires
-    add-t26
-    shared-slice-read-t30
+    add-t23
+    shared-slice-read-t27
     lookup-in-requires
-    code-begins-requires
+    whole-code-requires
     put-whole-requires
-    duration-requires
-    taken-after-requires
+    place-after-requires
     sub-may-end
     cast-may-end
     may-end-requires
