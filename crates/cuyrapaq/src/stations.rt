@@ -1,8 +1,10 @@
 // The entries of a station.
+use preview::Previewed;
 use station::Station;
 ghost use mathlib.Core.Path.{_≡_};
 ghost use lib.ListN.{length};
 ghost use Rattle.station.specs.Entries.{openOf, offerOf, ranOf, sentAfter, wordsAfter};
+ghost use Rattle.preview.specs.Preview.{Previews};
 
 // What a run gives: 0 or the number of the refusal, and how many words were written.
 #[repr(C)]
@@ -31,6 +33,15 @@ pub extern "C" fn cq_station_offer(station: &mut Station, text: &[u8]) -> u8
     let offered = station::offer(c, &mut station.chars, text);
     station.core = offered.core;
     offered.answer
+}
+
+// How long a text would take to type out, if it were offered to the station that the host lends.
+#[no_mangle]
+pub extern "C" fn cq_station_preview(station: &Station, text: &[u8]) -> Previewed
+    ensures { λ r. ⌜ Previews (now (station .entry)) (now (text .entry)) (r .answer) (r .ms) ⌝ }
+{
+    let c = station.core;
+    preview::preview(c, &station.chars, text)
 }
 
 // A run on the station that the host lends: the sent ms and the words of the ms that are heard.

@@ -1,5 +1,4 @@
 pub mod Faults
 pub mod Words
 pub mod Levels
-pub mod CodesLeft
 pub mod Idle
