@@ -7,6 +7,12 @@
  * with its shift code, so that it is read right all the same. A fault is shown with its cause and the ms of the frame
  * at which it broke, as <stop 143>; the last lines count the causes. examples/call.out is what it prints for all modes.
  *
+ * At the first key of a turn the host asks for a preview of the whole turn ("needs"), and shows later what it took from
+ * that key until all was sent. The preview is of a text that is offered at once on a line that is quiet from then on.
+ * Here each key is offered by itself, KEY ms behind the last one. That takes as long while the keys come at least as
+ * fast as they are sent; it would take longer if the station ran out of text in between and began another burst. The
+ * first turn takes longer, since the line is still spoiled at its first key.
+ *
  *     make lib
  *     gcc -std=c99 -Iinclude examples/call.c target/staticlib/libcuyrapaq.a -o target/call
  *     target/call                              all modes
@@ -236,10 +242,16 @@ static void add_word(struct side *side, long ms, uint32_t word)
     }
 }
 
+/* The quiet ms that a burst may have in it. */
+static long burst_gap(const struct side *side)
+{
+    return side->spoiler.mode == CQ_MODE_DTMF ? KEY_GAP : 0;
+}
+
 /* Follows the bursts of a side, and shows each when quiet has ended it. */
 static void follow_burst(struct side *side, long ms)
 {
-    long gap = side->spoiler.mode == CQ_MODE_DTMF ? KEY_GAP : 0;
+    long gap = burst_gap(side);
     int i;
     for (i = 0; i < RUN; i++) {
         if (side->sent[i] != CQ_LEVEL_QUIET) {
@@ -291,7 +303,46 @@ struct turns {
     size_t turn; /* whose text is typed now */
     size_t at;   /* the next character of it */
     long next;   /* the ms at which it is typed */
+    long first;  /* the ms of its first key, -1 before that and when it is shown what the turn took */
 };
+
+/* Shows a number of ms that begin at a ms. */
+static void show_ms(const struct side *side, const char *verb, long from, long ms, const char *what)
+{
+    long to = ms > 0 ? from + ms - 1 : from;
+    printf("%7ld %7ld  %-6s %-6s %ld ms %s\n", from, to, side->name, verb, ms, what);
+}
+
+/* Ahead of the first key of a turn: shows the preview of the whole turn. */
+static int show_preview(const struct side *side, const char *text, long ms)
+{
+    cq_station_previewed r = cq_station_preview(&side->station, (const uint8_t *)text, strlen(text));
+    if (r.answer == CQ_REFUSED_FULL) {
+        printf("%7ld %7s  %-6s has more text than a preview takes\n", ms, "", side->name);
+        return 0;
+    }
+    if (r.answer != CQ_OK) {
+        return refused("cq_station_preview", r.answer);
+    }
+    show_ms(side, "needs", ms, (long)r.ms, "by the preview of this turn, on a line that is quiet from now on");
+    return 0;
+}
+
+/* When all of a turn is typed and the station is idle again: shows the ms from the first key until then. */
+static void show_took(struct turns *turns, const struct side *side)
+{
+    int typed = turns->texts[turns->turn][turns->at] == '\0';
+    int idle = side->station.core.waiting == 0 && side->station.core.line.part == 0 && side->burst < 0;
+    long end = turns->first; /* if nothing was sent */
+    if (turns->first < 0 || !typed || !idle) {
+        return;
+    }
+    if (side->last_sent >= turns->first) {
+        end = side->last_sent + burst_gap(side) + 1; /* the quiet behind a key belongs to its code */
+    }
+    show_ms(side, "took", turns->first, end - turns->first, "from its first key until all was sent");
+    turns->first = -1;
+}
 
 /* Types the next character, if it is time and the station has space; else it is tried in the next run. */
 static int type(struct turns *turns, struct side *side, long ms)
@@ -301,6 +352,12 @@ static int type(struct turns *turns, struct side *side, long ms)
     uint8_t answer;
     if (ms < turns->next || character == '\0') {
         return 0;
+    }
+    if (turns->at == 0) {
+        turns->first = ms;
+        if (show_preview(side, text, ms) != 0) {
+            return 1;
+        }
     }
     answer = cq_station_offer(&side->station, &character, 1);
     if (answer == CQ_REFUSED_FULL) {
@@ -389,7 +446,7 @@ static void show_faults(const struct side *side)
 static int call(const struct mode *mode, const char *const *texts, size_t count)
 {
     static struct side sides[2];
-    struct turns turns = {texts, count, 0, 0, FIRST_KEY};
+    struct turns turns = {texts, count, 0, 0, FIRST_KEY, -1};
     long ms;
     int i;
     sit_down(&sides[0], "Caller", mode->number, 18);
@@ -405,6 +462,7 @@ static int call(const struct mode *mode, const char *const *texts, size_t count)
         if (none_sent && (sides[0].last_sent >= 0 || sides[1].last_sent >= 0)) {
             first_burst(sides);
         }
+        show_took(&turns, speaker);
         memcpy(sides[0].heard, sides[1].sent, RUN);
         memcpy(sides[1].heard, sides[0].sent, RUN);
         if (pass_turn(&turns, speaker, ms) && turns.turn == STRANGER_TURN && turns.turn < turns.count) {

@@ -1,10 +1,11 @@
 /*
- * A bench tool: what a station sends for a text, what it reads from a line, and a picture of either.
+ * A bench tool: what a station sends for a text, how long that takes, what it reads from a line, and pictures.
  *
  *     make lib
  *     gcc -std=c99 -Iinclude examples/line.c target/staticlib/libcuyrapaq.a -o target/line
  *     printf 'HELLO 73' | target/line send baudot45            the sent ms as run lengths, LEVEL MS in each line
  *     target/line send baudot45 'GA' 'OK 73' 'SK'              the same of several turns, a burst for each
+ *     target/line time baudot45 'please call back' 'pls cb'    the ms of each text by itself, by a preview
  *     printf '11 70\n0 50\n2 70\n' | target/line read dtmf     the words, each with its ms, faults with cause; the text
  *     printf 'E' | target/line svg baudot45 >e.svg             the burst as a picture
  *     target/line svg edt 41 >code.svg                         one code as a picture
@@ -45,6 +46,8 @@ static const struct mode modes[] = {
 
 static const char usage[] = "usage: line send MODE <text         the ms that a station sends, LEVEL MS in each line\n"
                             "       line send MODE TEXT..        the same of several turns, a burst for each\n"
+                            "       line time MODE <text         how long that takes on a free and quiet line\n"
+                            "       line time MODE TEXT..        the same of several texts, each by itself\n"
                             "       line read MODE <runs         the words read from such lines, faults with cause\n"
                             "       line svg MODE <text          a picture of the burst\n"
                             "       line svg MODE CODE           a picture of one code: 00001, **4 or 41 (EDT: hex)\n"
@@ -201,6 +204,39 @@ static void do_send(const struct burst *burst)
     for (from = 0; from < burst->ms; from = to) {
         to = run_end(burst->levels, from, burst->ms);
         printf("%u %lu\n", (unsigned)burst->levels[from], (unsigned long)(to - from));
+    }
+}
+
+/* How long a text takes, in ms: the preview of a fresh station, whose line is free. */
+static unsigned long time_of(const struct mode *mode, const uint8_t *text, size_t length)
+{
+    cq_station station;
+    cq_station_previewed previewed;
+    check_text(text, length);
+    ran_well(cq_station_open(&station, mode->number));
+    previewed = cq_station_preview(&station, text, length);
+    if (previewed.answer == CQ_REFUSED_FULL) {
+        stop("more than %d characters of the text send something; no more are previewed", CQ_STATION_WAITING_MAX);
+    }
+    ran_well(previewed.answer);
+    return previewed.ms;
+}
+
+static void do_time(const struct mode *mode, const uint8_t *text, size_t length)
+{
+    unsigned long ms = time_of(mode, text, length);
+    printf("%lu ms, %lu.%03lu s\n", ms, ms / 1000, ms % 1000);
+}
+
+/* The same for each of several texts, if none of them is refused. */
+static void time_texts(const struct mode *mode, char *const *texts, int count)
+{
+    int i;
+    for (i = 0; i < count; i++) {
+        time_of(mode, (const uint8_t *)texts[i], strlen(texts[i]));
+    }
+    for (i = 0; i < count; i++) {
+        do_time(mode, (const uint8_t *)texts[i], strlen(texts[i]));
     }
 }
 
@@ -645,8 +681,9 @@ int main(int argc, char **argv)
     static uint8_t text[LONGEST + 1];
     const char *verb = argc > 1 ? argv[1] : "";
     int svg = strcmp(verb, "svg") == 0, send = strcmp(verb, "send") == 0, read = strcmp(verb, "read") == 0;
+    int time = strcmp(verb, "time") == 0;
     const struct mode *mode;
-    if (!(svg || send || read) || argc < 3 || (svg && argc > 4) || (read && argc > 3)) {
+    if (!(svg || send || read || time) || argc < 3 || (svg && argc > 4) || (read && argc > 3)) {
         fputs(usage, stderr);
         return 2;
     }
@@ -658,6 +695,14 @@ int main(int argc, char **argv)
     if (send && argc > 3) {
         send_turns(mode, argv + 3, argc - 3, &burst);
         do_send(&burst);
+        return 0;
+    }
+    if (time && argc > 3) {
+        time_texts(mode, argv + 3, argc - 3);
+        return 0;
+    }
+    if (time) {
+        do_time(mode, text, read_text(text));
         return 0;
     }
     if (argc == 4) {

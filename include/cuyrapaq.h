@@ -1,12 +1,13 @@
 /*
  * cuyrapaq.h: the C interface of the Cuyrapaq textphone line engine.
  *
- * Three entries are a station: it sends typed characters over the line and reads those of the other end,
- * in Baudot, DTMF or EDT (ITU-T V.18, Annexes A to C). Two convert text to five-bit Baudot codes and back.
- * Three more are a calling set (clause 5.1): what it sends while it calls, and the tone that it chooses
- * among those it hears. Each works on slices that the host lends for the call: a pointer and a number of
- * elements. The engine uses no heap, keeps nothing between calls and calls nothing back. Several threads
- * may call it at the same time, each with its own slice to be written and its own state.
+ * Four entries are a station: it sends typed characters over the line and reads those of the other end,
+ * in Baudot, DTMF or EDT (ITU-T V.18, Annexes A to C), and tells beforehand how long sending will take. Two
+ * convert text to five-bit Baudot codes and back. Three more are a calling set (clause 5.1): what it sends
+ * while it calls, and the tone that it chooses among those it hears. Each works on slices that the host lends
+ * for the call: a pointer and a number of elements. The engine uses no heap, keeps nothing between calls and
+ * calls nothing back. Several threads may call it at the same time, each with its own slice to be written and
+ * its own state.
  *
  * Link libcuyrapaq.a (x86-64, System V calling convention). It calls nothing of the C library.
  */
@@ -25,8 +26,8 @@ extern "C" {
  * MINOR: entries were added; PATCH: the contracts are the same.
  */
 #define CQ_VERSION_MAJOR 5
-#define CQ_VERSION_MINOR 0
-#define CQ_VERSION_PATCH 1
+#define CQ_VERSION_MINOR 1
+#define CQ_VERSION_PATCH 0
 #define CQ_VERSION (CQ_VERSION_MAJOR * 10000L + CQ_VERSION_MINOR * 100L + CQ_VERSION_PATCH)
 
 /*
@@ -357,6 +358,12 @@ typedef struct cq_station_ran {
     size_t words;   /* words written; after a refusal 0 */
 } cq_station_ran;
 
+/* What cq_station_preview gives back. */
+typedef struct cq_station_previewed {
+    uint8_t answer; /* CQ_OK or a refusal */
+    uint32_t ms;    /* ms until the station would be idle; after a refusal 0 */
+} cq_station_previewed;
+
 /*
  * Opens a station of a mode: nothing waits, the line is free, the sender is fresh and the reader hunts in
  * letters.
@@ -424,6 +431,28 @@ uint8_t cq_station_offer(cq_station *station, const uint8_t *text, size_t text_l
 cq_station_ran cq_station_run(cq_station *station, const uint8_t *heard, size_t heard_length, uint8_t *sent,
                               size_t sent_length, uint32_t *words, size_t words_length);
 
+/*
+ * Tells how long it would take to send a text, and what waits already, on a quiet line.
+ *
+ * station            the station, which is only read
+ * text, text_length  the characters, as for cq_station_offer; with none it is told of what waits alone
+ *
+ * CQ_OK: `ms` is the number of ms after which a copy of the station would have nothing waiting and be in no
+ * burst, if it was offered the text now and then heard CQ_LEVEL_QUIET in every ms; 0 if that is so at once. The
+ * ms until the line has been without signal for 300 are in it, and a line that is busy now counts as quiet from
+ * now on. So text that is offered later than now, or signal on the line, can make it longer. CQ_STATION_MS_MAX
+ * is no limit here: `ms` goes up to some 123,000, in DTMF.
+ *
+ * Refusals, asked in this order; the first that applies is the answer:
+ *   CQ_REFUSED_STATE      (1)  a number of the station is out of range
+ *   CQ_REFUSED_CHARACTER  (3)  a byte of text is above 127
+ *   CQ_REFUSED_FULL       (4)  no space for all characters of the text that send something
+ * Each has 0 ms. The station is as it was after every call; a 7F (DEL) in the text puts no reader in letters.
+ *
+ * Pointers and slices are as for the conversions.
+ */
+cq_station_previewed cq_station_preview(const cq_station *station, const uint8_t *text, size_t text_length);
+
 /* Checked when the host is compiled: the structs are laid out as in the library. */
 #if defined(__cplusplus) && __cplusplus >= 201103L
 static_assert(sizeof(size_t) == 8, "size_t has 8 bytes");
@@ -441,6 +470,8 @@ static_assert(sizeof(cq_station) == 276, "cq_station has 276 bytes");
 static_assert(offsetof(cq_station, chars) == 20, "chars stand from byte 20 on");
 static_assert(sizeof(cq_station_ran) == 16, "cq_station_ran has 16 bytes");
 static_assert(offsetof(cq_station_ran, words) == 8, "words stands at byte 8");
+static_assert(sizeof(cq_station_previewed) == 8, "cq_station_previewed has 8 bytes");
+static_assert(offsetof(cq_station_previewed, ms) == 4, "ms stands at byte 4");
 #else
 typedef char cq_check_size_t[sizeof(size_t) == 8 ? 1 : -1];
 typedef char cq_check_baudot_sent[sizeof(cq_baudot_sent) == 16 ? 1 : -1];
@@ -457,6 +488,8 @@ typedef char cq_check_station[sizeof(cq_station) == 276 ? 1 : -1];
 typedef char cq_check_station_chars[offsetof(cq_station, chars) == 20 ? 1 : -1];
 typedef char cq_check_station_ran[sizeof(cq_station_ran) == 16 ? 1 : -1];
 typedef char cq_check_station_ran_words[offsetof(cq_station_ran, words) == 8 ? 1 : -1];
+typedef char cq_check_station_previewed[sizeof(cq_station_previewed) == 8 ? 1 : -1];
+typedef char cq_check_station_previewed_ms[offsetof(cq_station_previewed, ms) == 4 ? 1 : -1];
 #endif
 
 #ifdef __cplusplus

@@ -1,7 +1,7 @@
 /*
  * Calls all entries through the header: the worked examples, the calling set's timetable, pause and
- * choice, a station that sends to another, several bursts, every fault word, every refusal and what it leaves,
- * empty slices, slices that fit exactly, and the bytes around the result. Prints what failed.
+ * choice, a station that sends to another, several bursts, previews, every fault word, every refusal and what it
+ * leaves, empty slices, slices that fit exactly, and the bytes around the result. Prints what failed.
  */
 #include "cuyrapaq.h"
 
@@ -151,6 +151,9 @@ static void layout(void)
     check(offsetof(cq_station, core) == 0 && offsetof(cq_station, chars) == 20, "fields", "cq_station");
     check(sizeof(cq_station_ran) == 16, "size", "cq_station_ran");
     check(offsetof(cq_station_ran, answer) == 0 && offsetof(cq_station_ran, words) == 8, "fields", "cq_station_ran");
+    check(sizeof(cq_station_previewed) == 8, "size", "cq_station_previewed");
+    check(offsetof(cq_station_previewed, answer) == 0 && offsetof(cq_station_previewed, ms) == 4, "fields",
+          "cq_station_previewed");
     check(CQ_MODE_BAUDOT_45 == 1 && CQ_MODE_BAUDOT_50 == 2 && CQ_MODE_DTMF == 3 && CQ_MODE_EDT == 4,
           "numbers of the modes", "macros");
     check(CQ_LEVEL_QUIET == 0 && CQ_LEVEL_MARK == 1 && CQ_LEVEL_SPACE == 2 && CQ_KEY_0 == 10 && CQ_KEY_STAR == 11 &&
@@ -947,6 +950,201 @@ static void conversation(uint8_t mode, size_t cut)
     check(a.core.waiting == 0 && b.core.waiting == 0, "none waits", "conversation");
 }
 
+/* Previews a text; the station stays as it is, byte for byte. */
+static cq_station_previewed preview(const char *which, cq_station station, const uint8_t *text, size_t length)
+{
+    cq_station before = station;
+    cq_station_previewed r = cq_station_preview(&station, text, length);
+    check(same_station(&station, &before), "a preview leaves the station", which);
+    return r;
+}
+
+static void previews(const char *which, const cq_station *station, const char *text, size_t length, uint32_t ms)
+{
+    cq_station_previewed r = preview(which, *station, (const uint8_t *)text, length);
+    check(r.answer == CQ_OK && r.ms == ms, "ms of a preview", which);
+}
+
+static void preview_refused(const char *which, const cq_station *station, const uint8_t *text, size_t length,
+                            uint8_t answer)
+{
+    cq_station_previewed r = preview(which, *station, text, length);
+    check(r.answer == answer && r.ms == 0, "refusal of a preview", which);
+}
+
+/* Texts on a fresh station, and the ms of each. */
+static const struct {
+    uint8_t mode;
+    const char *text;
+    uint32_t ms;
+} previewed[] = {
+    /* Baudot: the preamble 150, the opening shift code, and the codes, 165 each, or 150 in mode 2. */
+    {CQ_MODE_BAUDOT_45, "hi", 645},    /* 150 + 165 + 2 * 165 */
+    {CQ_MODE_BAUDOT_45, "1", 645},     /* 150 + 165 + 11011 and 1: 2 * 165 */
+    {CQ_MODE_BAUDOT_45, "A1 B", 1305}, /* 150 + 165 + A, 11011, 1, SPACE, 11111, B: 6 * 165 */
+    {CQ_MODE_BAUDOT_50, "hi", 600},    /* 150 + 150 + 2 * 150 */
+    {CQ_MODE_BAUDOT_50, "A1 B", 1200}, /* 150 + 150 + 6 * 150 */
+    /* DTMF: 120 for each key. b is key 1, the colon **4, the exclamation mark ###0. */
+    {CQ_MODE_DTMF, "b", 120},
+    {CQ_MODE_DTMF, "b:", 480},  /* 120 + 3 * 120 */
+    {CQ_MODE_DTMF, "b!:", 960}, /* 120 + 4 * 120 + 3 * 120 */
+    /* EDT: the preamble 300 and 100 for each character. */
+    {CQ_MODE_EDT, "hi", 500},   /* 300 + 2 * 100 */
+};
+
+/* Through a burst and behind it the preview of no text counts down to 0, and the burst ends with its last ms. */
+static void counts_down(const char *which, cq_station station, uint32_t ms)
+{
+    static const uint8_t quiet[1] = {CQ_LEVEL_QUIET};
+    for (; ms > 0; ms--) {
+        previews(which, &station, "", 0, ms);
+        check(station.core.waiting > 0 || station.core.line.part != 0, "not idle before the last ms", which);
+        runs(which, &station, quiet, 1);
+    }
+    check(station.core.waiting == 0 && station.core.line.part == 0, "idle behind the last ms", which);
+    previews(which, &station, "", 0, 0);
+}
+
+/* The most characters, and the most ms of each: a shift code ahead of every character, or four keys. */
+static void longest_previews(void)
+{
+    static const struct {
+        const char *two;
+        uint32_t ms;
+    } most[] = {
+        {"1A", 84795},  /* 150 + 165 * (1 + 2 * 256) */
+        {"1A", 77100},  /* 150 + 150 * (1 + 2 * 256) */
+        {"!!", 122880}, /* 256 * 4 * 120 */
+        {"!!", 25900},  /* 300 + 256 * 100 */
+    };
+    static char text[CQ_STATION_WAITING_MAX];
+    cq_station station;
+    uint8_t mode;
+    size_t i;
+    for (mode = CQ_MODE_BAUDOT_45; mode <= CQ_MODE_EDT; mode++) {
+        station = opened(mode);
+        for (i = 0; i < sizeof text; i++) {
+            text[i] = most[mode - 1].two[i % 2];
+        }
+        previews("256 offered", &station, text, sizeof text, most[mode - 1].ms);
+        offers("256 waiting", &station, text, 200, 200);
+        previews("200 waiting, 56 offered", &station, text + 200, 56, most[mode - 1].ms);
+        offers("256 waiting", &station, text + 200, 56, 256);
+        previews("256 waiting", &station, "", 0, most[mode - 1].ms);
+    }
+    /* 150 + 165 * 75: 11111, 72 times E, 11111 again, E. */
+    memset(text, 'E', sizeof text);
+    station = opened(CQ_MODE_BAUDOT_45);
+    previews("73 times E", &station, text, 73, 12525);
+}
+
+/* Behind signal 300 ms of silence come first, less those that have been. A text goes on behind a burst that is on. */
+static void previews_on_the_way(void)
+{
+    static const uint8_t quiet[1000] = {CQ_LEVEL_QUIET}, busy[1] = {1};
+    /* b by itself: 150 + 165 + 165, 150 + 150 + 150, 120, 300 + 100; and one more b in the same burst. */
+    static const uint32_t one[4] = {480, 450, 120, 400}, more[4] = {165, 150, 120, 100};
+    uint8_t mode;
+    for (mode = CQ_MODE_BAUDOT_45; mode <= CQ_MODE_EDT; mode++) {
+        cq_station station = opened(mode);
+        uint32_t ms = one[mode - 1];
+        runs("busy", &station, busy, 1);
+        previews("busy", &station, "b", 1, 300 + ms);
+        previews("busy, no text", &station, "", 0, 0);
+        runs("busy", &station, quiet, 100);
+        previews("100 ms of silence", &station, "b", 1, 200 + ms);
+        offers("100 ms of silence", &station, "b", 1, 1);
+        previews("and one waiting", &station, "", 0, 200 + ms);
+        previews("and one more", &station, "b", 1, 200 + ms + more[mode - 1]);
+        runs("silence", &station, quiet, 200);
+        previews("line free", &station, "", 0, ms);
+        runs("in the burst", &station, quiet, ms - 1);
+        previews("ahead of its last ms", &station, "", 0, 1);
+        previews("ahead of its last ms", &station, "b", 1, 1 + more[mode - 1]);
+        runs("the last ms", &station, quiet, 1);
+        previews("behind its last ms", &station, "", 0, 0);
+        previews("behind its last ms", &station, "b", 1, ms);
+        /* The 300 inhibited ms count as silence, also with signal on the line; the ms behind them do not. */
+        runs("inhibited", &station, quiet, 299);
+        runs("inhibited", &station, busy, 1);
+        previews("inhibited", &station, "b", 1, ms);
+        runs("no longer inhibited", &station, busy, 1);
+        previews("no longer inhibited", &station, "b", 1, 300 + ms);
+    }
+}
+
+/* DEL in Baudot sends nothing, and a preview of it leaves a reader in figures; an offer does not. */
+static void preview_of_del(uint8_t mode, size_t e)
+{
+    static uint8_t heard[165];
+    cq_station station = opened(mode);
+    memset(heard, CQ_LEVEL_MARK, sizeof heard); /* 11011: start space, the third digit space */
+    memset(heard, CQ_LEVEL_SPACE, e);
+    memset(heard + 3 * e, CQ_LEVEL_SPACE, e);
+    check(runs("11011", &station, heard, 6 * e + 3 * e / 2) == 0, "no word", "11011");
+    check(station.core.reader.shift == CQ_SHIFT_FIGURES, "the reader is in figures", "11011");
+    previews("DEL", &station, "\x7F", 1, 0);
+    check(station.core.reader.shift == CQ_SHIFT_FIGURES, "the reader stays in figures", "DEL");
+    offers("DEL", &station, "\x7F", 1, 0);
+    check(station.core.reader.shift == CQ_SHIFT_LETTERS, "the reader goes to letters", "DEL");
+}
+
+static void station_previews(void)
+{
+    static const uint8_t above[] = {'e', 128};
+    static uint8_t many[300];
+    cq_station station;
+    uint8_t mode;
+    size_t i;
+    for (i = 0; i < sizeof previewed / sizeof previewed[0]; i++) {
+        const char *text = previewed[i].text;
+        station = opened(previewed[i].mode);
+        previews("no text", &station, text, 0, 0);
+        previews(text, &station, text, strlen(text), previewed[i].ms);
+        offers(text, &station, text, strlen(text), (uint16_t)strlen(text));
+        counts_down(text, station, previewed[i].ms);
+    }
+    longest_previews();
+    previews_on_the_way();
+    preview_of_del(CQ_MODE_BAUDOT_45, 22);
+    preview_of_del(CQ_MODE_BAUDOT_50, 20);
+    /* DEL is sent in DTMF as *0 and in EDT as itself; NULL sends nothing but in EDT. */
+    station = opened(CQ_MODE_DTMF);
+    previews("DEL", &station, "\x7F", 1, 240);
+    previews("NULL", &station, "\0", 1, 0);
+    station = opened(CQ_MODE_EDT);
+    previews("DEL", &station, "\x7F", 1, 400);
+    previews("NULL", &station, "\0", 1, 400);
+    station = opened(CQ_MODE_BAUDOT_45);
+    previews("NULL", &station, "\0", 1, 0);
+    previews("300 times NULL", &station, (const char *)many, 300, 0);
+    memset(many, 'e', sizeof many);
+    for (mode = CQ_MODE_BAUDOT_45; mode <= CQ_MODE_EDT; mode++) {
+        cq_station bad;
+        station = opened(mode);
+        offers("waiting", &station, "e", 1, 1);
+        preview_refused("3", &station, above, 2, CQ_REFUSED_CHARACTER);
+        preview_refused("4", &station, many, 256, CQ_REFUSED_FULL);
+        check(preview("255", station, many, 255).answer == CQ_OK, "as many as there is space for", "previews");
+        many[299] = 255;
+        preview_refused("3 ahead of 4", &station, many, 300, CQ_REFUSED_CHARACTER);
+        bad = station;
+        bad.core.silence = 301;
+        preview_refused("1", &bad, many, 0, CQ_REFUSED_STATE);
+        preview_refused("1 ahead of 3 and 4", &bad, many, 300, CQ_REFUSED_STATE);
+        preview_refused("1 ahead of 4", &bad, many, 299, CQ_REFUSED_STATE);
+        many[299] = 'e';
+        bad = station;
+        bad.core.waiting = 257;
+        preview_refused("1, waiting", &bad, many, 0, CQ_REFUSED_STATE);
+        bad = station;
+        bad.chars[0] = 128;
+        preview_refused("1, characters", &bad, many, 1, CQ_REFUSED_STATE);
+        memset(&bad, 0, sizeof bad);
+        preview_refused("1, zeros", &bad, many, 0, CQ_REFUSED_STATE);
+    }
+}
+
 static void station_refusals(void)
 {
     static uint8_t heard[CQ_STATION_MS_MAX + 1];
@@ -1017,6 +1215,7 @@ int main(void)
         conversation(mode, 20);
         conversation(mode, 1000);
     }
+    station_previews();
     station_refusals();
     if (failures != 0) {
         printf("header: %lu of %lu checks failed\n", failures, checks);

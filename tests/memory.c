@@ -3,7 +3,8 @@
  * exactly as long as it is lent, so that an access outside shows; slices to be written are often left as malloc
  * gives them, so that a decision on their old content shows, too. Levels, characters, codes, tones, lengths and
  * states are now and then out of range. Also checks that a refusal leaves what was lent as it was, that a result
- * keeps within its range, and that every answer and every cause of a fault comes.
+ * keeps within its range, that a preview leaves the station and answers as the offer does, and that every answer and
+ * every cause of a fault comes.
  *
  *     memory [ROUNDS]
  */
@@ -17,9 +18,10 @@
 #define ROUNDS 15000
 #define ANSWERS 13 /* 0 to 12 */
 #define CAUSES 6 /* 1 to 5 */
+#define LONGEST (480 + 256 * 480) /* ms of a preview: a DTMF code of four keys on the line, and 256 that wait */
 #define PATTERN 0xA5
 
-static unsigned long failures, answers[ANSWERS], causes[CAUSES];
+static unsigned long failures, answers[ANSWERS], previews[ANSWERS], causes[CAUSES];
 
 static void check(int holds, const char *what)
 {
@@ -242,6 +244,35 @@ static void offer(cq_station *station)
     free(text);
 }
 
+static int is_idle(const cq_station *station)
+{
+    return station->core.waiting == 0 && station->core.line.part == 0;
+}
+
+/* A preview, of no text or of any, and the offer of the same text to a copy. */
+static void preview(const cq_station *station)
+{
+    size_t length = one_in(3) ? 0 : any_length();
+    uint8_t *text = lend_values(length, 128), *text_before = lend(length);
+    cq_station *copy = lend(sizeof *copy), before = *station;
+    cq_station_previewed r;
+    memcpy(text_before, text, length);
+    *copy = *station;
+    r = cq_station_preview(station, text, length);
+    check(memcmp(station, &before, sizeof before) == 0, "the station behind cq_station_preview");
+    check(memcmp(text, text_before, length) == 0, "the text behind cq_station_preview");
+    check(r.answer == cq_station_offer(copy, text, length), "answer of a preview");
+    previews[r.answer % ANSWERS]++;
+    if (succeeds(r.answer)) {
+        check(r.ms <= LONGEST && (r.ms == 0) == is_idle(copy), "ms of a preview");
+    } else {
+        check(r.ms == 0, "refusal of cq_station_preview");
+    }
+    free(text);
+    free(text_before);
+    free(copy);
+}
+
 /* Whether a frame of the mode can break at this ms for this cause: quiet (1) at the middle of any element behind the
  * start, a stop that is not mark (2) at that of a stop, odd parity (3) at that of the parity. */
 static int breaks(uint8_t mode, uint32_t ms, uint32_t cause)
@@ -328,6 +359,8 @@ static void station_call(void)
         damage(station, one_in(2) ? sizeof(cq_core) : sizeof *station);
     } else if (which < 10) {
         offer(station);
+    } else if (which < 14) {
+        preview(station);
     } else {
         run(station);
     }
@@ -358,6 +391,10 @@ int main(int argc, char **argv)
     for (i = 0; i < ANSWERS && rounds >= ROUNDS; i++) {
         check(answers[i] > 0, "an answer that never comes");
     }
+    for (i = 0; i < ANSWERS && rounds >= ROUNDS; i++) {
+        int given = i == CQ_OK || i == CQ_REFUSED_STATE || i == CQ_REFUSED_CHARACTER || i == CQ_REFUSED_FULL;
+        check((previews[i] > 0) == given, "an answer of previews that never comes, or is none of theirs");
+    }
     for (i = 1; i < CAUSES && rounds >= ROUNDS; i++) {
         check(causes[i] > 0, "a cause that never comes");
     }
@@ -368,6 +405,10 @@ int main(int argc, char **argv)
     printf("memory: %ld rounds passed; times that each answer came, from 0 on:", rounds);
     for (i = 0; i < ANSWERS; i++) {
         printf(" %lu", answers[i]);
+    }
+    fputs("; of previews:", stdout);
+    for (i = 0; i <= CQ_REFUSED_FULL; i++) {
+        printf(" %lu", previews[i]);
     }
     fputs("; each cause, from 1 on:", stdout);
     for (i = 1; i < CAUSES; i++) {

@@ -1,6 +1,7 @@
 /*
  * Goes through test vectors (vectors/README.md) by the entries: what a station sends for each text, what a
- * station reads from each line and in which ms, in runs of several lengths; in Baudot the bare conversions too.
+ * station reads from each line and in which ms, in runs of several lengths; in Baudot the bare conversions too;
+ * what a preview tells, and that it comes true.
  *
  *     vectors FILE...
  */
@@ -25,17 +26,20 @@ struct word {
 
 /* One case as it stands in the file. */
 struct vector {
-    int sends; /* `send`, and not `hear` */
+    int sends, previews; /* `send`, `preview`, or neither: `hear` */
     char name[120];
-    size_t offers, codes, ms, words;
+    size_t offers, codes, ms, words, with;
+    unsigned long told; /* the ms that a preview tells */
+    int tells;          /* whether they have been given */
     struct offer offer[MOST_ITEMS];
     char code[MOST_ITEMS][8];
     uint8_t level[MOST_MS];
     struct word word[MOST_ITEMS];
+    uint8_t text[MOST_ITEMS]; /* of a preview */
 };
 
 static const char *file;
-static unsigned long line_number, cases, failures;
+static unsigned long line_number, cases, previews, failures;
 static uint8_t mode;
 static struct vector vector;
 
@@ -124,6 +128,56 @@ static void reads(size_t cut)
         }
     }
     check(at == vector.words, "number of words", at);
+}
+
+/* Previews. */
+
+static void run_quiet(cq_station *station, size_t ms, size_t cut)
+{
+    static const uint8_t quiet[CQ_STATION_MS_MAX];
+    static uint8_t sent[CQ_STATION_MS_MAX];
+    static uint32_t words[CQ_STATION_MS_MAX];
+    size_t length;
+    for (; ms > 0; ms -= length) {
+        length = least(cut, ms);
+        check(cq_station_run(station, quiet, length, sent, length, words, length).answer == CQ_OK, "a quiet run", ms);
+    }
+}
+
+static int is_idle(const cq_station *station)
+{
+    return station->core.waiting == 0 && station->core.line.part == 0;
+}
+
+/* A fresh station hears the line, in runs of at most `cut` ms. Behind it the preview tells the ms; offered the text,
+ * the station is idle after so many ms of quiet, and not before. */
+static void tells(size_t cut)
+{
+    static uint8_t sent[CQ_STATION_MS_MAX];
+    static uint32_t words[CQ_STATION_MS_MAX];
+    cq_station station, before;
+    cq_station_previewed previewed;
+    size_t ms = 0, length;
+    cq_station_open(&station, mode);
+    offer_all(&station, 0);
+    for (; ms < vector.ms; offer_all(&station, ms)) {
+        cq_station_ran ran;
+        length = least(least(cut, next_offer(ms) - ms), vector.ms - ms);
+        ran = cq_station_run(&station, vector.level + ms, length, sent, length, words, length);
+        check(ran.answer == CQ_OK, "a run ahead of a preview", ms);
+        ms += length;
+    }
+    before = station;
+    previewed = cq_station_preview(&station, vector.text, vector.with);
+    check(previewed.answer == CQ_OK && previewed.ms == vector.told, "ms of a preview", previewed.ms);
+    check(memcmp(&station, &before, sizeof station) == 0, "a preview leaves the station", cut);
+    check(cq_station_offer(&station, vector.text, vector.with) == CQ_OK, "the offer of the text", cut);
+    if (vector.told > 0) {
+        run_quiet(&station, vector.told - 1, cut);
+        check(!is_idle(&station), "not idle before the last ms", cut);
+        run_quiet(&station, 1, cut);
+    }
+    check(is_idle(&station), "idle behind the last ms", cut);
 }
 
 /* Codes. */
@@ -239,12 +293,18 @@ static void try_case(void)
     static const size_t cuts[] = {1, 20, 333, CQ_STATION_MS_MAX};
     size_t i;
     for (i = 0; i < sizeof cuts / sizeof cuts[0]; i++) {
+        if (vector.previews) {
+            tells(cuts[i]);
+            continue;
+        }
         if (vector.sends) {
             sends(cuts[i]);
         }
         reads(cuts[i]);
     }
-    if (mode == CQ_MODE_DTMF) {
+    if (vector.previews) {
+        previews++;
+    } else if (mode == CQ_MODE_DTMF) {
         has_keys();
     } else if (mode == CQ_MODE_EDT) {
         has_characters();
@@ -319,21 +379,36 @@ static void words_field(char *at)
     }
 }
 
+static void with_field(char *at)
+{
+    while (*at != '\0') {
+        full(vector.with);
+        vector.text[vector.with++] = (uint8_t)number(&at, 16, ' ');
+    }
+}
+
+static void ms_field(char *at)
+{
+    vector.told = number(&at, 10, ' ');
+    vector.tells = 1;
+}
+
 static void end_case(void)
 {
     if (vector.name[0] != '\0') {
-        if (vector.ms == 0) {
-            bad_line("the case above has no line");
+        if (vector.previews ? !vector.tells : vector.ms == 0) {
+            bad_line("the case above has no line, or is a preview without its ms");
         }
         try_case();
     }
 }
 
-static void begin_case(int sends_text, const char *name)
+static void begin_case(const char *kind, const char *name)
 {
     end_case();
     memset(&vector, 0, sizeof vector);
-    vector.sends = sends_text;
+    vector.sends = strcmp(kind, "send") == 0;
+    vector.previews = strcmp(kind, "preview") == 0;
     strncpy(vector.name, name, sizeof vector.name - 1);
 }
 
@@ -358,8 +433,8 @@ static void take_line(char *line)
     *rest++ = '\0';
     if (strcmp(line, "mode") == 0) {
         mode_field(rest);
-    } else if (strcmp(line, "send") == 0 || strcmp(line, "hear") == 0) {
-        begin_case(line[0] == 's', rest);
+    } else if (strcmp(line, "send") == 0 || strcmp(line, "hear") == 0 || strcmp(line, "preview") == 0) {
+        begin_case(line, rest);
     } else if (strcmp(line, "text") == 0) {
         text_field(rest);
     } else if (strcmp(line, "codes") == 0) {
@@ -368,6 +443,10 @@ static void take_line(char *line)
         line_field(rest);
     } else if (strcmp(line, "words") == 0) {
         words_field(rest);
+    } else if (strcmp(line, "with") == 0) {
+        with_field(rest);
+    } else if (strcmp(line, "ms") == 0) {
+        ms_field(rest);
     } else {
         bad_line("unknown name");
     }
@@ -378,7 +457,7 @@ static void take_file(const char *path)
     char line[200];
     FILE *stream = fopen(path, "r");
     file = path;
-    line_number = cases = 0;
+    line_number = cases = previews = 0;
     mode = 0;
     memset(&vector, 0, sizeof vector);
     if (stream == NULL) {
@@ -391,10 +470,10 @@ static void take_file(const char *path)
     }
     fclose(stream);
     end_case();
-    if (cases == 0) {
-        bad_line("there is no case");
+    if (cases == 0 || previews == 0) {
+        bad_line("there is no case, or none is a preview");
     }
-    printf("%s: %lu cases\n", path, cases);
+    printf("%s: %lu cases, %lu of them previews\n", path, cases, previews);
 }
 
 int main(int argc, char **argv)

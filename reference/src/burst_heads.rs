@@ -1,7 +1,8 @@
 //! Compares every head of a Baudot burst (document 02, request 101): the engine, the reference's
 //! station, the send model and the codes by the bare conversion, from every shift, every count and
 //! every first character. Then heads that no list of calls leads to: a preamble that is over, one
-//! with none waiting, and a fresh sender in the middle of a burst. Part of `differential`.
+//! with none waiting, and a fresh sender in the middle of a burst. A preview must tell the ms of each
+//! (request 106). Part of `differential`.
 
 use crate::damaged_stations::{agree, in_range, reference_of};
 use crate::engine::{OnLine, Sender, Station};
@@ -65,7 +66,8 @@ pub fn compare(random: &mut Random) -> String {
     assert_eq!((heads, over), (46_428, 46_428));
     format!(
         "heads of bursts: no difference; every shift, count and character {heads}, behind a forged \
-         preamble {over}, preamble and none waiting {none_waiting}, fresh sender in a burst {fresh}"
+         preamble {over}, preamble and none waiting {none_waiting}, fresh sender in a burst {fresh}; \
+         the ms of each are previewed"
     )
 }
 
@@ -157,9 +159,15 @@ fn fresh_in_a_burst(random: &mut Random, mode: Mode) -> u64 {
     cases
 }
 
-/// The station must send these ms on a quiet line, and then nothing, in one call and in two; and go
-/// as the reference does. Gives back the station behind the burst.
+/// The station must send these ms on a quiet line, and then nothing, in one call and in two; a preview
+/// must tell how many they are; and it must go as the reference does. Gives back the station behind
+/// the burst.
 fn sends(random: &mut Random, station: &Station, wanted: &[u8]) -> Station {
+    // A part that is over with none waiting takes a quiet ms.
+    let (previewed, ms) = ({ *station }.preview(b""), wanted.len().max(1));
+    if previewed != (SUCCESS, ms as u32) {
+        differs(station, &format!("previewed {previewed:?}, and it has {ms} ms"));
+    }
     let heard = vec![QUIET; wanted.len() + AFTER];
     let wanted = [wanted, &[QUIET; AFTER]].concat();
     let (whole, sent) = run(station, &heard, heard.len());

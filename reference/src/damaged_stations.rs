@@ -54,7 +54,7 @@ fn code_of(mode: Mode, number: u8) -> Option<Code> {
 }
 
 /// The part of these numbers, if they are in range; where it is no code, that number may be 0.
-fn part_of(mode: Mode, part: u8, code: u8) -> Option<Part> {
+pub fn part_of(mode: Mode, part: u8, code: u8) -> Option<Part> {
     let found = code_of(mode, code);
     match part {
         0 if code == 0 || found.is_some() => Some(Part::Idle),
@@ -65,7 +65,7 @@ fn part_of(mode: Mode, part: u8, code: u8) -> Option<Part> {
 }
 
 /// The ms of a part on the line; none if there is no such part.
-fn part_length(mode: Mode, part: Option<Part>) -> usize {
+pub fn part_length(mode: Mode, part: Option<Part>) -> usize {
     match part {
         None | Some(Part::Idle) => 0,
         Some(Part::Preamble) => usize::from(mode.preamble()),
@@ -99,7 +99,7 @@ static SENDS: LazyLock<[[bool; 256]; 4]> = LazyLock::new(|| {
     })
 });
 
-fn sends(mode: Mode) -> &'static [bool; 256] {
+pub fn sends(mode: Mode) -> &'static [bool; 256] {
     &SENDS[usize::from(mode.number()) - 1]
 }
 
@@ -209,7 +209,7 @@ pub fn damage(random: &mut Random, station: &mut Station) {
 }
 
 /// A station of the mode in range, each number by itself at random, often at an end of its range.
-fn random_station(random: &mut Random, mode: Mode) -> Station {
+pub fn random_station(random: &mut Random, mode: Mode) -> Station {
     let mut station = Station::open(mode.number()).1;
     for field in [4, 5, 3, 0, 1, 2, 6, 7, 8, 9, 10, 11, 12, 13, 14] {
         let (least, most) = range(&station, mode, field);

@@ -79,6 +79,12 @@ struct StationRan {
     words: usize,
 }
 
+#[repr(C)]
+struct StationPreviewed {
+    answer: u8,
+    ms: u32,
+}
+
 // First, since it may hold the other entries too.
 #[link(name = "cuyrapaq", kind = "static")]
 extern "C" {
@@ -95,6 +101,12 @@ extern "C" {
         words: *mut u32,
         words_length: usize,
     ) -> StationRan;
+
+    fn cq_station_preview(
+        station: *const Station,
+        text: *const u8,
+        text_length: usize,
+    ) -> StationPreviewed;
 
     fn cq_baudot_send(
         text: *const u8,
@@ -161,6 +173,14 @@ impl Station {
             let answer = cq_station_open(station.as_mut_ptr(), mode);
             (answer, station.assume_init())
         }
+    }
+
+    /// The answer and the ms. The station is lent as one that may change, so that a change would show.
+    pub fn preview(&mut self, text: &[u8]) -> (u8, u32) {
+        let station = std::ptr::from_mut(self).cast_const();
+        // Safety: the pointer leads to a station, and the other goes with the length of its slice.
+        let previewed = unsafe { cq_station_preview(station, text.as_ptr(), text.len()) };
+        (previewed.answer, previewed.ms)
     }
 }
 

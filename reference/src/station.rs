@@ -1,7 +1,7 @@
 //! A station of document 01: characters wait to be sent, bursts go out when the line is free, and
 //! what the other end sends is read. By request 101 of document 02 a Baudot burst opens with a shift
 //! code. A run goes over its ms in stretches: a run of one level in a burst, the inhibited ms after
-//! it, or ms to listen to.
+//! it, or ms to listen to. A preview (request 106) sends with a copy, ms by ms, and counts.
 
 use crate::annex::{dtmf_sends, Sending, BAUDOT_SENDS, EITHER, FIGURES, LETTERS};
 use crate::annex::{FIGURES_CODE, LETTERS_CODE};
@@ -351,6 +351,7 @@ impl Station {
     }
 
     /// Hears some ms. Writes as many sent ms, and the words from the front.
+    #[inline(never)] // `bench` counts its instructions by its name
     pub fn run(&mut self, heard: &[u8], sent: &mut [u8], words: &mut [u32]) -> Ran {
         let refusal = |answer| Ran { answer, words: 0 };
         if !self.in_range() {
@@ -369,6 +370,11 @@ impl Station {
         if words.len() < heard.len() {
             return refusal(WORD_SLICE);
         }
+        Ran { answer: SUCCESS, words: self.go(heard, sent, words) }
+    }
+
+    /// Goes over some ms, however many; gives back how many words there are.
+    fn go(&mut self, heard: &[u8], sent: &mut [u8], words: &mut [u32]) -> usize {
         let mut count = 0;
         let (mut heard, mut sent) = (heard, &mut sent[..heard.len()]);
         while !heard.is_empty() {
@@ -386,7 +392,28 @@ impl Station {
             heard = &heard[ms..];
             sent = &mut sent[ms..];
         }
-        Ran { answer: SUCCESS, words: count }
+        count
+    }
+
+    /// Does nothing wait, and is it in no burst?
+    pub fn is_idle(&self) -> bool {
+        self.waiting() == 0 && !self.in_burst
+    }
+
+    /// The answer of an offer of the text, and after how many ms of quiet the station would be idle
+    /// behind it; 0 ms if it is refused.
+    pub fn preview(&self, text: &[u8]) -> (u8, u32) {
+        let mut copy = *self;
+        let answer = copy.offer(text);
+        if answer != SUCCESS {
+            return (answer, 0);
+        }
+        let mut ms = 0;
+        while !copy.is_idle() {
+            copy.go(&[QUIET], &mut [QUIET], &mut [0]);
+            ms += 1;
+        }
+        (SUCCESS, ms)
     }
 
     /// Sends up to the end of the slice or of the burst; gives back how many ms.
@@ -843,6 +870,129 @@ mod tests {
         assert_eq!(hears(&mut station, &[SPACE_LEVEL; 200]).1, [0x1000_5602]);
         let mut station = Station::fresh(Mode::Dtmf);
         assert_eq!(hears(&mut station, &[16; 200]).1, [0x1000_0005]);
+    }
+
+    /// The ms of a preview that must succeed.
+    fn previewed(station: &Station, text: &[u8]) -> usize {
+        let (answer, ms) = station.preview(text);
+        assert_eq!(answer, SUCCESS);
+        ms as usize
+    }
+
+    #[test]
+    fn a_preview_counts_the_ms_of_the_burst() {
+        let fresh = Station::fresh;
+        // The preamble, the shift code that opens the burst, and two codes.
+        assert_eq!(previewed(&fresh(Mode::Baudot45), b"hi"), 150 + 165 + 2 * 165);
+        assert_eq!(previewed(&fresh(Mode::Baudot50), b"hi"), 150 + 150 + 2 * 150);
+        // With 1 comes 11011; behind 72 characters the shift is sent again.
+        assert_eq!(previewed(&fresh(Mode::Baudot45), b"A1"), 150 + 4 * 165);
+        assert_eq!(previewed(&fresh(Mode::Baudot50), &[b'E'; 73]), 150 + 75 * 150);
+        // b is key 1, the colon **4.
+        assert_eq!(previewed(&fresh(Mode::Dtmf), b"b:"), 120 + 3 * 120);
+        assert_eq!(previewed(&fresh(Mode::Edt), b"hi"), 300 + 2 * 100);
+        // The longest: a shift code ahead of each character, and codes of four keys.
+        assert_eq!(previewed(&fresh(Mode::Baudot45), &b"1A".repeat(128)), 150 + 165 * 513);
+        assert_eq!(previewed(&fresh(Mode::Baudot50), &b"1A".repeat(128)), 150 + 150 * 513);
+        assert_eq!(previewed(&fresh(Mode::Dtmf), &[b'!'; 256]), 256 * 480);
+        assert_eq!(previewed(&fresh(Mode::Edt), &[b'!'; 256]), 300 + 256 * 100);
+        for mode in Mode::ALL {
+            assert_eq!(previewed(&fresh(mode), b""), 0);
+            let text = b"Too 599 E*@";
+            assert_eq!(previewed(&fresh(mode), text), burst(mode, text).len());
+        }
+        // What sends nothing takes no time.
+        assert_eq!(previewed(&fresh(Mode::Baudot45), b"\x00\x7F"), 0);
+        assert_eq!(previewed(&fresh(Mode::Dtmf), b"\"/"), 0);
+    }
+
+    #[test]
+    fn a_preview_waits_for_a_free_line() {
+        for mode in Mode::ALL {
+            let mut station = Station::fresh(mode);
+            hears(&mut station, &[1]);
+            let length = burst(mode, b"E").len();
+            for silence in 0..=350 {
+                // Busy or not, the line counts as quiet from now on.
+                let waits = 300 - silence.min(300);
+                assert_eq!(previewed(&station, b"E"), waits + length);
+                assert_eq!(previewed(&station, b""), 0);
+                quiet(&mut station, 1);
+            }
+        }
+    }
+
+    #[test]
+    fn a_preview_counts_down_through_a_burst() {
+        for mode in Mode::ALL {
+            let text = b"A1 b";
+            let mut station = offered(mode, text);
+            let (all, more) = (burst(mode, text).len(), burst(mode, b"A1 bB").len());
+            for ms in 0..all {
+                assert_eq!(previewed(&station, b""), all - ms);
+                assert_eq!(previewed(&station, b"B"), more - ms);
+                quiet(&mut station, 1);
+            }
+            // Behind its last ms a new burst is needed, which begins at once.
+            for _ in 0..400 {
+                assert_eq!(previewed(&station, b""), 0);
+                assert_eq!(previewed(&station, b"1"), burst_from(mode, LETTERS, b"1").len());
+                quiet(&mut station, 1);
+            }
+        }
+    }
+
+    #[test]
+    fn a_preview_of_a_forged_station() {
+        for mode in [Mode::Baudot45, Mode::Baudot50] {
+            let length = mode.code_length();
+            for shift in [FRESH, LETTERS, FIGURES] {
+                for at in [0, 1, 149, 150] {
+                    let station = forged(mode, [shift, 72], &Part::Preamble, at, b"");
+                    assert_eq!(previewed(&station, b""), 150 - usize::from(at) + length);
+                }
+            }
+            // A fresh sender in a burst sends 11111; a count of 72 the shift in force.
+            let part = Part::Code(Code::FiveBits(0b00100));
+            for (shift, count, codes) in [(FRESH, 0, 2), (LETTERS, 72, 2), (LETTERS, 71, 1)] {
+                let station = forged(mode, [shift, count], &part, length as u16 - 1, b"");
+                assert_eq!(previewed(&station, b"E"), 1 + codes * length);
+            }
+        }
+        // A part that is over with none waiting: a quiet ms ends the burst.
+        for (mode, part, at) in [
+            (Mode::Baudot45, Part::Code(Code::FiveBits(31)), 165),
+            (Mode::Baudot50, Part::Code(Code::FiveBits(1)), 150),
+            (Mode::Dtmf, Part::Code(Code::Keys("***1".to_string())), 480),
+            (Mode::Dtmf, Part::Preamble, 0),
+            (Mode::Edt, Part::Preamble, 300),
+            (Mode::Edt, Part::Code(Code::SevenBits(0)), 100),
+        ] {
+            assert_eq!(previewed(&forged(mode, [LETTERS, 0], &part, at, b""), b""), 1);
+        }
+    }
+
+    #[test]
+    fn a_preview_is_refused_as_the_offer() {
+        for mode in Mode::ALL {
+            let station = offered(mode, b"E");
+            let mut bad = station;
+            bad.silence = FREE + 1;
+            let (above, many) = ([b'E', 0x80].repeat(300), [b'E'; 256]);
+            for (station, text, answer) in [
+                (&bad, &above[..], STATE),
+                (&bad, b"", STATE),
+                (&station, &above, CHARACTER),
+                (&station, b"\x80", CHARACTER),
+                (&station, &many, SPACE),
+            ] {
+                assert_eq!(station.preview(text), (answer, 0));
+            }
+            assert_eq!(station.preview(&many[1..]).0, SUCCESS);
+        }
+        let many = [[0; 300], [b'E'; 300]].concat();
+        assert_eq!(Station::fresh(Mode::Baudot45).preview(&many[..557]), (SPACE, 0));
+        assert_eq!(Station::fresh(Mode::Baudot45).preview(&many[..556]).0, SUCCESS);
     }
 
     #[test]

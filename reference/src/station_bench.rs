@@ -1,5 +1,6 @@
 //! Stations of the engine and of the reference, side by side: ns a ms, where valgrind is there also
-//! instructions a ms, and the first and the millionth call. Part of `bench`.
+//! instructions a ms, and the first and the millionth call. Then the engine's previews beside its
+//! offers. Part of `bench`.
 
 use crate::engine;
 use reference::answer::SUCCESS;
@@ -187,6 +188,59 @@ pub fn calls() {
     ] {
         println!("{name:<42} {:>8} {:>10}", of(&engine), of(&reference));
     }
+}
+
+/// ns of an offer of 256 characters to a fresh station, and of a preview: while these wait, and of
+/// these as its text. The ratio is that of the preview to the offer.
+pub fn previews() {
+    println!("\n{:<42} {:>8} {:>10} {:>6}", "station, ns a call", "offer", "preview", "ratio");
+    for mode in Mode::ALL {
+        let [_, Work { text: english, .. }, ..] = works(mode);
+        let mut texts = vec![("English", english)];
+        if matches!(mode, Mode::Baudot45 | Mode::Baudot50) {
+            texts.push(("1A1A..", b"1A".repeat(MOST_WAITING / 2)));
+        }
+        for (name, text) in texts {
+            let [offer, waiting, offered] = preview_ns(mode, &text);
+            for (what, preview) in [("256 waiting", waiting), ("text of 256", offered)] {
+                let name = format!("mode {}, {what}, {name}", mode.number());
+                println!("{name:<42} {offer:>8.0} {preview:>10.0} {:>6.2}", preview / offer);
+            }
+        }
+    }
+}
+
+/// The ns of the offer, of a preview behind it and of a preview in its place.
+fn preview_ns(mode: Mode, text: &[u8]) -> [f64; 3] {
+    let mut fresh = engine::Station::open(mode.number()).1;
+    let mut full = fresh;
+    assert_eq!((full.offer(text), usize::from(full.core.waiting)), (SUCCESS, MOST_WAITING));
+    assert_eq!(fresh.preview(text), full.preview(b""));
+    let mut best = [f64::INFINITY; 3];
+    for _ in 0..ROUNDS {
+        let offer = call_ns(|| {
+            let mut station = *black_box(&fresh);
+            let answer = station.offer(black_box(text));
+            black_box(&station);
+            answer
+        });
+        let waiting = call_ns(|| black_box(&mut full).preview(black_box(b"")).0);
+        let offered = call_ns(|| black_box(&mut fresh).preview(black_box(text)).0);
+        for (best, ns) in best.iter_mut().zip([offer, waiting, offered]) {
+            *best = best.min(ns);
+        }
+    }
+    best
+}
+
+/// The ns of a call that succeeds, as the mean of a thousand.
+fn call_ns(mut call: impl FnMut() -> u8) -> f64 {
+    const CALLS: usize = 1000;
+    let start = Instant::now();
+    for _ in 0..CALLS {
+        assert_eq!(call(), SUCCESS);
+    }
+    start.elapsed().as_secs_f64() * 1e9 / CALLS as f64
 }
 
 /// The ns of each call of a list.

@@ -1,7 +1,8 @@
 //! Speed of the engine and of the reference, side by side: millions of characters (sending), codes
 //! (reading) or ms (calling set) a second and ns a ms (stations), the best of several rounds in
-//! which the two alternate; a ratio above 1 says that the engine is faster. Then sizes. With `pass`
-//! and what `station_bench::pass` takes, one pass of a station, for callgrind.
+//! which the two alternate; a ratio above 1 says that the engine is faster. Then the engine's previews
+//! beside its offers, and sizes. With `pass` and what `station_bench::pass` takes, one pass of a
+//! station, for callgrind.
 
 #[path = "../engine.rs"]
 mod engine;
@@ -50,6 +51,7 @@ fn main() {
     calling_row("calling set, choice made", &chosen);
     station_bench::rows();
     station_bench::calls();
+    station_bench::previews();
     sizes();
 }
 

@@ -55,6 +55,7 @@ fn vectors(mode: Mode) -> String {
         cases.damaged_frames();
     }
     cases.random_damage();
+    cases.previews();
     cases.output
 }
 
@@ -138,6 +139,20 @@ fn bursts_of(mode: Mode, offers: &[Offer]) -> Vec<Burst> {
     bursts
 }
 
+/// The station that hears a line, with offers ahead of its ms and behind its last one.
+fn called(mode: Mode, offers: &[Offer], line: &[u8]) -> Station {
+    let mut station = Station::fresh(mode);
+    for now in 0..=line.len() {
+        for (_, text) in offers.iter().filter(|(at, _)| *at == now) {
+            assert_eq!(station.offer(text), SUCCESS);
+        }
+        if let Some(&level) = line.get(now) {
+            assert_eq!(station.run(&[level], &mut [0], &mut [0]).answer, SUCCESS);
+        }
+    }
+    station
+}
+
 /// The ms behind the last burst.
 fn end_of(mode: Mode, offers: &[Offer]) -> usize {
     bursts_of(mode, offers).last().map_or(0, |last| last.ms.end)
@@ -165,9 +180,18 @@ impl Cases {
         self.items("codes", &items);
     }
 
-    fn line_and_words(&mut self, line: &[u8]) {
+    fn characters(&mut self, name: &str, text: &[u8]) {
+        let items: Vec<_> = text.iter().map(|character| format!("{character:02X}")).collect();
+        self.items(name, &items);
+    }
+
+    fn line(&mut self, line: &[u8]) {
         let runs: Vec<_> = runs(line).iter().map(|(level, ms)| format!("{level}:{ms}")).collect();
         self.items("line", &runs);
+    }
+
+    fn line_and_words(&mut self, line: &[u8]) {
+        self.line(line);
         let words: Vec<_> =
             words(self.mode, line).iter().map(|(ms, word)| format!("{ms}:{word:02X}")).collect();
         self.items("words", &words);
@@ -181,8 +205,7 @@ impl Cases {
     fn send_offers(&mut self, name: &str, offers: &[Offer]) {
         writeln!(self.output, "\nsend {name}").unwrap();
         for (ms, text) in offers {
-            let items: Vec<_> = text.iter().map(|character| format!("{character:02X}")).collect();
-            self.items(&format!("text {ms}"), &items);
+            self.characters(&format!("text {ms}"), text);
         }
         let bursts = bursts_of(self.mode, offers);
         let codes: Vec<Code> = bursts.into_iter().flat_map(|burst| burst.codes).collect();
@@ -198,6 +221,19 @@ impl Cases {
             offers.push((last.map_or(0, |ms| ms + PAUSE), text.to_vec()));
         }
         self.send_offers(name, &offers);
+    }
+
+    /// A preview of a station behind a line that it has heard.
+    fn preview(&mut self, name: &str, offers: &[Offer], line: &[u8], with: &[u8]) {
+        let (answer, ms) = called(self.mode, offers, line).preview(with);
+        assert_eq!(answer, SUCCESS);
+        writeln!(self.output, "\npreview {name}").unwrap();
+        for (at, text) in offers {
+            self.characters(&format!("text {at}"), text);
+        }
+        self.line(line);
+        self.characters("with", with);
+        writeln!(self.output, "ms {ms}").unwrap();
     }
 
     /// A line that a fresh station hears.
@@ -358,6 +394,81 @@ impl Cases {
                 };
                 self.hear_codes(&format!("{prefix} and each digit"), codes);
             }
+        }
+    }
+}
+
+/// Previews.
+impl Cases {
+    fn previews(&mut self) {
+        self.previews_of_texts();
+        self.previews_on_a_line();
+        self.previews_in_a_burst();
+    }
+
+    /// Texts on a fresh station; the longest ones, too.
+    fn previews_of_texts(&mut self) {
+        for text in [
+            "hi",
+            "A1",
+            "1 A",
+            "b:",
+            "ga",
+            "hello ga",
+            "call 599 0142 ga",
+            "please call back tomorrow ga",
+            "pls cb tmw ga",
+        ] {
+            self.preview(&format!("\"{text}\""), &[], &[], text.as_bytes());
+        }
+        self.preview("nothing", &[], &[], b"");
+        self.preview("DEL", &[], &[], &[0x7F]);
+        let (two, name): (&[u8], _) = match self.mode {
+            Mode::Baudot45 | Mode::Baudot50 => (b"1A", "1A, 128 times"),
+            _ => (b"!!", "256 exclamation marks"),
+        };
+        self.preview(name, &[], &[], &two.repeat(128));
+        let offers = [(0, two.repeat(100))];
+        self.preview("56 more, and 200 wait", &offers, &[], &two.repeat(28));
+    }
+
+    /// Behind signal of the other end.
+    fn previews_on_a_line(&mut self) {
+        let signal = vec![1; 20];
+        self.preview("nothing on a busy line", &[], &signal, b"");
+        for silence in [0, 1, 100, 299, 300, 301] {
+            let line = [&signal[..], &vec![QUIET; silence]].concat();
+            self.preview(&format!("\"hi\", {silence} ms behind signal"), &[], &line, b"hi");
+        }
+        let line = [&signal[..], &[QUIET; 50]].concat();
+        self.preview("\"hi\", and 1 waits for a free line", &[(10, b"1".to_vec())], &line, b"hi");
+    }
+
+    /// In a burst, in the inhibited ms behind it and after them.
+    fn previews_in_a_burst(&mut self) {
+        let offers = [(0, b"A1b".to_vec())];
+        let end = end_of(self.mode, &offers);
+        let head = usize::from(self.mode.preamble());
+        let code = head + signals(self.mode, &burst_codes(self.mode, FRESH, b"A1b").0[..1]).len();
+        for (ms, name) in [
+            (head, "the preamble"),
+            (head + 1, "the first ms of a code"),
+            (code - 1, "the last ms but one of a code"),
+            (code, "the last ms of a code"),
+            (end - 1, "the last ms but one of a burst"),
+            (end, "the last ms of a burst"),
+            (end + 100, "a burst and 100 ms of quiet"),
+        ] {
+            if ms > 0 {
+                let line = vec![QUIET; ms];
+                self.preview(&format!("nothing behind {name}"), &offers, &line, b"");
+                self.preview(&format!("\"2\" behind {name}"), &offers, &line, b"2");
+            }
+        }
+        for signal in [300, 301] {
+            let line = [vec![QUIET; end], vec![1; signal]].concat();
+            let name = format!("\"2\" behind a burst and {signal} ms of signal");
+            self.preview(&name, &offers, &line, b"2");
         }
     }
 }
@@ -576,15 +687,29 @@ mod tests {
     }
 
     #[test]
+    fn previews_tell_the_ms_that_are_left() {
+        for mode in Mode::ALL {
+            let text = b"Too 599 E*@\r\n";
+            let end = end_of(mode, &[(0, text.to_vec())]);
+            for ms in [0, 1, end / 2, end - 1, end] {
+                let station = called(mode, &[(0, text.to_vec())], &vec![QUIET; ms]);
+                assert_eq!(station.preview(b""), (SUCCESS, (end - ms) as u32));
+                let more = [(0, text.to_vec()), (ms, b"A".to_vec())];
+                assert_eq!(station.preview(b"A"), (SUCCESS, (end_of(mode, &more) - ms) as u32));
+            }
+        }
+    }
+
+    #[test]
     fn size_and_form() {
         for mode in Mode::ALL {
             let output = vectors(mode);
-            let cases = output
-                .lines()
-                .filter(|line| line.starts_with("send ") || line.starts_with("hear "));
-            assert!(cases.count() > 60);
+            let cases = |name| output.lines().filter(|line| line.starts_with(name)).count();
+            assert!(cases("send ") + cases("hear ") > 60);
+            assert_eq!(cases("preview "), cases("ms "));
+            assert!(cases("preview ") > 30);
             assert!(output.lines().all(|line| line.len() <= WIDTH && line.is_ascii()));
-            assert!(output.len() < 64_000);
+            assert!(output.len() < 70_000);
             for fault in Fault::of_mode(mode) {
                 assert!(output.contains(&format!(":{:X}", fault.word())), "{fault:?}");
             }
