@@ -31,6 +31,15 @@ abbrev pub isCode : Sends → Bool
 isCode Nothing = false
 isCode (Code shift code) = true
 
+-- The own codes of characters, without a shift code.
+abbrev pub ownCode : Sends → List ℕ
+ownCode Nothing = []
+ownCode (Code shift code) = code .0 ∷ []
+
+unfoldable pub ownCodes : Alphabet → List ℕ → List ℕ
+ownCodes a [] = []
+ownCodes a (c ∷ cs) = ownCode (sends a c) ++ ownCodes a cs
+
 -- What a code reads as, in a shift (which only Baudot looks at).
 unfoldable pub reads : Alphabet → ℕ → ℕ → Reads
 reads Baudot shift code = readBaudot shift code

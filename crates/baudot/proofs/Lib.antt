@@ -1,4 +1,5 @@
 pub mod SendingRule
 pub mod Fresh
+pub mod Text
 pub mod CountingRule
 pub mod Range

@@ -1,4 +1,5 @@
 pub mod Sending
+pub mod Text
 pub mod Reading
 pub mod Counting
 pub mod Entries

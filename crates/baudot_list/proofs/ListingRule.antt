@@ -7,18 +7,13 @@ use native.Mathlib.Numerals.{add-one, add-two, add-three, add-four, add-five}
 use native.Mathlib.Omega.{arith}
 use lib.ListN.{length, getD, set, take, drop, drop-of-length-le}
 use lib.Seq.{sets, drop-cons, length-sets, take-at}
-use Rattle.lists.proofs.Lists.{sets-append, sets-front, at-most-head, at-most-tail}
-use Rattle.alphabet.specs.declared.Alphabet.the-variants.{Baudot}
-use Rattle.alphabet.specs.declared.Sends.{Sends}
-use Rattle.alphabet.specs.declared.Sends.the-variants.{Nothing, Code}
-use Rattle.alphabet.specs.Normal.{sends, isCode, allChars}
-use Rattle.baudot.specs.declared.Sender.{Sender}
+use Rattle.lists.proofs.Lists.{sets-append, sets-front}
+use Rattle.alphabet.specs.Normal.{allChars}
 use Rattle.baudot.specs.declared.BaudotSent.{BaudotSent}
-use Rattle.baudot.specs.Sending.{sender, fresh, codesFor, senderFor, codesOf}
+use Rattle.baudot.specs.Sending.{fresh, codesOf}
 use Rattle.baudot.specs.Entries.{sentOf, codesAfter}
 use Rattle.baudot_list.specs.Listing.{digit, lineOf, linesOf, listing}
-use Rattle.baudot.proofs.SendingRule.{codes-twice}
-use Rattle.baudot.proofs.Fresh.{running-letters, fresh-for}
+use Rattle.baudot.proofs.Fresh.{fresh-bound}
 use Rattle.baudot_sending.proofs.Answers.{no-chars, yes}
 
 pub lines-length : (ks : List ℕ) → length (linesOf ks) ≡ 6 * length ks
@@ -55,22 +50,6 @@ module _ (codes lines₀ lines : List ℕ) (i : ℕ) (l : Listed codes lines₀ 
 
 pub listed-start : (codes lines : List ℕ) → Listed codes lines lines 0
 listed-start codes lines = record { size = refl; slice = refl }
-
--- a fresh sender's codes are at most twice the text and one more
-pub fresh-bound : (text : List ℕ) → allChars text ≡ true → (s : Sender) → s .shift ≡ 0
-    → length (codesOf s text) ≤ 2 * length text + 1
-unfolding codesFor senderFor codesOf
-fresh-bound [] t s z = omega arith
-fresh-bound (c ∷ cs) t s z = go (sends Baudot c) refl (fresh-bound cs (at-most-tail 0x7f c cs t) s z)
-  where
-    go : (x : Sends) → sends Baudot c ≡ x → length (codesOf s cs) ≤ 2 * length cs + 1
-        → length (codesFor s (sends Baudot c) ++ codesOf (senderFor s (sends Baudot c)) cs) ≤ 2 * length (c ∷ cs) + 1
-    go Nothing e i = rw e (omega arith)
-    go (Code own k) e i =
-        let g = at-most-head 0x7f c cs t in
-        let f = fresh-for s z c (omega arith) (ap isCode e) in
-        let b = codes-twice (sender 1 0) (c ∷ cs) t (λ _. running-letters) in
-        rw (f .0, f .1) (omega arith)
 
 -- What the listing makes of the answer of a conversion.
 module _ (text codes : List ℕ) (room : 2 * length text + 1 ≤ length codes) where

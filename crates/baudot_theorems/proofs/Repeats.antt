@@ -13,10 +13,10 @@ use Rattle.alphabet.specs.declared.LineCode.{LineCode}
 use Rattle.alphabet.specs.declared.Sends.{Sends}
 use Rattle.alphabet.specs.declared.Sends.the-variants.{Nothing, Code}
 use Rattle.alphabet.specs.Baudot.{letters}
-use Rattle.alphabet.specs.Normal.{sends}
+use Rattle.alphabet.specs.Normal.{sends, ownCode, ownCodes}
 use Rattle.baudot.specs.Sending.{sender, shiftCode, differs, wanted, codesFor, senderFor, codesOf, Running}
 use Rattle.baudot.proofs.SendingRule.{wanted-again, wanted-none}
-use Rattle.baudot_theorems.specs.Repeats.{ofShift, allOfShift, ownCode, ownCodes, repeats, withRepeats, lettersFirst}
+use Rattle.baudot_theorems.specs.Repeats.{ofShift, allOfShift, repeats, withRepeats, lettersFirst}
 
 -- the sender's count beside the characters that have gone, after m repeated shift codes, each followed by a character
 record Counts (m gone count : ℕ) : Type 0 where
@@ -64,7 +64,7 @@ module _ (shift : ℕ) (low : 1 ≤ shift) (high : shift ≤ 2) where
   abbrev Exactly : List ℕ → Type 0
   Exactly text =
       (m gone count : ℕ) → Counts m gone count
-      → codesOf (sender shift count) text ≡ withRepeats shift gone (ownCodes text)
+      → codesOf (sender shift count) text ≡ withRepeats shift gone (ownCodes Baudot text)
 
   exactly : (text : List ℕ) → allOfShift shift text ≡ true → Exactly text
   unfolding codesFor senderFor codesOf ownCodes withRepeats allOfShift
@@ -75,7 +75,7 @@ module _ (shift : ℕ) (low : 1 ≤ shift) (high : shift ≤ 2) where
     where
       go : (x : Sends) → ofShift shift x ≡ true → Exactly cs
           → codesFor (sender shift count) x ++ codesOf (senderFor (sender shift count) x) cs
-          ≡ withRepeats shift gone (ownCode x ++ ownCodes cs)
+          ≡ withRepeats shift gone (ownCode x ++ ownCodes Baudot cs)
       go Nothing o later = later m gone count n
       go (Code own k) o later =
           let same = not-true (differs own shift) o in
@@ -98,14 +98,14 @@ module _ (shift : ℕ) (low : 1 ≤ shift) (high : shift ≤ 2) where
 -- What any number of characters of the shift in force send, from any count: their codes, and a shift code after each 72
 -- and nowhere else.
 pub repeats-exactly : (text : List ℕ) (shift count : ℕ) → 1 ≤ shift → shift ≤ 2 → count ≤ 72
-    → allOfShift shift text ≡ true → codesOf (sender shift count) text ≡ withRepeats shift count (ownCodes text)
+    → allOfShift shift text ≡ true → codesOf (sender shift count) text ≡ withRepeats shift count (ownCodes Baudot text)
 repeats-exactly text shift count low high h t =
     exactly shift low high text t 0 count count
     (record { sum = omega arith; most = h; followed = (λ (l : 1 ≤ 0). absurd (omega arith)) })
 
 -- The same from a fresh sender, whatever its count: 11111 comes first.
 pub repeats-fresh : (text : List ℕ) (count : ℕ) → allOfShift letters text ≡ true
-    → codesOf (sender 0 count) text ≡ lettersFirst (withRepeats letters 0 (ownCodes text))
+    → codesOf (sender 0 count) text ≡ lettersFirst (withRepeats letters 0 (ownCodes Baudot text))
 unfolding wanted codesFor senderFor codesOf ownCodes allOfShift withRepeats lettersFirst
 repeats-fresh [] count t = refl
 repeats-fresh (c ∷ cs) count t =
@@ -114,9 +114,9 @@ repeats-fresh (c ∷ cs) count t =
     (repeats-fresh cs count tail)
   where
     go : (x : Sends) → ofShift letters x ≡ true → allOfShift letters cs ≡ true
-        → codesOf (sender 0 count) cs ≡ lettersFirst (withRepeats letters 0 (ownCodes cs))
+        → codesOf (sender 0 count) cs ≡ lettersFirst (withRepeats letters 0 (ownCodes Baudot cs))
         → codesFor (sender 0 count) x ++ codesOf (senderFor (sender 0 count) x) cs
-        ≡ lettersFirst (withRepeats letters 0 (ownCode x ++ ownCodes cs))
+        ≡ lettersFirst (withRepeats letters 0 (ownCode x ++ ownCodes Baudot cs))
     go Nothing o tail later = later
     go (Code own k) o tail later =
         let i = repeats-exactly cs letters 1 (omega arith) (omega arith) (omega arith) tail in

@@ -20,15 +20,6 @@ unfoldable pub allOfShift : ℕ → List ℕ → Bool
 allOfShift shift [] = true
 allOfShift shift (c ∷ cs) = ofShift shift (sends Baudot c) && allOfShift shift cs
 
--- The codes of a text's characters alone, without a shift code.
-abbrev pub ownCode : Sends → List ℕ
-ownCode Nothing = []
-ownCode (Code own code) = code .0 ∷ []
-
-unfoldable pub ownCodes : List ℕ → List ℕ
-ownCodes [] = []
-ownCodes (c ∷ cs) = ownCode (sends Baudot c) ++ ownCodes cs
-
 -- 72 characters have gone, or 144, or another multiple of 72.
 abbrev pub repeats : ℕ → Bool
 repeats gone = leb 1 gone && eqb (gone % 72) 0

@@ -14,7 +14,7 @@ use Rattle.alphabet.specs.declared.Mode.the-variants.{Baudot45, Baudot50, Dtmf,
 use Rattle.alphabet.specs.declared.Sends.{Sends}
 use Rattle.alphabet.specs.declared.Sends.the-variants.{Nothing, Code}
 use Rattle.alphabet.specs.Modes.{alphabetOf}
-use Rattle.alphabet.specs.Normal.{sends, reads, charsOf, readBack, normalForm, allChars}
+use Rattle.alphabet.specs.Normal.{sends, ownCode, ownCodes, reads, charsOf, readBack, normalForm, allChars}
 use Rattle.alphabet.specs.declared.LineCode.{LineCode}
 use Rattle.alphabet_theorems.proofs.Rule.{ReadBack, rule-of}
 use Rattle.alphabet_theorems.proofs.Normal.{own-shift}
@@ -28,7 +28,7 @@ use Rattle.frames.specs.Frames.{hunting}
 use Rattle.keys.specs.Keys.{ready}
 use Rattle.reader.specs.Reader.{reader, hear}
 use Rattle.reader.specs.Words.{readerAfter, words}
-use Rattle.line_theorems.specs.Text.{ownCode, ownCodes, textSignal, Between, InShift}
+use Rattle.line_theorems.specs.Text.{textSignal, Between, InShift}
 use Rattle.line_theorems.proofs.Chain.{Gives, none, chain, marks-pass}
 use Rattle.line_theorems.proofs.BaudotChain.{five-bits, codes-read, code-45, code-50, code-edt}
 use Rattle.line_theorems.proofs.DtmfChain.{row-read}

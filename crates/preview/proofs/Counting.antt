@@ -1,101 +1,74 @@
 -- The ms of the codes that characters send, code by code.
-use mathlib.Core.Path.{_≡_, refl, ap}
-use mathlib.Core.Bool.{true, cond}
-use mathlib.Core.List.{List, [], _∷_}
-use mathlib.Core.Logic.{⊎-elim}
-use Prim.Native.Nat.{ℕ, _+_, _≤_, _<_}
+use mathlib.Core.Path.{_≡_, _∙_, refl, ap}
+use mathlib.Core.Bool.{Bool, true, false, cond}
+use mathlib.Core.List.{List, [], _∷_, _++_}
+use Prim.Native.Nat.{ℕ, _+_, _<_}
 use native.Mathlib.Omega.{arith}
 use lib.Dec.{eqb, leb}
-use borrow.Author.Tests.{eqb-true, eqb-false, ne-eqb, le-leb}
-use Rattle.lists.proofs.Lists.{either-by, by-test, at-most-head, at-most-tail}
+use lib.ListN.{length, length-append}
+use borrow.Author.Tests.{eqb-true, eqb-false, le-leb}
+use Rattle.lists.proofs.Lists.{either-by, at-most-head, at-most-tail}
 use Rattle.alphabet.specs.declared.Alphabet.{Alphabet}
 use Rattle.alphabet.specs.declared.Alphabet.the-variants.{Baudot, Dtmf as dtmf, Edt as edt}
-use Rattle.alphabet.specs.declared.LineCode.{LineCode}
 use Rattle.alphabet.specs.declared.Mode.{Mode}
 use Rattle.alphabet.specs.declared.Sends.{Sends}
 use Rattle.alphabet.specs.declared.Sends.the-variants.{Nothing, Code}
 use Rattle.alphabet.specs.Modes.{alphabetOf}
-use Rattle.alphabet.specs.Normal.{sends, isCode, allChars}
+use Rattle.alphabet.specs.Normal.{sends, isCode, ownCode, ownCodes, allChars}
 use Rattle.baudot.specs.declared.Sender.{Sender}
-use Rattle.baudot.specs.Sending.{Running, sender, shiftCode, shifted, wanted}
+use Rattle.baudot.specs.Sending.{wanted, codesFor, senderFor, codesOf}
+use Rattle.baudot.specs.Text.{textCodes}
 use Rattle.baudot.specs.code.Bounds.{SenderIn}
-use Rattle.baudot.proofs.SendingRule.{NoneAhead, Ahead, ahead}
+use Rattle.baudot.proofs.Fresh.{wanted-first}
+use Rattle.baudot.proofs.Text.{text-none}
+use Rattle.signal.specs.Signal.{signal, signals}
 use Rattle.burst.specs.declared.OnLine.{OnLine}
 use Rattle.burst.specs.declared.Loaded.{Loaded}
-use Rattle.burst.specs.Rules.{shiftWanted, senderAfterOwn}
 use Rattle.burst.specs.Line.{codeBegins}
 use Rattle.burst.specs.code.Bounds.{SendsIn}
 use Rattle.burst.proofs.Range.{sends-in}
 use Rattle.queue.specs.Queue.{waiters}
-use Rattle.preview.specs.code.Count.{codeMs, behindShift, charMs, senderBehind, charsMs}
+use Rattle.preview.specs.code.Count.{codeMs, charsMs}
 
--- ---- the shift codes ahead of an own code
+-- ---- the codes of a text, code by code
 
--- from a sender that is not fresh one is enough
-pub one-enough : (s : Sender) (own : ℕ) → Running s → 1 ≤ own → own ≤ 3 → wanted (shifted s (wanted s own)) own ≡ 0
-one-enough s own r lo hi =
-    ⊎-elim (λ (none : NoneAhead s own r lo hi). rw (none .none) (none .none))
-    (λ (some : Ahead s own r lo hi (wanted s own)).
-    let n : wanted s own ≡ 0 → ⊥ = λ z. let l = some .low in omega arith in
-    rw (ne-eqb (wanted s own) 0 n) (some .then-none))
-    (ahead s own r lo hi)
+module _ (l : OnLine) (s : Sender) (c : ℕ) (cs : List ℕ) where
+  -- the code that begins for the front character, and the codes behind it
+  abbrev Then : Alphabet → Sends → Loaded → List ℕ
+  Then a x q = cond (isCode x) (q .line .code .0 ∷ []) [] ++ textCodes a (q .sender) (cond (q .takes) cs (c ∷ cs))
 
-pub fresh-wants : (s : Sender) (own : ℕ) → s .shift ≡ 0 → wanted s own ≡ 1
-unfolding wanted
-fresh-wants s own z = rw z refl
+  baudot-step : SenderIn s → (x : Sends) → sends Baudot c ≡ x → SendsIn Baudot x
+      → codesOf s (c ∷ cs) ≡ Then Baudot x (codeBegins Baudot l s x)
+  unfolding codesOf codesFor senderFor codeBegins
+  baudot-step j Nothing e i = rw e refl
+  baudot-step j (Code own k) e i =
+      either-by (λ (q : Loaded). codesOf s (c ∷ cs) ≡ Then Baudot (Code own k) q) (eqb (wanted s own) 0)
+      (λ z. let f = eqb-true (wanted s own) 0 z in rw (e, f, f) refl)
+      (λ z.
+      let f = wanted-first s own k j (i .own-low) (i .own-in) (eqb-false (wanted s own) 0 z) in
+      rw (e, f .0, f .1) refl)
 
--- from any sender two are
-pub two-enough : (a : Alphabet) (s : Sender) (own : ℕ) → SenderIn s → 1 ≤ own → own ≤ 3
-    → shiftWanted a (behindShift a (behindShift a s own) own) own ≡ 0
-two-enough Baudot s own j lo hi =
-    by-test (eqb (s .shift) 0)
-    (λ e.
-    let r : Running (sender 1 0) = record { shift-low = omega arith; shift-in = omega arith; count-in = omega arith } in
-    rw (fresh-wants s own (eqb-true (s .shift) 0 e)) (one-enough (sender 1 0) own r lo hi))
-    (λ e.
-    let f = eqb-false (s .shift) 0 e in
-    let low : 1 ≤ s .shift = omega (arith, f) in
-    let r : Running s = record { shift-low = low; shift-in = j .shift-in; count-in = j .count-in } in
-    let z = one-enough s own r lo hi in
-    rw z z)
-two-enough dtmf s own j lo hi = refl
-two-enough edt s own j lo hi = refl
+  own-step : (a : Alphabet) (x : Sends) → sends a c ≡ x
+      → ownCodes a (c ∷ cs) ≡ ownCode x ++ ownCodes a cs
+  unfolding ownCodes
+  own-step a x e = rw e refl
 
--- ---- one code
+  text-step : (a : Alphabet) → SenderIn s → (x : Sends) → sends a c ≡ x → SendsIn a x
+      → textCodes a s (c ∷ cs) ≡ Then a x (codeBegins a l s x)
+  unfolding codeBegins
+  text-step Baudot j x e i = baudot-step j x e i
+  text-step dtmf j Nothing e i = own-step dtmf Nothing e
+  text-step dtmf j (Code own k) e i = own-step dtmf (Code own k) e
+  text-step edt j Nothing e i = own-step edt Nothing e
+  text-step edt j (Code own k) e i = own-step edt (Code own k) e
 
-module _ (mode : Mode) (s : Sender) (own : ℕ) (k : LineCode) where
-  abbrev a : Alphabet
-  a = alphabetOf mode
+-- ---- their ms
 
-  abbrev w : ℕ
-  w = shiftWanted a s own
-
-  -- the own code is next
-  own-ms : w ≡ 0 → charMs mode s (Code own k) ≡ codeMs mode (k .0)
-  unfolding charMs
-  own-ms z = rw (z, z) (omega arith)
-
-  own-sender : w ≡ 0 → senderBehind a s (Code own k) ≡ senderAfterOwn a s
-  unfolding senderBehind
-  own-sender z = rw (z, z) refl
-
-  -- a shift code is next
-  module _ (n : w ≡ 0 → ⊥) (j : SenderIn s) (lo : 1 ≤ own) (hi : own ≤ 3) where
-    shift-ms : charMs mode s (Code own k) ≡ codeMs mode (shiftCode w) + charMs mode (sender w 0) (Code own k)
-    unfolding charMs
-    shift-ms =
-        let z = two-enough a s own j lo hi in
-        let e = ne-eqb w 0 n in
-        rw (e, rw e at z) (omega arith)
-
-    shift-sender : senderBehind a s (Code own k) ≡ senderBehind a (sender w 0) (Code own k)
-    unfolding senderBehind
-    shift-sender =
-        let z = two-enough a s own j lo hi in
-        let e = ne-eqb w 0 n in
-        rw (e, rw e at z) refl
-
--- ---- the characters, code by code
+first-ms : (mode : Mode) (b : Bool) (k : ℕ) (ks : List ℕ)
+    → length (signals mode (cond b (k ∷ []) [] ++ ks)) ≡ cond b (codeMs mode k) 0 + length (signals mode ks)
+unfolding signals
+first-ms mode true k ks = length-append (signal mode k) (signals mode ks)
+first-ms mode false k ks = omega arith
 
 module _ (mode : Mode) (l : OnLine) (s : Sender) (j : SenderIn s) where
   -- the code that begins for the front character, what is left to send after it, and all that was left before it
@@ -106,43 +79,57 @@ module _ (mode : Mode) (l : OnLine) (s : Sender) (j : SenderIn s) where
 
   pub chars-step : (c : ℕ) (cs : List ℕ) → c < 128
       → Steps c cs (sends (alphabetOf mode) c) (codeBegins (alphabetOf mode) l s (sends (alphabetOf mode) c))
-  unfolding codeBegins charsMs charMs senderBehind
-  chars-step c cs h = go (sends (alphabetOf mode) c) refl (sends-in (alphabetOf mode) c h)
-    where
-      go : (x : Sends) → sends (alphabetOf mode) c ≡ x → SendsIn (alphabetOf mode) x
-          → Steps c cs x (codeBegins (alphabetOf mode) l s x)
-      go Nothing e i = rw e refl
-      go (Code own k) e i =
-          let v = shiftWanted (alphabetOf mode) s own in
-          either-by (Steps c cs (Code own k)) (eqb v 0)
-          (λ z.
-          let f = eqb-true v 0 z in
-          rw (e, own-ms mode s own k f, own-sender mode s own k f) refl)
-          (λ z.
-          let n = eqb-false v 0 z in
-          let m = shift-ms mode s own k n j (i .own-low) (i .own-in) in
-          let t = shift-sender mode s own k n j (i .own-low) (i .own-in) in
-          rw (e, m, t) (omega arith))
+  unfolding charsMs
+  chars-step c cs h =
+      let a = alphabetOf mode in
+      let x = sends a c in
+      let q = codeBegins a l s x in
+      ap (λ (ks : List ℕ). length (signals mode ks)) (text-step l s c cs a j x refl (sends-in a c h))
+      ∙ first-ms mode (isCode x) (q .line .code .0) (textCodes a (q .sender) (cond (q .takes) cs (c ∷ cs)))
 
 pub no-chars : (mode : Mode) (s : Sender) → charsMs mode s [] ≡ 0
-unfolding charsMs
-no-chars mode s = refl
+unfolding charsMs signals
+no-chars mode s = rw (text-none (alphabetOf mode) s) refl
 
--- those that send nothing add nothing
+-- ---- those that send nothing add nothing
+
+char-low : (c : ℕ) (cs : List ℕ) → allChars (c ∷ cs) ≡ true → leb c 0x7f ≡ true
+char-low c cs h = le-leb c 0x7f (at-most-head 0x7f c cs h)
+
+baudot-waiters : (cs : List ℕ) → allChars cs ≡ true → (s : Sender) → codesOf s (waiters Baudot cs) ≡ codesOf s cs
+unfolding codesOf codesFor senderFor waiters
+baudot-waiters [] h s = refl
+baudot-waiters (c ∷ cs) h s =
+    go (sends Baudot c) refl (char-low c cs h) (baudot-waiters cs (at-most-tail 0x7f c cs h))
+  where
+    go : (x : Sends) → sends Baudot c ≡ x → leb c 0x7f ≡ true
+        → ((t : Sender) → codesOf t (waiters Baudot cs) ≡ codesOf t cs)
+        → codesOf s (waiters Baudot (c ∷ cs)) ≡ codesOf s (c ∷ cs)
+    go Nothing e low rest = rw (low, e) (rest s)
+    go (Code own k) e low rest =
+        let x = sends Baudot c in
+        rw (low, ap isCode e) (ap (λ (ks : List ℕ). codesFor s x ++ ks) (rest (senderFor s x)))
+
+own-waiters : (a : Alphabet) (cs : List ℕ) → allChars cs ≡ true → ownCodes a (waiters a cs) ≡ ownCodes a cs
+unfolding ownCodes waiters
+own-waiters a [] h = refl
+own-waiters a (c ∷ cs) h =
+    go (sends a c) refl (char-low c cs h) (own-waiters a cs (at-most-tail 0x7f c cs h))
+  where
+    go : (x : Sends) → sends a c ≡ x → leb c 0x7f ≡ true → ownCodes a (waiters a cs) ≡ ownCodes a cs
+        → ownCodes a (waiters a (c ∷ cs)) ≡ ownCodes a (c ∷ cs)
+    go Nothing e low rest = rw (low, e) rest
+    go (Code own k) e low rest =
+        rw (low, ap isCode e) (ap (λ (ks : List ℕ). ownCode (sends a c) ++ ks) rest)
+
+text-waiters : (a : Alphabet) (s : Sender) (cs : List ℕ) → allChars cs ≡ true
+    → textCodes a s (waiters a cs) ≡ textCodes a s cs
+text-waiters Baudot s cs h = baudot-waiters cs h s
+text-waiters dtmf s cs h = own-waiters dtmf cs h
+text-waiters edt s cs h = own-waiters edt cs h
+
 pub chars-waiters : (mode : Mode) (s : Sender) (cs : List ℕ) → allChars cs ≡ true
     → charsMs mode s (waiters (alphabetOf mode) cs) ≡ charsMs mode s cs
-unfolding charsMs charMs senderBehind waiters
-chars-waiters mode s [] h = refl
-chars-waiters mode s (c ∷ cs) h =
-    go (sends (alphabetOf mode) c) refl (λ t. chars-waiters mode t cs (at-most-tail 0x7f c cs h))
-  where
-    low : leb c 0x7f ≡ true
-    low = le-leb c 0x7f (at-most-head 0x7f c cs h)
-
-    go : (x : Sends) → sends (alphabetOf mode) c ≡ x
-        → ((t : Sender) → charsMs mode t (waiters (alphabetOf mode) cs) ≡ charsMs mode t cs)
-        → charsMs mode s (waiters (alphabetOf mode) (c ∷ cs)) ≡ charsMs mode s (c ∷ cs)
-    go Nothing e rest = let r = rest s in rw (low, e) (omega arith)
-    go (Code own k) e rest =
-        let x = sends (alphabetOf mode) c in
-        rw (low, ap isCode e) (ap (λ (n : ℕ). charMs mode s x + n) (rest (senderBehind (alphabetOf mode) s x)))
+unfolding charsMs
+chars-waiters mode s cs h =
+    ap (λ (ks : List ℕ). length (signals mode ks)) (text-waiters (alphabetOf mode) s cs h)

@@ -16,8 +16,10 @@ use Rattle.alphabet.specs.Modes.{alphabetOf}
 use Rattle.alphabet.specs.Normal.{sends, isCode}
 use Rattle.baudot.specs.declared.Sender.{Sender}
 use Rattle.baudot.specs.Sending.{sender, shiftCode}
+use Rattle.baudot.specs.Text.{textCodes}
 use Rattle.baudot.specs.code.Bounds.{SenderIn}
-use Rattle.signal.proofs.Lengths.{some-ms}
+use Rattle.baudot.proofs.Text.{text-some}
+use Rattle.signal.proofs.Lengths.{some-ms, signals-some}
 use Rattle.burst.specs.declared.OnLine.{OnLine}
 use Rattle.burst.specs.declared.Loaded.{Loaded}
 use Rattle.burst.specs.Rules.{openingShift, shiftWanted, mayEnd}
@@ -27,8 +29,8 @@ use Rattle.burst.proofs.Laws as line
 use Rattle.burst.proofs.Laws.{begun-same}
 use Rattle.half_duplex.specs.Core.{waitingAfter}
 use Rattle.queue.specs.Queue.{waits, allWait}
-use Rattle.preview.specs.code.Count.{codeMs, charMs, charsMs, behindMs, partLeft, someMs, leftOf}
-use Rattle.preview.proofs.Counting.{chars-step}
+use Rattle.preview.specs.code.Count.{codeMs, charsMs, behindMs, partLeft, someMs, leftOf}
+use Rattle.preview.proofs.Counting.{chars-step, no-chars}
 
 -- ---- what is left, in a burst and outside
 
@@ -65,19 +67,13 @@ module _ (mode : Mode) where
       → leftOf mode l s n silence cs ≡ someMs (burstLeft mode l s cs)
   left-burst l s n silence cs b = rw (b, begun-same true l (rw b refl)) refl
 
-  -- one that waits sends a ms at least
-  some-char : (s : Sender) (x : Sends) → isCode x ≡ true → 1 ≤ charMs mode s x
-  unfolding charMs
-  some-char s Nothing e = absurd (false≢true e)
-  some-char s (Code own k) e = let m = some-ms mode (k .0) in omega arith
-
+  -- those that wait send a ms at least
   some-chars : (s : Sender) (cs : List ℕ) → 1 ≤ length cs → allWait a cs ≡ true → 1 ≤ charsMs mode s cs
   unfolding charsMs allWait
   some-chars s [] h w = absurd (omega arith)
   some-chars s (c ∷ cs) h w =
       let v = and-left (waits a c) (allWait a cs) w in
-      let m = some-char s (sends a c) (and-right (leb c 0x7f) (isCode (sends a c)) v) in
-      omega arith
+      signals-some mode (textCodes a s (c ∷ cs)) (text-some a s c cs (and-right (leb c 0x7f) (isCode (sends a c)) v))
 
   pub some-behind : (l : OnLine) (s : Sender) (cs : List ℕ) → 1 ≤ length cs → allWait a cs ≡ true
       → 1 ≤ behindMs mode l s cs
@@ -102,11 +98,10 @@ module _ (mode : Mode) where
         omega arith
 
     ended-left : isOver mode l ≡ true → isOpening a l ≡ false → n ≡ 0 → burstLeft mode l s cs ≡ 0
-    unfolding charsMs
     ended-left o p z = rw p (none cs len)
       where
         none : (ds : List ℕ) → length ds ≡ n → partLeft mode l + charsMs mode s ds ≡ 0
-        none [] h = let e = over-left o in omega arith
+        none [] h = let e = over-left o in let z = no-chars mode s in omega arith
         none (d ∷ ds) h = absurd (omega arith)
 
     goes-on : (frontIsNext mode l && eqb n 0) ≡ false → 1 ≤ burstLeft mode l s cs

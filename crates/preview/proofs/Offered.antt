@@ -103,9 +103,8 @@ module _ (s : Station) (text : List ℕ) (full : length (s .chars) ≡ 256) (z :
       let j = core-in s (accepted s text z .in-range) .sender-in in
       let m = behind-most mode l (s .core .sender) j cs waiting-low in
       let k = longest-480 mode in
-      let few : length cs ≤ 256 = omega arith in
-      let short : 2 * longest mode ≤ 960 = omega arith in
-      let p = mul-le-mul few short in
+      let few : 2 * length cs + 2 ≤ 514 = omega arith in
+      let p = mul-le-mul k few in
       omega arith
 
 -- ---- the answer

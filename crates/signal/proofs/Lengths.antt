@@ -15,7 +15,7 @@ use Rattle.alphabet.specs.declared.Mode.{Mode}
 use Rattle.alphabet.specs.declared.Mode.the-variants.{Baudot45, Baudot50, Dtmf, Edt}
 use Rattle.alphabet.specs.Dtmf.{prefixes, keysOf}
 use Rattle.alphabet.specs.Modes.{longest}
-use Rattle.signal.specs.Signal.{levelOf, digits, held, baudotSignal, edtElements, edtSignal, heldKeys, keysSignal, signal}
+use Rattle.signal.specs.Signal.{levelOf, digits, held, baudotSignal, edtElements, edtSignal, heldKeys, keysSignal, signal, signals}
 
 pub digits-length : (n k : ℕ) → length (digits n k) ≡ n
 unfolding digits
@@ -92,6 +92,18 @@ module _ (n : ℕ) (h : n < 256) where
       let t = both-right (eqb (length (keysOf n)) (keyCount (n / 16))) (leb (length (keysOf n)) 4) both in
       leb-true _ 4 (is-true _ t)
 
+-- codes that have so many ms each
+pub signals-each : (mode : Mode) (m : ℕ) → ((k : ℕ) → length (signal mode k) ≡ m) → (ks : List ℕ)
+    → length (signals mode ks) ≡ m * length ks
+unfolding signals
+signals-each mode m each [] = sym (mul-zero m)
+signals-each mode m each (k ∷ ks) =
+    let a = length-append (signal mode k) (signals mode ks) in
+    let i = signals-each mode m each ks in
+    let e = each k in
+    let d = mul-suc m (length ks) in
+    a ∙ (omega arith) ∙ sym d
+
 -- every signal has a ms
 some-keys : (n : ℕ) → 1 ≤ length (keysOf n)
 unfolding keysOf
@@ -102,6 +114,14 @@ some-ms Baudot45 k = let n = baudot-165 k in omega arith
 some-ms Baudot50 k = let n = baudot-150 k in omega arith
 some-ms Dtmf k = let n = dtmf-120 k in let f = some-keys k in omega arith
 some-ms Edt k = let n = edt-100 k in omega arith
+
+pub signals-some : (mode : Mode) (ks : List ℕ) → 1 ≤ length ks → 1 ≤ length (signals mode ks)
+unfolding signals
+signals-some mode [] h = absurd (omega arith)
+signals-some mode (k ∷ ks) h =
+    let a = length-append (signal mode k) (signals mode ks) in
+    let o = some-ms mode k in
+    omega arith
 
 -- no signal is longer than the longest of its mode
 pub within-longest : (mode : Mode) (k : ℕ) → k < 256 → length (signal mode k) ≤ longest mode

@@ -2,3 +2,5 @@ pub mod Faults
 pub mod Words
 pub mod Levels
 pub mod Idle
+pub mod Ceiling
+pub mod Reached

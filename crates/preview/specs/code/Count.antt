@@ -1,54 +1,30 @@
 -- How the code counts the ms until a station is idle: over the characters that wait, not over ms.
 use Prim.Native.Nat.{ℕ, _+_, _-_}
 use mathlib.Core.Bool.{true, cond, not, _&&_}
-use mathlib.Core.List.{List, [], _∷_}
+use mathlib.Core.List.{List}
 use lib.Dec.{eqb}
 use lib.ListN.{length}
-use Rattle.alphabet.specs.declared.Alphabet.{Alphabet}
 use Rattle.alphabet.specs.declared.Mode.{Mode}
-use Rattle.alphabet.specs.declared.Sends.{Sends}
-use Rattle.alphabet.specs.declared.Sends.the-variants.{Nothing, Code}
 use Rattle.alphabet.specs.Modes.{alphabetOf, preambleOf}
-use Rattle.alphabet.specs.Normal.{sends}
 use Rattle.baudot.specs.declared.Sender.{Sender}
-use Rattle.baudot.specs.Sending.{sender, shiftCode, shifted}
-use Rattle.signal.specs.Signal.{signal}
+use Rattle.baudot.specs.Sending.{sender, shiftCode}
+use Rattle.baudot.specs.Text.{textCodes}
+use Rattle.signal.specs.Signal.{signal, signals}
 use Rattle.burst.specs.declared.OnLine.{OnLine}
-use Rattle.burst.specs.Rules.{freeMs, openingShift, shiftWanted, senderAfterOwn}
+use Rattle.burst.specs.Rules.{freeMs, openingShift}
 use Rattle.burst.specs.Line.{inBurst, partMs, begun, isOpening}
 use Rattle.half_duplex.specs.Core.{modeIn}
 use Rattle.queue.specs.Queue.{waitingOf}
 use Rattle.station.specs.declared.Station.{Station}
 use Rattle.station.specs.Station.{queueOf}
 
--- The ms of a code, and of a shift code, 0 for none.
+-- The ms of a code.
 abbrev pub codeMs : Mode → ℕ → ℕ
 codeMs mode k = length (signal mode k)
 
-abbrev pub shiftMs : Mode → ℕ → ℕ
-shiftMs mode w = cond (eqb w 0) 0 (codeMs mode (shiftCode w))
-
--- The sender behind a shift code that is wanted; ahead of an own code there are two of them at most.
-abbrev pub behindShift : Alphabet → Sender → ℕ → Sender
-behindShift a s own = shifted s (shiftWanted a s own)
-
--- The ms of a character's codes, and the sender after them.
-unfoldable pub charMs : Mode → Sender → Sends → ℕ
-charMs mode s Nothing = 0
-charMs mode s (Code own k) =
-    let a = alphabetOf mode in
-    shiftMs mode (shiftWanted a s own) + shiftMs mode (shiftWanted a (behindShift a s own) own) + codeMs mode (k .0)
-
-unfoldable pub senderBehind : Alphabet → Sender → Sends → Sender
-senderBehind a s Nothing = s
-senderBehind a s (Code own k) = senderAfterOwn a (behindShift a (behindShift a s own) own)
-
 -- The ms of the codes that characters send, one after the other, in a burst that has opened.
 unfoldable pub charsMs : Mode → Sender → List ℕ → ℕ
-charsMs mode s [] = 0
-charsMs mode s (c ∷ cs) =
-    let x = sends (alphabetOf mode) c in
-    charMs mode s x + charsMs mode (senderBehind (alphabetOf mode) s x) cs
+charsMs mode s cs = length (signals mode (textCodes (alphabetOf mode) s cs))
 
 -- The ms behind the part that is on the line: the shift code that opens the burst, and those characters.
 abbrev pub behindMs : Mode → OnLine → Sender → List ℕ → ℕ
