@@ -4,7 +4,7 @@
 //! with none waiting, and a fresh sender in the middle of a burst. A preview must tell the ms of each
 //! (request 106). Part of `differential`.
 
-use crate::damaged_stations::{agree, in_range, reference_of};
+use crate::damaged_stations::{agree, in_range, reference_of, CODE_PART, PREAMBLE_PART};
 use crate::engine::{OnLine, Sender, Station};
 use reference::annex::FIGURES;
 use reference::answer::SUCCESS;
@@ -20,9 +20,8 @@ use std::process::exit;
 /// The quiet ms behind a burst.
 const AFTER: usize = 20;
 
-/// The parts of the engine's line: the preamble and a code.
-const PREAMBLE: u8 = 1;
-const CODE: u8 = 2;
+/// The engine's line outside a burst.
+pub const NO_BURST: OnLine = OnLine { at: 0, part: 0, code: 0 };
 
 const BAUDOT: [Mode; 2] = [Mode::Baudot45, Mode::Baudot50];
 
@@ -77,7 +76,7 @@ fn senders() -> impl Iterator<Item = (u8, u8)> {
 }
 
 /// An engine's station with a free line and these numbers.
-fn forged(mode: Mode, [shift, count]: [u8; 2], line: OnLine, waiting: &[u8]) -> Station {
+pub fn forged(mode: Mode, [shift, count]: [u8; 2], line: OnLine, waiting: &[u8]) -> Station {
     let mut station = Station::open(mode.number()).1;
     station.core.sender = Sender { shift, count };
     station.core.line = line;
@@ -94,7 +93,7 @@ fn signals(mode: Mode, codes: &[Code]) -> Vec<u8> {
 fn head(random: &mut Random, mode: Mode, [shift, count]: [u8; 2], character: u8) {
     let (codes, reached) = burst_codes(mode, shift, &[character]);
     let wanted = [preamble(mode), signals(mode, &codes)].concat();
-    let mut station = forged(mode, [shift, count], OnLine { at: 0, part: 0, code: 0 }, b"");
+    let mut station = forged(mode, [shift, count], NO_BURST, b"");
     if station.offer(&[character]) != SUCCESS {
         differs(&station, "the offer is refused");
     }
@@ -122,7 +121,7 @@ fn head(random: &mut Random, mode: Mode, [shift, count]: [u8; 2], character: u8)
 
 /// A preamble that is over, with a character waiting.
 fn preamble_over(random: &mut Random, mode: Mode, sender: [u8; 2], character: u8) {
-    let line = OnLine { at: mode.preamble(), part: PREAMBLE, code: 0 };
+    let line = OnLine { at: mode.preamble(), part: PREAMBLE_PART, code: 0 };
     let (codes, _) = burst_codes(mode, sender[0], &[character]);
     let station = forged(mode, sender, line, &[character]);
     sends(random, &station, &signals(mode, &codes));
@@ -130,7 +129,7 @@ fn preamble_over(random: &mut Random, mode: Mode, sender: [u8; 2], character: u8
 
 /// A preamble of which some ms are sent, with none waiting. In Baudot its shift code ends the burst.
 fn none_waiting(random: &mut Random, mode: Mode, sender: [u8; 2], at: u16) {
-    let station = forged(mode, sender, OnLine { at, part: PREAMBLE, code: 0 }, b"");
+    let station = forged(mode, sender, OnLine { at, part: PREAMBLE_PART, code: 0 }, b"");
     let mut wanted = preamble(mode)[usize::from(at)..].to_vec();
     if BAUDOT.contains(&mode) {
         wanted.extend(signals(mode, &burst_codes(mode, sender[0], b"").0));
@@ -146,7 +145,7 @@ fn fresh_in_a_burst(random: &mut Random, mode: Mode) -> u64 {
         for at in [0, 1, length / 2, length - 1, length] {
             for count in [0, 1, 71, 72] {
                 for text in [&b""[..], b"E", b"3", b" ", b"E3"] {
-                    let line = OnLine { at: at as u16, part: CODE, code: number as u8 };
+                    let line = OnLine { at: at as u16, part: CODE_PART, code: number as u8 };
                     let station = forged(mode, [FRESH, count], line, text);
                     let rest = &signal(mode, code)[at..];
                     let wanted = [rest, &signals(mode, &text_codes(mode, text))].concat();

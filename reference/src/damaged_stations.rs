@@ -17,9 +17,10 @@ use reference::station::{Part, Ran, FREE, INHIBITED, MOST_MS, MOST_WAITING};
 use std::process::exit;
 use std::sync::LazyLock;
 
-/// Nothing (0), the preamble (1) or a code is on the line: document 01, "The station's turn", second
-/// point (there: lead).
-const CODE_PART: u8 = 2;
+/// Nothing (0), the preamble or a code is on the line: document 01, "The station's turn", second point
+/// (there: lead).
+pub const PREAMBLE_PART: u8 = 1;
+pub const CODE_PART: u8 = 2;
 
 /// Codes have five bits, characters seven: document 01, second paragraph.
 const FIVE_BITS: usize = 1 << 5;
@@ -58,8 +59,8 @@ pub fn part_of(mode: Mode, part: u8, code: u8) -> Option<Part> {
     let found = code_of(mode, code);
     match part {
         0 if code == 0 || found.is_some() => Some(Part::Idle),
-        1 if code == 0 || found.is_some() => Some(Part::Preamble),
-        2 => found.map(Part::Code),
+        PREAMBLE_PART if code == 0 || found.is_some() => Some(Part::Preamble),
+        CODE_PART => found.map(Part::Code),
         _ => None,
     }
 }
@@ -101,6 +102,11 @@ static SENDS: LazyLock<[[bool; 256]; 4]> = LazyLock::new(|| {
 
 pub fn sends(mode: Mode) -> &'static [bool; 256] {
     &SENDS[usize::from(mode.number()) - 1]
+}
+
+/// How many characters of a text send something.
+pub fn how_many_send(mode: Mode, text: &[u8]) -> usize {
+    text.iter().filter(|&&byte| sends(mode)[usize::from(byte)]).count()
 }
 
 /// Question 1 of document 01, "Questions in order": each number within the values given there. Ms are

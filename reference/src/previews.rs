@@ -4,9 +4,10 @@
 //! preview must leave the station as it was, byte for byte. Part of `differential`.
 
 use crate::damaged_stations::{
-    damage, in_range, part_length, part_of, random_station, reference_of, sends,
+    damage, how_many_send, in_range, part_length, part_of, random_station, reference_of, sends,
 };
 use crate::engine;
+use crate::met::{must_meet, must_meet_all};
 use reference::annex::{FIGURES, FIGURES_CODE, LETTERS_CODE};
 use reference::answer::{CHARACTER, SPACE, STATE, SUCCESS};
 use reference::baudot::{FRESH, REPEAT};
@@ -55,8 +56,8 @@ enum Thing {
     Above16Bits,
 }
 
-const ALL: &[u8] = &[1, 2, 3, 4];
-const BAUDOT: &[u8] = &[1, 2];
+pub const ALL: &[u8] = &[1, 2, 3, 4];
+pub const BAUDOT: &[u8] = &[1, 2];
 const DTMF: &[u8] = &[3];
 
 const THINGS: [(Thing, &str, &[u8]); 31] = [
@@ -126,7 +127,7 @@ struct Comparison<'a> {
 pub fn compare(random: &mut Random, ms: u64) -> String {
     let lines = Mode::ALL.map(|mode| {
         let mut comparison = Comparison { mode, random, met: Met::default() };
-        comparison.every_ms();
+        comparison.burst_and_busy_line();
         while comparison.met.ms < ms {
             comparison.list();
             for _ in 0..10 {
@@ -139,20 +140,11 @@ pub fn compare(random: &mut Random, ms: u64) -> String {
 }
 
 fn summary(mode: Mode, met: &Met) -> String {
-    let one = |name: &str, count: u64| {
-        if count == 0 {
-            println!("previews, mode {}: {name} never met", mode.number());
-            exit(1);
-        }
-        format!("{name} {count}")
-    };
+    let one = |name: &str, count: u64| must_meet("previews", mode, name, count);
     let answers = [SUCCESS, STATE, CHARACTER, SPACE].map(|answer| {
         one(&format!("answer {answer}"), met.answers[usize::from(answer)]);
         format!("{answer}: {}", met.answers[usize::from(answer)])
     });
-    let things = THINGS.iter().filter(|(_, _, modes)| modes.contains(&mode.number()));
-    let things: Vec<_> =
-        things.map(|&(thing, name, _)| one(name, met.things[thing as usize])).collect();
     format!(
         "  mode {}: previews {}, {}, {}; ms {}, at most {}; {}, {}, {}; {}",
         mode.number(),
@@ -164,14 +156,14 @@ fn summary(mode: Mode, met: &Met) -> String {
         one("stations of calls", met.called),
         one("forged", met.forged),
         one("damaged", met.damaged),
-        things.join(", "),
+        must_meet_all("previews", mode, &THINGS, |thing| met.things[thing as usize]),
     )
 }
 
 /// A station on both sides.
 #[derive(Clone, Copy)]
-struct Pair {
-    engine: engine::Station,
+pub struct Pair {
+    pub engine: engine::Station,
     reference: Station,
 }
 
@@ -181,7 +173,22 @@ impl Pair {
         Pair { engine, reference }
     }
 
-    fn offer(&mut self, text: &[u8]) {
+    /// With the numbers of an engine's station that is in range.
+    pub fn of(engine: engine::Station) -> Pair {
+        Pair { engine, reference: reference_of(&engine) }
+    }
+
+    /// One that no list of calls need lead to.
+    pub fn forged(random: &mut Random, mode: Mode) -> Pair {
+        let mut engine = random_station(random, mode);
+        // Few waiting, so that there are many stations.
+        if random.below(8) > 0 {
+            engine.core.waiting = engine.core.waiting.min(random.below(4) as u16);
+        }
+        Pair::of(engine)
+    }
+
+    pub fn offer(&mut self, text: &[u8]) {
         let answers = (self.engine.offer(text), self.reference.offer(text));
         assert!(answers.0 == answers.1, "an offer of {text:02X?} answers {answers:?}");
     }
@@ -192,6 +199,73 @@ impl Pair {
             let (mut sent, mut words) = ([0; MOST_MS], [0; MOST_MS]);
             assert_eq!(self.reference.run(heard, &mut sent, &mut words).answer, SUCCESS);
         }
+    }
+
+    /// A preview, the same on both sides; the engine's station must stay. If that is out of range, it
+    /// must be refused with 1.
+    pub fn preview(&self, text: &[u8]) -> (u8, u32) {
+        let good = in_range(&self.engine);
+        let wanted = if good { self.reference.preview(text) } else { (STATE, 0) };
+        let mut station = self.engine;
+        let found = station.preview(text);
+        if found != wanted {
+            self.differs(text, &format!("{found:?}, and not {wanted:?}"));
+        }
+        if station != self.engine {
+            self.differs(text, &format!("it is changed, {station:?}"));
+        }
+        found
+    }
+
+    pub fn differs(&self, text: &[u8], what: &str) -> ! {
+        let waiting = &self.engine.chars[..usize::from(self.engine.core.waiting).min(MOST_WAITING)];
+        println!("difference: preview of {text:02X?}: {what}");
+        println!("{:?}, waiting {waiting:02X?}", self.engine.core);
+        exit(1);
+    }
+}
+
+/// Every ms of a fresh station's burst of a text, of the inhibited ms behind it, of a busy line and of
+/// the silence behind that.
+pub fn every_ms(mode: Mode, text: &[u8], mut each: impl FnMut(&Pair)) {
+    let mut pair = Pair::fresh(mode);
+    pair.offer(text);
+    let (_, burst) = pair.reference.preview(b"");
+    let [inhibited, free] = [INHIBITED, FREE].map(usize::from);
+    let after = [(QUIET, inhibited + 10), (1, 30), (QUIET, free + 10)];
+    let line = [(QUIET, burst as usize)].into_iter().chain(after);
+    for level in line.flat_map(|(level, ms)| std::iter::repeat_n(level, ms)) {
+        each(&pair);
+        pair.hear(&[level]);
+    }
+}
+
+/// A text of so many characters that send something: few over and over, English, or any.
+pub fn text_of(random: &mut Random, mode: Mode, number: usize) -> Vec<u8> {
+    let from = match random.below(8) {
+        0..=4 => random.pick(&[&b"eTO5 9\n:A"[..], b"e", b"1A", b"599 ", b"!"]).to_vec(),
+        5 => random.english(MOST_WAITING),
+        _ => random.uniform(MOST_WAITING, 128),
+    };
+    let mut text = Vec::new();
+    let mut waits = 0;
+    for &character in from.iter().cycle() {
+        if waits == number {
+            break;
+        }
+        waits += how_many_send(mode, &[character]);
+        text.push(character);
+    }
+    put_silent(random, mode, &mut text);
+    text
+}
+
+/// Now and then puts characters into a text that send nothing, where the mode has any: they may stand
+/// anywhere.
+pub fn put_silent(random: &mut Random, mode: Mode, text: &mut Vec<u8>) {
+    if random.one_in(8) && mode != Mode::Edt {
+        let place = random.below(text.len() + 1);
+        text.splice(place..place, vec![0; random.pick(&[1, 2, 300])]);
     }
 }
 
@@ -215,18 +289,9 @@ fn is_idle(station: &engine::Station) -> bool {
 }
 
 impl Comparison<'_> {
-    /// One preview on both sides. If the engine's station is out of range, it must be refused with 1.
+    /// One preview on both sides, and what comes of it.
     fn preview(&mut self, pair: &Pair, text: &[u8]) {
-        let good = in_range(&pair.engine);
-        let wanted = if good { pair.reference.preview(text) } else { (STATE, 0) };
-        let mut station = pair.engine;
-        let found = station.preview(text);
-        if found != wanted {
-            self.differs(pair, text, &format!("{found:?}, and not {wanted:?}"));
-        }
-        if station != pair.engine {
-            self.differs(pair, text, &format!("it is changed, {station:?}"));
-        }
+        let found = pair.preview(text);
         self.met.answers[usize::from(found.0)] += 1;
         self.met.ms += u64::from(found.1);
         self.met.longest = self.met.longest.max(found.1);
@@ -235,17 +300,11 @@ impl Comparison<'_> {
             self.meets(&pair.engine, text, found.1);
         } else {
             let waiting = usize::from(pair.engine.core.waiting);
-            let (above, full) = (!text.is_ascii(), waiting + self.some(text) > MOST_WAITING);
+            let some = how_many_send(self.mode, text);
+            let (above, full) = (!text.is_ascii(), waiting + some > MOST_WAITING);
             self.met.state_first += u64::from(found.0 == STATE && (above || full));
             self.met.character_first += u64::from(found.0 == CHARACTER && full);
         }
-    }
-
-    fn differs(&self, pair: &Pair, text: &[u8], what: &str) -> ! {
-        let waiting = &pair.engine.chars[..usize::from(pair.engine.core.waiting).min(MOST_WAITING)];
-        println!("difference: preview of {text:02X?}: {what}");
-        println!("{:?}, waiting {waiting:02X?}", pair.engine.core);
-        exit(1);
     }
 
     /// Offered the text and run on quiet the engine must be idle after exactly so many ms. Somewhere
@@ -253,36 +312,31 @@ impl Comparison<'_> {
     fn comes_true(&mut self, pair: &Pair, text: &[u8], ms: usize) {
         let mut station = pair.engine;
         if station.offer(text) != SUCCESS {
-            self.differs(pair, text, "the offer is refused");
+            pair.differs(text, "the offer is refused");
         }
         if ms > 0 {
             let first = self.random.below(ms);
             quiet(&mut station, first);
             let left = station.preview(b"");
             if left != (SUCCESS, (ms - first) as u32) {
-                self.differs(pair, text, &format!("{ms} ms, and {first} later {left:?}"));
+                pair.differs(text, &format!("{ms} ms, and {first} later {left:?}"));
             }
             quiet(&mut station, ms - 1 - first);
             if is_idle(&station) {
-                self.differs(pair, text, &format!("idle before {ms} ms"));
+                pair.differs(text, &format!("idle before {ms} ms"));
             }
             quiet(&mut station, 1);
         }
         if !is_idle(&station) {
-            self.differs(pair, text, &format!("not idle after {ms} ms, {:?}", station.core));
+            pair.differs(text, &format!("not idle after {ms} ms, {:?}", station.core));
         }
-    }
-
-    /// How many characters of a text send something.
-    fn some(&self, text: &[u8]) -> usize {
-        text.iter().filter(|&&byte| sends(self.mode)[usize::from(byte)]).count()
     }
 
     /// Counts what a preview has met that succeeded.
     fn meets(&mut self, station: &engine::Station, text: &[u8], ms: u32) {
         let (mode, core) = (self.mode, &station.core);
         let part = part_of(mode, core.line.part, core.line.code);
-        let (at, some) = (usize::from(core.line.at), self.some(text));
+        let (at, some) = (usize::from(core.line.at), how_many_send(mode, text));
         let (in_burst, waits) = (core.line.part != 0, core.waiting > 0 || some > 0);
         let is_baudot = matches!(mode, Mode::Baudot45 | Mode::Baudot50);
         let shift_code = is_baudot && [LETTERS_CODE, FIGURES_CODE].contains(&core.line.code);
@@ -337,22 +391,15 @@ impl Comparison<'_> {
         met.add_if(ms > u32::from(u16::MAX), Thing::Above16Bits);
     }
 
-    /// Every ms of a burst, of the inhibited ms behind it, of a busy line and of the silence behind
-    /// that. In DTMF the codes have four, two, three keys and one.
-    fn every_ms(&mut self) {
-        let mut pair = Pair::fresh(self.mode);
-        pair.offer(b"A?1b");
-        let (_, burst) = pair.reference.preview(b"");
-        let [inhibited, free] = [INHIBITED, FREE].map(usize::from);
-        let after = [(QUIET, inhibited + 10), (1, 30), (QUIET, free + 10)];
-        let line = [(QUIET, burst as usize)].into_iter().chain(after);
-        for level in line.flat_map(|(level, ms)| std::iter::repeat_n(level, ms)) {
+    /// At every ms of a burst and of a line that is busy and then quiet. In DTMF the codes have four,
+    /// two, three keys and one.
+    fn burst_and_busy_line(&mut self) {
+        every_ms(self.mode, b"A?1b", |pair| {
             for text in [&b""[..], b"e", b"1"] {
-                self.preview(&pair, text);
+                self.preview(pair, text);
             }
             self.met.called += 1;
-            pair.hear(&[level]);
-        }
+        });
     }
 
     /// A list of calls, with previews at some points.
@@ -372,16 +419,11 @@ impl Comparison<'_> {
 
     /// A station that no list of calls need lead to, and the same damaged.
     fn forged(&mut self) {
-        let mut engine = random_station(self.random, self.mode);
-        // Few waiting, so that there are many stations.
-        if self.random.below(8) > 0 {
-            engine.core.waiting = engine.core.waiting.min(self.random.below(4) as u16);
-        }
-        let reference = reference_of(&engine);
-        self.previews(&Pair { engine, reference });
+        let mut pair = Pair::forged(self.random, self.mode);
+        self.previews(&pair);
         self.met.forged += 1;
-        damage(self.random, &mut engine);
-        self.previews(&Pair { engine, reference });
+        damage(self.random, &mut pair.engine);
+        self.previews(&pair);
         self.met.damaged += 1;
     }
 
@@ -404,27 +446,9 @@ impl Comparison<'_> {
             9..=16 => 0,
             _ => 1 + self.random.below(6),
         };
-        // Few characters over and over, English, or any.
-        let from = match self.random.below(8) {
-            0..=4 => self.random.pick(&[&b"eTO5 9\n:A"[..], b"e", b"1A", b"599 ", b"!"]).to_vec(),
-            5 => self.random.english(MOST_WAITING),
-            _ => self.random.uniform(MOST_WAITING, 128),
-        };
-        let mut text = Vec::new();
-        let mut waits = 0;
-        for &character in from.iter().cycle() {
-            if waits == wanted.min(space) {
-                break;
-            }
-            waits += usize::from(sends(self.mode)[usize::from(character)]);
-            text.push(character);
-        }
-        // Those that send nothing may stand anywhere; and DEL, if there is space for it.
-        if self.random.one_in(8) && self.mode != Mode::Edt {
-            let place = self.random.below(text.len() + 1);
-            text.splice(place..place, vec![0; self.random.pick(&[1, 2, 300])]);
-        }
-        if self.random.one_in(4) && self.some(&text) < space {
+        let mut text = text_of(self.random, self.mode, wanted.min(space));
+        // DEL may stand anywhere, too, if there is space for it.
+        if self.random.one_in(4) && how_many_send(self.mode, &text) < space {
             let place = self.random.below(text.len() + 1);
             text.insert(place, DEL);
         }
@@ -436,11 +460,11 @@ impl Comparison<'_> {
         let mut text = self.text(station);
         let reasons = 1 + self.random.below(3);
         if reasons & 1 != 0 {
-            let number = MOST_WAITING + 1 - self.some(&text);
+            let number = MOST_WAITING + 1 - how_many_send(self.mode, &text);
             text.extend(vec![b'e'; number + self.random.pick(&[0, 0, 1, 700])]);
             // Only as many as are too many.
             let space = MOST_WAITING.saturating_sub(usize::from(station.core.waiting));
-            while self.random.below(8) > 0 && self.some(&text) > space + 1 {
+            while self.random.below(8) > 0 && how_many_send(self.mode, &text) > space + 1 {
                 text.pop();
             }
         }

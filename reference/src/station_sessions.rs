@@ -3,6 +3,7 @@
 
 use crate::damaged_stations::{agree, damage, in_range};
 use crate::engine;
+use crate::met::{must_meet, must_meet_all};
 use reference::annex::FIGURES;
 use reference::answer::{
     CHARACTER, DURATION, LEVEL, MODE, SENT_SLICE, SPACE, STATE, SUCCESS, WORD_SLICE,
@@ -160,23 +161,14 @@ pub fn compare(random: &mut Random, ms: u64) -> String {
 }
 
 fn summary(mode: Mode, met: &Met) -> String {
-    let one = |name: &str, count: u64| {
-        if count == 0 {
-            println!("station, mode {}: {name} never met", mode.number());
-            exit(1);
-        }
-        format!("{name} {count}")
-    };
     let answers = |name: &str, counts: &[u64; 9], answers: &[u8]| {
         let all = answers.iter().map(|&answer| {
-            one(&format!("{name} answer {answer}"), counts[usize::from(answer)]);
-            format!("{answer}: {}", counts[usize::from(answer)])
+            let count = counts[usize::from(answer)];
+            must_meet("station", mode, &format!("{name} answer {answer}"), count);
+            format!("{answer}: {count}")
         });
         all.collect::<Vec<_>>().join(", ")
     };
-    let things = THINGS.iter().filter(|(_, _, modes)| modes.contains(&mode.number()));
-    let things: Vec<_> =
-        things.map(|&(thing, name, _)| one(name, met.things[thing as usize])).collect();
     format!(
         "  mode {}: lists {}, ms {}; offers {}; runs {}; {}",
         mode.number(),
@@ -184,7 +176,7 @@ fn summary(mode: Mode, met: &Met) -> String {
         met.ms,
         answers("offer", &met.offers, &[SUCCESS, STATE, CHARACTER, SPACE]),
         answers("run", &met.runs, &[SUCCESS, STATE, DURATION, LEVEL, SENT_SLICE, WORD_SLICE]),
-        things.join(", "),
+        must_meet_all("station", mode, &THINGS, |thing| met.things[thing as usize]),
     )
 }
 

@@ -15,6 +15,8 @@ mod damaged_stations;
 mod engine;
 #[path = "../fault_words.rs"]
 mod fault_words;
+#[path = "../met.rs"]
+mod met;
 #[path = "../previews.rs"]
 mod previews;
 #[path = "../station_sessions.rs"]
