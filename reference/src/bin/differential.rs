@@ -1,14 +1,16 @@
 //! Compares the engine with the reference on random conversions, on a calling set's random ms, on
 //! every head of a Baudot burst, on every spoiled frame, on stations' random calls, refused and
-//! damaged ones among them, and on previews, and checks what a fitter is told of wrong settings, and
-//! demand 3 with the engine as both stations. Arguments: number of cases (one sending, one reading,
-//! four ms of the calling set, and in each mode 35 ms of stations and 200 ms that previews tell),
-//! seed. Exit 1 on a difference.
+//! damaged ones among them, and on previews, and checks the ceiling of sending time, what a fitter is
+//! told of wrong settings, and demand 3 with the engine as both stations. Arguments: number of cases
+//! (one sending, one reading, four ms of the calling set, and in each mode 35 ms of stations and 200 ms
+//! that previews tell), seed. Exit 1 on a difference.
 
 #[path = "../burst_heads.rs"]
 mod burst_heads;
 #[path = "../calling_sessions.rs"]
 mod calling_sessions;
+#[path = "../ceilings.rs"]
+mod ceilings;
 #[path = "../damaged_stations.rs"]
 mod damaged_stations;
 #[path = "../engine.rs"]
@@ -85,6 +87,7 @@ fn main() {
     println!("{}", station_sessions::compare(&mut random, (30 * cases).max(1_000_000)));
     println!("{}", damaged_stations::check(&mut random, 10_000));
     println!("{}", previews::compare(&mut random, (200 * cases).max(50_000_000)));
+    println!("{}", ceilings::compare(&mut random));
     for mode in Mode::ALL {
         println!("{}", demand_3(mode, seed, (5 * cases as usize).max(500_000)));
     }
