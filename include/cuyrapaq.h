@@ -23,10 +23,10 @@ extern "C" {
 
 /*
  * The version of the interface. MAJOR: a struct, an entry's contract or a refusal's meaning changed;
- * MINOR: entries were added; PATCH: the contracts are the same.
+ * MINOR: entries or macros were added; PATCH: the contracts are the same.
  */
 #define CQ_VERSION_MAJOR 5
-#define CQ_VERSION_MINOR 1
+#define CQ_VERSION_MINOR 2
 #define CQ_VERSION_PATCH 0
 #define CQ_VERSION (CQ_VERSION_MAJOR * 10000L + CQ_VERSION_MINOR * 100L + CQ_VERSION_PATCH)
 
@@ -441,7 +441,7 @@ cq_station_ran cq_station_run(cq_station *station, const uint8_t *heard, size_t 
  * burst, if it was offered the text now and then heard CQ_LEVEL_QUIET in every ms; 0 if that is so at once. The
  * ms until the line has been without signal for 300 are in it, and a line that is busy now counts as quiet from
  * now on. So text that is offered later than now, or signal on the line, can make it longer. CQ_STATION_MS_MAX
- * is no limit here: `ms` goes up to some 123,000, in DTMF.
+ * is no limit here: CQ_SENDING_MS_MAX, below, says how far `ms` goes.
  *
  * Refusals, asked in this order; the first that applies is the answer:
  *   CQ_REFUSED_STATE      (1)  a number of the station is out of range
@@ -452,6 +452,36 @@ cq_station_ran cq_station_run(cq_station *station, const uint8_t *heard, size_t 
  * Pointers and slices are as for the conversions.
  */
 cq_station_previewed cq_station_preview(const cq_station *station, const uint8_t *text, size_t text_length);
+
+/*
+ * The most ms that n characters take to send, as a uint32_t: for the size of a battery, or a watchdog.
+ *
+ * mode  1 to 4; for any other number it is 0
+ * n     how many wait, those of the text included that send something: 0 to CQ_STATION_WAITING_MAX
+ *
+ * It is a constant expression if both are, though not for #if. Each may be evaluated more than once.
+ *
+ * From a station that is in no burst and whose line is free, the `ms` of a preview are at most this, and so are the ms
+ * from the offer to the end of the burst if nothing more is offered. Some text reaches it, for every n: in Baudot
+ * figures and letters by turns, the first not of the shift in force; in DTMF characters of four keys, such as A; in
+ * EDT every text. With n = 0 it is 0.
+ *
+ * On a line that is not free yet, add what is missing of the 300 ms without signal, if n is not 0.
+ *
+ * In a burst, the `ms` are at most what is left of the preamble or code on the line, and the longest code (165, 150,
+ * 480 or 100 ms in modes 1 to 4) for each code to come. At most 2n are to come in Baudot, 2n + 1 while the preamble is
+ * on the line; n in DTMF and EDT. In a station that no list of calls gives, the sender may be CQ_SHIFT_FRESH in a
+ * burst, with 2n + 1 to come in Baudot; or nothing may be left and nothing wait, and the burst ends with 1 ms.
+ *
+ * So no preview tells more than 123,360 ms: in DTMF, 480 for a code on the line and for each of 256 waiting.
+ */
+#define CQ_SENDING_MS_MAX(mode, n)                                                   \
+    ((uint32_t)((n) == 0                      ? 0                                    \
+                : (mode) == CQ_MODE_BAUDOT_45 ? 150 + 165 * (2 * (uint32_t)(n) + 1)  \
+                : (mode) == CQ_MODE_BAUDOT_50 ? 150 + 150 * (2 * (uint32_t)(n) + 1)  \
+                : (mode) == CQ_MODE_DTMF      ? 480 * (uint32_t)(n)                  \
+                : (mode) == CQ_MODE_EDT       ? 300 + 100 * (uint32_t)(n)            \
+                                              : 0))
 
 /* Checked when the host is compiled: the structs are laid out as in the library. */
 #if defined(__cplusplus) && __cplusplus >= 201103L

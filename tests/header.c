@@ -1,7 +1,8 @@
 /*
  * Calls all entries through the header: the worked examples, the calling set's timetable, pause and
- * choice, a station that sends to another, several bursts, previews, every fault word, every refusal and what it
- * leaves, empty slices, slices that fit exactly, and the bytes around the result. Prints what failed.
+ * choice, a station that sends to another, several bursts, previews and the most ms of sending, every fault word,
+ * every refusal and what it leaves, empty slices, slices that fit exactly, and the bytes around the result. Prints
+ * what failed.
  */
 #include "cuyrapaq.h"
 
@@ -105,6 +106,10 @@ static void read_refused(const char *which, const uint8_t *codes, size_t length,
     check(r.length == 0, "a refusal has length 0", which);
 }
 
+/* The most ms of sending are constant where the mode and the number are. */
+typedef char constant_size[CQ_SENDING_MS_MAX(CQ_MODE_BAUDOT_50, 1) == 600 ? 1 : -1];
+enum { CONSTANT = CQ_SENDING_MS_MAX(CQ_MODE_DTMF, CQ_STATION_WAITING_MAX) };
+
 static void layout(void)
 {
     check(sizeof(cq_baudot_sent) == 16, "size", "cq_baudot_sent");
@@ -161,6 +166,10 @@ static void layout(void)
           "numbers of the levels", "macros");
     check(CQ_LEVEL_MAX(CQ_MODE_DTMF) == 16 && CQ_LEVEL_MAX(CQ_MODE_EDT) == 2, "CQ_LEVEL_MAX", "macros");
     check(CQ_STATION_MS_MAX == 4096 && CQ_STATION_WAITING_MAX == 256, "most ms, most waiting", "macros");
+    check(sizeof(constant_size) == 1 && CONSTANT == 122880 && sizeof(CQ_SENDING_MS_MAX(1, 1)) == sizeof(uint32_t) &&
+              1000 - CQ_SENDING_MS_MAX(CQ_MODE_DTMF | 0, 1 + 1) / 2 == 520 && CQ_SENDING_MS_MAX(0, 1) == 0 &&
+              CQ_SENDING_MS_MAX(5, 1) == 0,
+          "CQ_SENDING_MS_MAX", "macros");
     check(CQ_WORD_CHARACTER == 0 && CQ_WORD_FAULT == 1 && CQ_CAUSE_QUIET == 1 && CQ_CAUSE_STOP_NOT_MARK == 2 &&
               CQ_CAUSE_ODD_PARITY == 3 && CQ_CAUSE_NO_ROW == 4 && CQ_CAUSE_LETTER_KEY == 5,
           "numbers of the kinds and causes", "macros");
@@ -1005,37 +1014,67 @@ static void counts_down(const char *which, cq_station station, uint32_t ms)
     previews(which, &station, "", 0, 0);
 }
 
-/* The most characters, and the most ms of each: a shift code ahead of every character, or four keys. */
-static void longest_previews(void)
+/* Two characters by turns, as many as can wait. */
+static const char *by_turns(const char *two)
 {
-    static const struct {
-        const char *two;
-        uint32_t ms;
-    } most[] = {
-        {"1A", 84795},  /* 150 + 165 * (1 + 2 * 256) */
-        {"1A", 77100},  /* 150 + 150 * (1 + 2 * 256) */
-        {"!!", 122880}, /* 256 * 4 * 120 */
-        {"!!", 25900},  /* 300 + 256 * 100 */
-    };
     static char text[CQ_STATION_WAITING_MAX];
-    cq_station station;
-    uint8_t mode;
     size_t i;
-    for (mode = CQ_MODE_BAUDOT_45; mode <= CQ_MODE_EDT; mode++) {
-        station = opened(mode);
-        for (i = 0; i < sizeof text; i++) {
-            text[i] = most[mode - 1].two[i % 2];
-        }
-        previews("256 offered", &station, text, sizeof text, most[mode - 1].ms);
-        offers("256 waiting", &station, text, 200, 200);
-        previews("200 waiting, 56 offered", &station, text + 200, 56, most[mode - 1].ms);
-        offers("256 waiting", &station, text + 200, 56, 256);
-        previews("256 waiting", &station, "", 0, most[mode - 1].ms);
+    for (i = 0; i < sizeof text; i++) {
+        text[i] = two[i % 2];
     }
+    return text;
+}
+
+/* A shift code ahead of every character, or four keys, take the most ms, from a fresh sender and from figures. */
+static const struct {
+    const char *two, *from_figures;
+    uint32_t ms[5]; /* of as many characters as `lengths` says */
+} longest[] = {
+    {"1A", "A1", {0, 645, 975, 24405, 84795}},  /* 150 + 165 * (2n + 1) */
+    {"1A", "A1", {0, 600, 900, 22200, 77100}},  /* 150 + 150 * (2n + 1) */
+    {"!!", "AA", {0, 480, 960, 35040, 122880}}, /* n * 4 * 120 */
+    {"!!", "e1", {0, 400, 500, 7600, 25900}},   /* 300 + n * 100 */
+};
+static const uint16_t lengths[5] = {0, 1, 2, 73, CQ_STATION_WAITING_MAX};
+
+/* The longest texts take what CQ_SENDING_MS_MAX says, for every number of characters; on a busy line 300 ms more. */
+static void longest_previews(uint8_t mode)
+{
+    static const uint8_t quiet[1000] = {CQ_LEVEL_QUIET}, busy[1] = {1};
+    cq_station fresh = opened(mode), behind_signal = opened(mode), figures = opened(mode);
+    const char *text;
+    size_t i, n;
+    for (i = 0; i < sizeof lengths / sizeof lengths[0]; i++) {
+        check(CQ_SENDING_MS_MAX(mode, lengths[i]) == longest[mode - 1].ms[i], "most ms", "CQ_SENDING_MS_MAX");
+    }
+    runs("busy", &behind_signal, busy, 1);
+    offers("a figure", &figures, "1", 1, 1);
+    runs("a figure", &figures, quiet, sizeof quiet);
+    for (n = 0; n <= CQ_STATION_WAITING_MAX; n++) {
+        uint32_t ms = CQ_SENDING_MS_MAX(mode, n);
+        text = by_turns(longest[mode - 1].two);
+        previews("longest text", &fresh, text, n, ms);
+        previews("longest text, busy", &behind_signal, text, n, n == 0 ? 0 : 300 + ms);
+        previews("longest text, figures", &figures, by_turns(longest[mode - 1].from_figures), n, ms);
+    }
+    text = by_turns(longest[mode - 1].two);
+    offers("256 waiting", &fresh, text, 200, 200);
+    previews("200 waiting, 56 offered", &fresh, text + 200, 56, longest[mode - 1].ms[4]);
+    offers("256 waiting", &fresh, text + 200, 56, 256);
+    previews("256 waiting", &fresh, "", 0, longest[mode - 1].ms[4]);
+}
+
+/* A shift code behind 72 characters; and the most ms of all previews. */
+static void long_previews(void)
+{
     /* 150 + 165 * 75: 11111, 72 times E, 11111 again, E. */
-    memset(text, 'E', sizeof text);
-    station = opened(CQ_MODE_BAUDOT_45);
-    previews("73 times E", &station, text, 73, 12525);
+    cq_station station = opened(CQ_MODE_BAUDOT_45);
+    previews("73 times E", &station, by_turns("EE"), 73, 12525);
+    /* 257 * 480: a code of four keys, ***1, of which no ms is sent, and 256 of four keys behind it. */
+    station = opened(CQ_MODE_DTMF);
+    station.core.line.part = 2;
+    station.core.line.code = 16 * 7 + 1;
+    previews("256 behind a code", &station, by_turns("!!"), CQ_STATION_WAITING_MAX, 123360);
 }
 
 /* Behind signal 300 ms of silence come first, less those that have been. A text goes on behind a burst that is on. */
@@ -1104,7 +1143,10 @@ static void station_previews(void)
         offers(text, &station, text, strlen(text), (uint16_t)strlen(text));
         counts_down(text, station, previewed[i].ms);
     }
-    longest_previews();
+    for (mode = CQ_MODE_BAUDOT_45; mode <= CQ_MODE_EDT; mode++) {
+        longest_previews(mode);
+    }
+    long_previews();
     previews_on_the_way();
     preview_of_del(CQ_MODE_BAUDOT_45, 22);
     preview_of_del(CQ_MODE_BAUDOT_50, 20);
