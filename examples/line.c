@@ -1,11 +1,13 @@
 /*
- * A bench tool: what a station sends for a text, how long that takes, what it reads from a line, and pictures.
+ * A bench tool: what a station sends for a text, how long that takes and can take at most, what it reads from a line,
+ * and pictures.
  *
  *     make lib
  *     gcc -std=c99 -Iinclude examples/line.c target/staticlib/libcuyrapaq.a -o target/line
  *     printf 'HELLO 73' | target/line send baudot45            the sent ms as run lengths, LEVEL MS in each line
  *     target/line send baudot45 'GA' 'OK 73' 'SK'              the same of several turns, a burst for each
  *     target/line time baudot45 'please call back' 'pls cb'    the ms of each text by itself, by a preview
+ *     target/line most dtmf 1 80 256                           the most ms that so many characters take
  *     printf '11 70\n0 50\n2 70\n' | target/line read dtmf     the words, each with its ms, faults with cause; the text
  *     printf 'E' | target/line svg baudot45 >e.svg             the burst as a picture
  *     target/line svg edt 41 >code.svg                         one code as a picture
@@ -48,6 +50,7 @@ static const char usage[] = "usage: line send MODE <text         the ms that a s
                             "       line send MODE TEXT..        the same of several turns, a burst for each\n"
                             "       line time MODE <text         how long that takes on a free and quiet line\n"
                             "       line time MODE TEXT..        the same of several texts, each by itself\n"
+                            "       line most MODE N..           the most ms that N characters can take there\n"
                             "       line read MODE <runs         the words read from such lines, faults with cause\n"
                             "       line svg MODE <text          a picture of the burst\n"
                             "       line svg MODE CODE           a picture of one code: 00001, **4 or 41 (EDT: hex)\n"
@@ -222,9 +225,8 @@ static unsigned long time_of(const struct mode *mode, const uint8_t *text, size_
     return previewed.ms;
 }
 
-static void do_time(const struct mode *mode, const uint8_t *text, size_t length)
+static void print_time(unsigned long ms)
 {
-    unsigned long ms = time_of(mode, text, length);
     printf("%lu ms, %lu.%03lu s\n", ms, ms / 1000, ms % 1000);
 }
 
@@ -236,7 +238,7 @@ static void time_texts(const struct mode *mode, char *const *texts, int count)
         time_of(mode, (const uint8_t *)texts[i], strlen(texts[i]));
     }
     for (i = 0; i < count; i++) {
-        do_time(mode, (const uint8_t *)texts[i], strlen(texts[i]));
+        print_time(time_of(mode, (const uint8_t *)texts[i], strlen(texts[i])));
     }
 }
 
@@ -254,6 +256,29 @@ static int number(const char **at, unsigned long *value)
     *value = strtoul(*at, &end, 10);
     *at = end;
     return errno == 0;
+}
+
+/* The most ms that some number of characters take. */
+static unsigned long most_of(const struct mode *mode, const char *argument)
+{
+    const char *rest = argument;
+    unsigned long n;
+    if (!number(&rest, &n) || *rest != '\0' || n == 0 || n > CQ_STATION_WAITING_MAX) {
+        stop("\"%s\" is not a number of characters that can wait, 1 to %d", argument, CQ_STATION_WAITING_MAX);
+    }
+    return CQ_SENDING_MS_MAX(mode->number, n);
+}
+
+/* The same for each of several numbers, if none of them is refused. */
+static void do_most(const struct mode *mode, char *const *numbers, int count)
+{
+    int i;
+    for (i = 0; i < count; i++) {
+        most_of(mode, numbers[i]);
+    }
+    for (i = 0; i < count; i++) {
+        print_time(most_of(mode, numbers[i]));
+    }
 }
 
 /* Takes LEVEL and MS from a line; 0 if it is empty or a comment. */
@@ -681,9 +706,9 @@ int main(int argc, char **argv)
     static uint8_t text[LONGEST + 1];
     const char *verb = argc > 1 ? argv[1] : "";
     int svg = strcmp(verb, "svg") == 0, send = strcmp(verb, "send") == 0, read = strcmp(verb, "read") == 0;
-    int time = strcmp(verb, "time") == 0;
+    int time = strcmp(verb, "time") == 0, most = strcmp(verb, "most") == 0;
     const struct mode *mode;
-    if (!(svg || send || read || time) || argc < 3 || (svg && argc > 4) || (read && argc > 3)) {
+    if (!(svg || send || read || time || most) || argc < (most ? 4 : 3) || (svg && argc > 4) || (read && argc > 3)) {
         fputs(usage, stderr);
         return 2;
     }
@@ -702,7 +727,11 @@ int main(int argc, char **argv)
         return 0;
     }
     if (time) {
-        do_time(mode, text, read_text(text));
+        print_time(time_of(mode, text, read_text(text)));
+        return 0;
+    }
+    if (most) {
+        do_most(mode, argv + 3, argc - 3);
         return 0;
     }
     if (argc == 4) {
