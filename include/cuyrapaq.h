@@ -461,10 +461,10 @@ cq_station_previewed cq_station_preview(const cq_station *station, const uint8_t
  *
  * It is a constant expression if both are, though not for #if. Each may be evaluated more than once.
  *
- * From a station that is in no burst and whose line is free, the `ms` of a preview are at most this, and so are the ms
- * from the offer to the end of the burst if nothing more is offered. Some text reaches it, for every n: in Baudot
- * figures and letters by turns, the first not of the shift in force; in DTMF characters of four keys, such as A; in
- * EDT every text. With n = 0 it is 0.
+ * From a station that is in no burst and whose line is free, the `ms` of a preview are at most this: on a quiet line
+ * the ms from the offer to the end of the burst, if nothing more is offered. Some text reaches it, for every n: in
+ * Baudot figures and letters by turns, the first not of the shift in force; in DTMF characters of four keys, such as
+ * A; in EDT every text. With n = 0 it is 0.
  *
  * On a line that is not free yet, add what is missing of the 300 ms without signal, if n is not 0.
  *

@@ -423,11 +423,14 @@ impl Cases {
         }
         self.preview("nothing", &[], &[], b"");
         self.preview("DEL", &[], &[], &[0x7F]);
-        let (two, name): (&[u8], _) = match self.mode {
-            Mode::Baudot45 | Mode::Baudot50 => (b"1A", "1A, 128 times"),
-            _ => (b"!!", "256 exclamation marks"),
+        let two: &[u8] = match self.mode {
+            Mode::Baudot45 | Mode::Baudot50 => b"1A",
+            _ => b"!!",
         };
-        self.preview(name, &[], &[], &two.repeat(128));
+        for number in [1, 10, 40, 72, 256] {
+            let text: Vec<_> = two.iter().copied().cycle().take(number).collect();
+            self.preview(&format!("the longest of {number}"), &[], &[], &text);
+        }
         let offers = [(0, two.repeat(100))];
         self.preview("56 more, and 200 wait", &offers, &[], &two.repeat(28));
     }
