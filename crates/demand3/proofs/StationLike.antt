@@ -31,7 +31,7 @@ use Rattle.station.specs.Station.{offeredTo, front, charsAfter, stationMs, sent
 use Rattle.station.specs.Range.{inRange}
 use Rattle.station.specs.Entries.{answered, isMode, openOf, offerAnswer}
 use Rattle.station.proofs.Range.{core-in, front-waits, fresh-in, fresh-full, ms-in, ms-full}
-use Rattle.station.proofs.Range.{accepted, offered-in, offered-full}
+use Rattle.station.proofs.Range.{waiting-count, number-in, accepted, offered-in, offered-full}
 use Rattle.demand3.specs.Model.{Model, Loaded, freshModel, offered, begun, nextCode, loadBy, inBurst, oneGone}
 use Rattle.demand3.specs.Model.{closed, silenceAfter, beginsIn, load, endsIn}
 use Rattle.demand3.specs.Calls.{opened}
@@ -82,17 +82,6 @@ mode-of Baudot50 = refl
 mode-of Dtmf = refl
 mode-of Edt = refl
 
-number-in : (mode : Mode) → isMode (modeNumber mode) ≡ true
-number-in Baudot45 = refl
-number-in Baudot50 = refl
-number-in Dtmf = refl
-number-in Edt = refl
-
--- those that wait are as many as the number says
-count-is : (s : Station) → length (s .chars) ≡ 256 → inRange s ≡ true
-    → length (waitingOf (queueOf s)) ≡ s .core .waiting
-count-is s full i = let h = core-in s i .waiting-in in length-take-le (s .core .waiting) (s .chars) (omega arith)
-
 heads : (mode : Mode) (n : ℕ) (cs : List ℕ) → n ≤ length cs
     → (1 ≤ n → isCode (sends (alphabetOf mode) (getD cs 0 0)) ≡ true) → Heads mode n (getD cs 0 0) (take n cs)
 heads mode zero cs h w = none (getD cs 0 0)
@@ -115,7 +104,7 @@ module _ (mode : Mode) (s : Station) (m : Model) (r : Reader) (h : Like mode s m
   mode-same = ap modeOf (h .mode-is) ∙ mode-of mode
 
   pub count-same : s .core .waiting ≡ length (m .waiting)
-  count-same = sym (count-is s (h .full) (h .in-range)) ∙ ap length (sym (h .waiting-is))
+  count-same = sym (waiting-count s (h .in-range) (h .full)) ∙ ap length (sym (h .waiting-is))
 
   front-sends : 1 ≤ s .core .waiting → isCode (sends (alphabetOf mode) (front s)) ≡ true
   front-sends o =
@@ -217,7 +206,7 @@ module _ (mode : Mode) (s : Station) (m : Model) (r : Reader) (h : Like mode s m
       let b = core.beginsIn (s .core) in
       let e = core.endsIn (s .core) (settledOf b s) in
       ap mayEnd
-      (sym (count-is (stationMs s heard) (ms-full s heard (h .full)) i) ∙ ap length (sym (waiting-after b e heard))
+      (sym (waiting-count (stationMs s heard) i (ms-full s heard (h .full))) ∙ ap length (sym (waiting-after b e heard))
       ∙ ap (λ (b : Bool). length (loadBy b mode m .waiting)) begins-same)
 
   module _ (heard : ℕ) where

@@ -5,7 +5,7 @@ use mathlib.Core.List.{List}
 use Prim.Native.Nat.{ℕ, zero, suc, _+_, _-_, _≤_, _<_}
 use native.Mathlib.Omega.{arith}
 use lib.Dec.{eqb, leb, ltb}
-use lib.Seq.{length-take-le, getD-take}
+use lib.Seq.{getD-take}
 use lib.ListN.{length, getD, take, drop, length-replicate}
 use borrow.Author.Tests.{not-false, eqb-true, eqb-false, ne-eqb, leb-true, leb-false, ltb-true, lt-ltb}
 use Rattle.lists.specs.Steps.{stateAfter}
@@ -23,12 +23,12 @@ use Rattle.burst.proofs.Laws as line
 use Rattle.burst.proofs.Laws.{begun-same, begun-first}
 use Rattle.burst.proofs.Range.{next-takes}
 use Rattle.half_duplex.specs.Core.{settled, coreFrom, waitingAfter, silenceAfter}
-use Rattle.queue.specs.Queue.{allWait, waitingOf, taken, inRange as queueIn}
+use Rattle.queue.specs.Queue.{waitingOf, taken}
 use Rattle.queue.proofs.Laws.{waiting-taken}
 use Rattle.station.specs.declared.Station.{Station}
 use Rattle.station.specs.Station.{modeOfStation, queueOf, front, charsAfter, stationMs, stationAfter}
 use Rattle.station.specs.Range.{inRange}
-use Rattle.station.proofs.Range.{station-in, core-in, ms-in, ms-full}
+use Rattle.station.proofs.Range.{core-in, all-waiting, waiting-count, ms-in, ms-full}
 use Rattle.preview.specs.Preview.{isIdle, quietFor, IdleIn}
 use Rattle.preview.specs.code.Count.{behindMs, partLeft, aheadMs, someMs, leftOf, msLeft}
 use Rattle.preview.proofs.Lowers.{burstLeft, some-is, left-burst, some-behind, burst-lowers}
@@ -84,11 +84,7 @@ module _ (s : Station) (full : length (s .chars) ≡ 256) (i : inRange s ≡ tru
   few = core-in s i .waiting-in
 
   cs-length : length cs ≡ n
-  cs-length = let f = few in length-take-le n (s .chars) (omega arith)
-
-  all-wait : allWait (alphabetOf mode) cs ≡ true
-  unfolding queueIn
-  all-wait = and-right (leb n 256) (allWait (alphabetOf mode) cs) (station-in s i .queue-in)
+  cs-length = waiting-count s i full
 
   front-first : 1 ≤ length cs → front s ≡ getD cs 0 0
   front-first o = let e = cs-length in sym (getD-take n (s .chars) 0 0 (omega arith))
@@ -120,8 +116,8 @@ module _ (s : Station) (full : length (s .chars) ≡ 256) (i : inRange s ≡ tru
   in-burst : (k : OnLine) → inBurst k ≡ true → msLeft s ≡ someMs (burstLeft mode k (s .core .sender) cs) → From k
   in-burst k b left =
       let q = nextCode mode n (front s) k (s .core .sender) in
-      let g = rw cs-length at (burst-lowers mode k (s .core .sender) (front s) cs b (core-in s i .sender-in) all-wait
-      front-first) in
+      let g = rw cs-length at (burst-lowers mode k (s .core .sender) (front s) cs b (core-in s i .sender-in)
+      (all-waiting s i) front-first) in
       let e = left-chars (q .takes) (next-takes mode n (front s) k (s .core .sender)) in
       rw (e, left) (g (silenceBy q))
 
@@ -153,7 +149,7 @@ module _ (s : Station) (full : length (s .chars) ≡ 256) (i : inRange s ≡ tru
       let z = eqb-false n 0 e in
       let f = cs-length in
       let k = behindMs mode (begun true l) (s .core .sender) cs in
-      let m = some-behind mode (begun true l) (s .core .sender) cs (omega (arith, z)) all-wait in
+      let m = some-behind mode (begun true l) (s .core .sender) cs (omega (arith, z)) (all-waiting s i) in
       let d =
       some-less (freeMs - (silence + 1) + preambleOf mode + k) (freeMs - silence + preambleOf mode + k)
       (omega arith) (omega arith) in

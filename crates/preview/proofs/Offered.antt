@@ -7,7 +7,6 @@ use native.Mathlib.Nat.{mul-le-mul}
 use native.Mathlib.Omega.{arith}
 use lib.Dec.{eqb, leb}
 use lib.ListN.{length}
-use lib.Seq.{length-take-le}
 use Rattle.lists.specs.Lists.{allAtMost}
 use Rattle.lists.specs.Steps.{stateAfter}
 use Rattle.lists.proofs.Lists.{and-left, and-right, both, at-most-append}
@@ -21,12 +20,12 @@ use Rattle.baudot.specs.Sending.{sender}
 use Rattle.burst.specs.declared.OnLine.{OnLine}
 use Rattle.burst.specs.Rules.{openingShift}
 use Rattle.burst.specs.Line.{begun}
-use Rattle.queue.specs.Queue.{waits, waiters, allWait, waitingOf, inRange as queueIn}
+use Rattle.queue.specs.Queue.{waits, waiters, allWait, waitingOf}
 use Rattle.queue.proofs.Laws.{waiters-wait, wait-append, waiting-offered}
 use Rattle.station.specs.declared.Station.{Station}
 use Rattle.station.specs.Station.{modeOfStation, queueOf, offeredTo}
 use Rattle.station.specs.Entries.{offerAnswer}
-use Rattle.station.proofs.Range.{station-in, core-in, accepted, offered-in, offered-full}
+use Rattle.station.proofs.Range.{core-in, all-waiting, waiting-count, accepted, offered-in, offered-full}
 use Rattle.preview.specs.Preview.{isIdle, IdleIn}
 use Rattle.preview.specs.code.Count.{charsMs, behindMs, aheadMs, someMs, msLeft}
 use Rattle.preview.proofs.Idle.{idle-in}
@@ -35,7 +34,7 @@ use Rattle.preview.proofs.Most.{behind-most}
 
 -- those that wait, and those of a text behind them
 module _ (a : Alphabet) where
-  all-waiters : (cs text : List ℕ) → allWait a cs ≡ true → waiters a (cs ++ text) ≡ cs ++ waiters a text
+  pub all-waiters : (cs text : List ℕ) → allWait a cs ≡ true → waiters a (cs ++ text) ≡ cs ++ waiters a text
   unfolding waiters allWait
   all-waiters [] text w = refl
   all-waiters (c ∷ cs) text w =
@@ -66,10 +65,7 @@ module _ (s : Station) (text : List ℕ) (full : length (s .chars) ≡ 256) (z :
   after = offeredTo s text
 
   own-wait : allWait (alphabetOf mode) own ≡ true
-  unfolding queueIn
-  own-wait =
-      let i = station-in s (accepted s text z .in-range) .queue-in in
-      and-right (leb (s .core .waiting) 256) (allWait (alphabetOf mode) own) i
+  own-wait = all-waiting s (accepted s text z .in-range)
 
   pub chars-low : allChars (own ++ text) ≡ true
   chars-low = at-most-append 0x7f own text (all-chars (alphabetOf mode) own own-wait) (accepted s text z .chars)
@@ -96,9 +92,9 @@ module _ (s : Station) (text : List ℕ) (full : length (s .chars) ≡ 256) (z :
   pub behind-few : (l : OnLine) → behindMs mode l (s .core .sender) (own ++ text) ≤ 250_000
   behind-few l =
       let cs = waitingOf (queueOf after) in
-      let c = core-in after (offered-in s text full z) .waiting-in in
-      let f = offered-full s text full in
-      let n = length-take-le (after .core .waiting) (after .chars) (omega arith) in
+      let i = offered-in s text full z in
+      let c = core-in after i .waiting-in in
+      let n = waiting-count after i (offered-full s text full) in
       let e = behind-same l (s .core .sender) in
       let j = core-in s (accepted s text z .in-range) .sender-in in
       let m = behind-most mode l (s .core .sender) j cs waiting-low in

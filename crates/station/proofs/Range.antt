@@ -6,7 +6,7 @@ use Prim.Native.Nat.{ℕ, zero, suc, _-_, _<_, _≤_}
 use native.Mathlib.Omega.{arith}
 use lib.Dec.{eqb, leb}
 use lib.ListN.{length, getD, take, length-append, length-drop}
-use lib.Seq.{length-sets}
+use lib.Seq.{length-sets, length-take-le}
 use borrow.Author.Tests.{eqb-true, leb-true}
 use Rattle.lists.specs.Lists.{allAtMost}
 use Rattle.lists.specs.Steps.{stateAfter}
@@ -15,7 +15,7 @@ use Rattle.alphabet.specs.declared.Alphabet.{Alphabet}
 use Rattle.alphabet.specs.declared.Alphabet.the-variants.{Baudot, Dtmf as dtmf, Edt as edt}
 use Rattle.alphabet.specs.declared.Mode.{Mode}
 use Rattle.alphabet.specs.declared.Mode.the-variants.{Baudot45, Baudot50, Dtmf, Edt}
-use Rattle.alphabet.specs.Modes.{highestLevel}
+use Rattle.alphabet.specs.Modes.{modeNumber, highestLevel}
 use Rattle.alphabet.specs.Normal.{sends, allChars}
 use Rattle.alphabet.specs.Normal.{isCode}
 use Rattle.reader.specs.declared.Reader.{Reader}
@@ -69,6 +69,19 @@ station-is s h = rw (half.core-is (s .core) (h .mode-low) (h .mode-in) (h .core-
 pub core-in : (s : Station) → inRange s ≡ true → CoreIn (s .core)
 core-in s e = station-in s e .core-in
 
+-- ---- those that wait
+
+module _ (s : Station) (i : inRange s ≡ true) where
+  pub all-waiting : allWait (alphabetOfStation s) (waitingOf (queueOf s)) ≡ true
+  unfolding queueIn
+  all-waiting =
+      and-right (leb (s .core .waiting) 256) (allWait (alphabetOfStation s) (waitingOf (queueOf s)))
+      (station-in s i .queue-in)
+
+  -- as many as the number says
+  pub waiting-count : length (s .chars) ≡ 256 → length (waitingOf (queueOf s)) ≡ s .core .waiting
+  waiting-count full = let h = core-in s i .waiting-in in length-take-le (s .core .waiting) (s .chars) (omega arith)
+
 -- ---- the one in front
 
 pub char-in : (a : Alphabet) (c : ℕ) → waits a c ≡ true → c < 128
@@ -86,10 +99,7 @@ module _ (s : Station) (full : length (s .chars) ≡ 256) (i : inRange s ≡ tru
   a = alphabetOfStation s
 
   pub front-waits : 1 ≤ s .core .waiting → waits a (front s) ≡ true
-  unfolding queueIn
-  front-waits o =
-      let w = and-right (leb (s .core .waiting) 256) (allWait a (waitingOf (queueOf s))) (station-in s i .queue-in) in
-      first-waits a (s .core .waiting) (s .chars) o (omega arith) w
+  front-waits o = first-waits a (s .core .waiting) (s .chars) o (omega arith) (all-waiting s i)
 
   pub front-in : 1 ≤ s .core .waiting → front s < 128
   front-in o = char-in a (front s) (front-waits o)
@@ -114,6 +124,12 @@ fresh-in mode e =
       mode-in = leb-true mode 4 (and-right (leb 1 mode) (leb mode 4) e);
       queue-in = refl;
     })
+
+pub number-in : (mode : Mode) → isMode (modeNumber mode) ≡ true
+number-in Baudot45 = refl
+number-in Baudot50 = refl
+number-in Dtmf = refl
+number-in Edt = refl
 
 pub fresh-full : (mode : ℕ) → length (freshStation mode .chars) ≡ 256
 unfolding freshStation

@@ -5,9 +5,8 @@ use mathlib.Core.List.{List}
 use Prim.Native.Nat.{ℕ, _+_, _*_, _-_, _≤_, max}
 use native.Mathlib.Nat.{mul-le-mul-left, mul-add}
 use native.Mathlib.Omega.{arith}
-use lib.Dec.{eqb, leb}
+use lib.Dec.{eqb}
 use lib.ListN.{length, length-replicate}
-use lib.Seq.{length-take-le}
 use borrow.Author.Tests.{eqb-true, eqb-false, ne-eqb}
 use Rattle.lists.proofs.Lists.{either, either-by, by-test, and-left, and-right}
 use Rattle.alphabet.specs.declared.Alphabet.{Alphabet}
@@ -32,11 +31,11 @@ use Rattle.burst.specs.Line.{onLine, inBurst, isCode, partMs, isOpening}
 use Rattle.burst.specs.code.Bounds.{LineIn}
 use Rattle.burst.proofs.Range.{opening-in}
 use Rattle.burst.proofs.Laws.{opening-some, begun-first}
-use Rattle.queue.specs.Queue.{allWait, waitingOf, inRange as queueIn}
+use Rattle.queue.specs.Queue.{allWait, waitingOf}
 use Rattle.station.specs.declared.Station.{Station}
 use Rattle.station.specs.Station.{modeOfStation, queueOf, offeredTo}
 use Rattle.station.specs.Entries.{offerAnswer}
-use Rattle.station.proofs.Range.{station-in, core-in, offered-in, offered-full}
+use Rattle.station.proofs.Range.{core-in, all-waiting, waiting-count, offered-in, offered-full}
 use Rattle.preview.specs.code.Count.{charsMs, behindMs, someMs, msLeft}
 use Rattle.preview.proofs.Idle.{idle-in}
 use Rattle.preview.proofs.Lowers.{left-burst, some-is, some-behind}
@@ -133,14 +132,10 @@ module _ (s : Station) (ms : ℕ) (c : Counted s ms) where
   count-is = in-one-number s ms (msLeft s) (c .idle-in) (idle-in s (c .full) (c .in-range))
 
   pub waiting-length : length cs ≡ n
-  waiting-length =
-      let f = core-in s (c .in-range) .waiting-in in
-      let e = c .full in
-      length-take-le n (s .chars) (omega arith)
+  waiting-length = waiting-count s (c .in-range) (c .full)
 
   pub waiting-wait : allWait (alphabetOf mode) cs ≡ true
-  unfolding queueIn
-  waiting-wait = and-right (leb n 256) (allWait (alphabetOf mode) cs) (station-in s (c .in-range) .queue-in)
+  waiting-wait = all-waiting s (c .in-range)
 
   behind : (l : OnLine) → behindMs mode l (s .core .sender) cs ≤ mostBehind mode l (s .core .sender) n
   behind l =

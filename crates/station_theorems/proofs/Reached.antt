@@ -1,8 +1,9 @@
 -- The ceiling on sending time is reached: for each number of characters by a text, in EDT by every text.
 use mathlib.Core.Path.{_≡_, _∙_, refl, sym, ap, subst}
 use mathlib.Core.Bool.{Bool, true, false, cond, not, false≢true}
-use mathlib.Core.List.{List, [], _∷_, _++_}
+use mathlib.Core.List.{List, [], _∷_, _++_, append-nil}
 use Prim.Native.Nat.{ℕ, zero, suc, _+_, _*_, _≤_}
+use native.Mathlib.Nat.{mul-add}
 use native.Mathlib.Omega.{arith}
 use lib.Dec.{eqb, leb}
 use lib.ListN.{length, take, replicate, length-append, length-replicate}
@@ -26,7 +27,7 @@ use Rattle.alphabet.specs.TableB2.{b2}
 use Rattle.baudot.specs.declared.Sender.{Sender}
 use Rattle.baudot.specs.Sending.{sender, shiftCode, wanted, codesFor, senderFor, codesOf}
 use Rattle.signal.specs.Signal.{signal, signals}
-use Rattle.signal.proofs.Lengths.{baudot-165, baudot-150, dtmf-120, edt-100}
+use Rattle.signal.proofs.Lengths.{signals-each, baudot-165, baudot-150, dtmf-120, edt-100}
 use Rattle.burst.specs.Rules.{openingShift}
 use Rattle.burst.specs.declared.OnLine.{OnLine}
 use Rattle.burst.specs.Line.{onLine, inBurst}
@@ -35,14 +36,14 @@ use Rattle.queue.proofs.Laws.{waiting-offered}
 use Rattle.station.specs.declared.Station.{Station}
 use Rattle.station.specs.Station.{modeOfStation, alphabetOfStation, queueOf, offeredTo, freshStation}
 use Rattle.station.specs.Range.{inRange}
-use Rattle.station.specs.Entries.{isMode, offerAnswer}
-use Rattle.station.proofs.Range.{core-in, offered-in, offered-full, fresh-in, fresh-full}
+use Rattle.station.specs.Entries.{offerAnswer}
+use Rattle.station.proofs.Range.{core-in, offered-in, offered-full, fresh-in, number-in, fresh-full}
 use Rattle.preview.specs.Preview.{IdleIn}
-use Rattle.preview.specs.code.Count.{charsMs, behindMs, msLeft}
+use Rattle.preview.specs.code.Count.{codeMs, charsMs, behindMs, msLeft}
 use Rattle.preview.proofs.Idle.{idle-in}
 use Rattle.preview.proofs.Lowers.{left-burst, some-is, some-behind}
 use Rattle.preview.proofs.Most.{chars-each}
-use Rattle.preview.proofs.Offered.{all-chars}
+use Rattle.preview.proofs.Offered.{all-waiters, all-chars}
 use Rattle.station_theorems.specs.Ceiling.{ceiling, Counted, ceilingNotFree, partLeft, ceilingInBurst, otherShift, inTurn}
 use Rattle.station_theorems.specs.Ceiling.{longestText, textFor, Reaches, Reached, ReachedNotFree, ReachedInBurst, EdtAlways}
 use Rattle.station_theorems.proofs.Ceiling.{mostBehind, count-is, waiting-length, waiting-wait, first-left}
@@ -57,7 +58,7 @@ a-sends : sends Baudot 0x41 ≡ Code 1 (record { 0 = 0b00011 })
 unfolding sends sendBaudot printedAt rows leftRows rightRows a2 bits bitsFrom
 a-sends = refl
 
--- ##*1: the prefix ##* is the 13th
+-- ##*1: 16 times 13, the number of the prefix ##*, and 1
 a-keys : sends dtmf 0x41 ≡ Code 3 (record { 0 = 209 })
 unfolding sends sendDtmf sendFrom sendIn hasRow printedAt rows leftRows rightRows b1 b2 bits bitsFrom keys withMark
     codeFrom marksThenDigit among notStruck remaining names firstSign named
@@ -70,11 +71,8 @@ four-keys = refl
 -- ---- a text whose characters all wait
 
 waiters-all : (a : Alphabet) (cs : List ℕ) → allWait a cs ≡ true → waiters a cs ≡ cs
-unfolding waiters allWait
-waiters-all a [] w = refl
-waiters-all a (c ∷ cs) w =
-    rw (and-left (waits a c) (allWait a cs) w)
-    (ap (λ (l : List ℕ). c ∷ l) (waiters-all a cs (and-right (waits a c) (allWait a cs) w)))
+unfolding waiters
+waiters-all a cs w = rw (append-nil cs) at (all-waiters a cs [] w)
 
 own-all : (a : Alphabet) (cs : List ℕ) → allWait a cs ≡ true → length (ownCodes a cs) ≡ length cs
 unfolding ownCodes allWait
@@ -182,33 +180,37 @@ longText mode s n = longestText (alphabetOf mode) (s .shift) n
 no-more : (b : Bool) → cond {A = ℕ} b 0 0 ≡ 0
 no-more b = either (λ (k : ℕ). k ≡ 0) b 0 0 refl refl
 
+-- in a mode of Baudot, whose codes have m ms each: with the code that opens the burst, and behind it
+module _ (mode : Mode) (m : ℕ) (each : (k : ℕ) → codeMs mode k ≡ m) (s : Sender) (h : s .shift ≤ 2) (n : ℕ) where
+  opening-ms : codeMs mode (shiftCode (openingShift s))
+      + length (signals mode (codesOf (sender (openingShift s) 0) (inTurn (s .shift) n)))
+      ≡ m * (2 * n + 1)
+  opening-ms =
+      let o = each (shiftCode (openingShift s)) in
+      let c = signals-each mode m each (codesOf (sender (openingShift s) 0) (inTurn (s .shift) n)) in
+      let t = ap (λ (k : ℕ). m * k) (opened-each n (s .shift) h) in
+      let d = mul-add m (2 * n) 1 in
+      omega arith
+
+  later-ms : 1 ≤ n
+      → length (signals mode (codesOf s (inTurn (s .shift) n))) ≡ m * (2 * n + cond (not (eqb (s .shift) 0)) 0 1)
+  later-ms o =
+      signals-each mode m each (codesOf s (inTurn (s .shift) n))
+      ∙ ap (λ (k : ℕ). m * k) (later-each n (s .shift) (s .count) h o)
+
 preamble-reached : (mode : Mode) (l : OnLine) (s : Sender) (n : ℕ) → l .part ≡ 1 → s .shift ≤ 2
     → behindMs mode l s (longText mode s n) ≡ mostBehind mode l s n
 unfolding charsMs
-preamble-reached Baudot45 l s n p h =
-    let c = chars-each Baudot45 baudot-165 (sender (openingShift s) 0) (inTurn (s .shift) n) in
-    let o = baudot-165 (shiftCode (openingShift s)) in
-    let t = opened-each n (s .shift) h in
-    rw p (omega arith)
-preamble-reached Baudot50 l s n p h =
-    let c = chars-each Baudot50 baudot-150 (sender (openingShift s) 0) (inTurn (s .shift) n) in
-    let o = baudot-150 (shiftCode (openingShift s)) in
-    let t = opened-each n (s .shift) h in
-    rw p (omega arith)
+preamble-reached Baudot45 l s n p h = rw p (opening-ms Baudot45 165 baudot-165 s h n)
+preamble-reached Baudot50 l s n p h = rw p (opening-ms Baudot50 150 baudot-150 s h n)
 preamble-reached Dtmf l s n p h = let k = keys-each n in rw p (omega arith)
 preamble-reached Edt l s n p h = let k = own-each n s in rw p (omega arith)
 
 code-reached : (mode : Mode) (l : OnLine) (s : Sender) (n : ℕ) → l .part ≡ 2 → s .shift ≤ 2 → 1 ≤ n
     → behindMs mode l s (longText mode s n) ≡ mostBehind mode l s n
 unfolding charsMs
-code-reached Baudot45 l s n p h o =
-    let c = chars-each Baudot45 baudot-165 s (inTurn (s .shift) n) in
-    let t = later-each n (s .shift) (s .count) h o in
-    rw p (omega arith)
-code-reached Baudot50 l s n p h o =
-    let c = chars-each Baudot50 baudot-150 s (inTurn (s .shift) n) in
-    let t = later-each n (s .shift) (s .count) h o in
-    rw p (omega arith)
+code-reached Baudot45 l s n p h o = rw p (later-ms Baudot45 165 baudot-165 s h n o)
+code-reached Baudot50 l s n p h o = rw p (later-ms Baudot50 150 baudot-150 s h n o)
 code-reached Dtmf l s n p h o =
     let k = keys-each n in
     let z = no-more (not (eqb (s .shift) 0)) in
@@ -316,12 +318,6 @@ module _ (s : Station) (full : length (s .chars) ≡ 256) (i : inRange s ≡ tru
 
 -- ---- the statements
 
-mode-number : (mode : Mode) → isMode (modeNumber mode) ≡ true
-mode-number Baudot45 = refl
-mode-number Baudot50 = refl
-mode-number Dtmf = refl
-mode-number Edt = refl
-
 pub reached-not-free : ReachedNotFree
 reached-not-free s full i b none n low high =
     reaches s full i none n low high (ceilingNotFree s n) (not-free s full i none n low high b)
@@ -343,7 +339,7 @@ reached mode n low high =
     let m = modeNumber mode in
     let s = freshStation m in
     subst (Reaches s n) (fresh-ceiling mode n)
-    (reached-not-free s (fresh-full m) (fresh-in m (mode-number mode)) refl refl n low high)
+    (reached-not-free s (fresh-full m) (fresh-in m (number-in mode)) refl refl n low high)
 
 -- in EDT all codes have 100 ms, and each that waits has one
 edt-behind : (mode : Mode) → mode ≡ Edt → (s : Sender) (cs : List ℕ) → allWait (alphabetOf mode) cs ≡ true
