@@ -1,13 +1,13 @@
 -- How many codes a text has.
 use mathlib.Core.Path.{_≡_, refl}
-use mathlib.Core.Bool.{true, false≢true}
+use mathlib.Core.Bool.{true, cond, not, false≢true}
 use mathlib.Core.List.{List, [], _∷_, _++_}
 use Prim.Native.Nat.{ℕ, _+_, _*_, _≤_}
 use native.Mathlib.Omega.{arith}
 use lib.Dec.{eqb}
 use lib.ListN.{length, length-append}
 use borrow.Author.Tests.{eqb-true, eqb-false}
-use Rattle.lists.proofs.Lists.{by-test}
+use Rattle.lists.proofs.Lists.{either, by-test}
 use Rattle.alphabet.specs.declared.Alphabet.{Alphabet}
 use Rattle.alphabet.specs.declared.Alphabet.the-variants.{Baudot, Dtmf, Edt}
 use Rattle.alphabet.specs.declared.Sends.{Sends}
@@ -30,15 +30,23 @@ own-most a (c ∷ cs) = go (sends a c) (own-most a cs)
     go Nothing i = omega arith
     go (Code own k) i = omega arith
 
--- in each alphabet: two for each character, and one more
-pub text-most : (a : Alphabet) (s : Sender) (cs : List ℕ) → SenderIn s → allChars cs ≡ true
-    → length (textCodes a s cs) ≤ 2 * length cs + 1
-text-most Baudot s cs i t =
-    by-test (eqb (s .shift) 0) (λ e. fresh-bound cs t s (eqb-true (s .shift) 0 e))
+-- in Baudot two for each character, and one more from a fresh sender
+pub baudot-most : (s : Sender) (cs : List ℕ) → SenderIn s → allChars cs ≡ true
+    → length (codesOf s cs) ≤ 2 * length cs + cond (not (eqb (s .shift) 0)) 0 1
+baudot-most s cs i t =
+    by-test (eqb (s .shift) 0) (λ e. rw e (fresh-bound cs t s (eqb-true (s .shift) 0 e)))
     (λ e.
     let r = running-from s i (eqb-false (s .shift) 0 e) in
     let m = codes-twice s cs t (λ _. r) in
-    omega arith)
+    rw e (omega arith))
+
+-- so many in each alphabet
+pub text-most : (a : Alphabet) (s : Sender) (cs : List ℕ) → SenderIn s → allChars cs ≡ true
+    → length (textCodes a s cs) ≤ 2 * length cs + 1
+text-most Baudot s cs i t =
+    let m = baudot-most s cs i t in
+    let o = either (λ (n : ℕ). n ≤ 1) (not (eqb (s .shift) 0)) 0 1 (omega arith) (omega arith) in
+    omega arith
 text-most Dtmf s cs i t = let m = own-most Dtmf cs in omega arith
 text-most Edt s cs i t = let m = own-most Edt cs in omega arith
 

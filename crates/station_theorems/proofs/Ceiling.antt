@@ -20,9 +20,7 @@ use Rattle.baudot.specs.declared.Sender.{Sender}
 use Rattle.baudot.specs.Sending.{sender}
 use Rattle.baudot.specs.Text.{textCodes}
 use Rattle.baudot.specs.code.Bounds.{SenderIn}
-use Rattle.baudot.proofs.SendingRule.{codes-twice}
-use Rattle.baudot.proofs.Fresh.{fresh-bound, running-from}
-use Rattle.baudot.proofs.Text.{own-most}
+use Rattle.baudot.proofs.Text.{own-most, baudot-most}
 use Rattle.signal.specs.Signal.{mark}
 use Rattle.signal.proofs.Lengths.{within-longest}
 use Rattle.burst.specs.declared.OnLine.{OnLine}
@@ -54,13 +52,7 @@ firstCodes a s = cond (not (eqb (s .shift) 0)) 0 (openingCodes a)
 
 codes-within : (a : Alphabet) (s : Sender) (cs : List ℕ) → SenderIn s → allChars cs ≡ true
     → length (textCodes a s cs) ≤ mostCodes a (length cs) + firstCodes a s
-codes-within Baudot s cs i t =
-    by-test (eqb (s .shift) 0)
-    (λ e. rw e (fresh-bound cs t s (eqb-true (s .shift) 0 e)))
-    (λ e.
-    let r = running-from s i (eqb-false (s .shift) 0 e) in
-    let m = codes-twice s cs t (λ _. r) in
-    rw e (omega arith))
+codes-within Baudot s cs i t = baudot-most s cs i t
 codes-within dtmf s cs i t = let m = own-most dtmf cs in omega arith
 codes-within edt s cs i t = let m = own-most edt cs in omega arith
 

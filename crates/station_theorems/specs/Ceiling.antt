@@ -41,8 +41,8 @@ pub record InNumbers : Type 0 where
   pub dtmf : (n : ℕ) → ceiling Dtmf n ≡ 480 * n
   pub edt : (n : ℕ) → ceiling Edt n ≡ 300 + 100 * n
 
--- A station in range (with its 256 places), and the ms in which it becomes idle on a quiet line. What a preview counts:
--- such a station is the one that was offered the text.
+-- The count of #106: the ms in which a station in range (with its 256 places) becomes idle on a quiet line. Of a
+-- preview that succeeds, the station is the one that was offered the text.
 pub record Counted (s : Station) (ms : ℕ) : Type 0 where
   pub full : length (s .chars) ≡ 256
   pub in-range : inRange s ≡ true
