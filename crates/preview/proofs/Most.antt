@@ -1,13 +1,14 @@
 -- The ms of the codes that characters send, at most: as many of the longest as there are codes.
 use mathlib.Core.Path.{_≡_}
-use mathlib.Core.Bool.{true}
+use mathlib.Core.Bool.{true, cond}
 use mathlib.Core.List.{List, [], _∷_, _++_}
 use Prim.Native.Nat.{ℕ, _+_, _*_, _≤_}
-use native.Mathlib.Nat.{mul-le-mul-left, mul-add}
+use native.Mathlib.Nat.{mul-add}
 use native.Mathlib.Omega.{arith}
 use lib.Dec.{eqb}
 use lib.ListN.{length, length-append}
-use Rattle.lists.proofs.Lists.{either, at-most-head, at-most-tail}
+use Rattle.lists.proofs.Lists.{either, by-test, at-most-head, at-most-tail}
+use Rattle.alphabet.specs.declared.Alphabet.{Alphabet}
 use Rattle.alphabet.specs.declared.Alphabet.the-variants.{Dtmf as dtmf}
 use Rattle.alphabet.specs.declared.Mode.{Mode}
 use Rattle.alphabet.specs.declared.Mode.the-variants.{Baudot45, Baudot50, Dtmf, Edt}
@@ -32,7 +33,7 @@ use Rattle.preview.specs.code.Count.{codeMs, charsMs, behindMs}
 
 -- ---- codes, one by one
 
-pub shift-most : (mode : Mode) (w : ℕ) → codeMs mode (shiftCode w) ≤ longest mode
+shift-most : (mode : Mode) (w : ℕ) → codeMs mode (shiftCode w) ≤ longest mode
 shift-most mode w =
     let f = within-longest mode 0b11011 (omega arith) in
     let l = within-longest mode 0b11111 (omega arith) in
@@ -65,7 +66,7 @@ pub chars-each : (mode : Mode) → ((k : ℕ) → codeMs mode k ≡ longest mode
 unfolding charsMs
 chars-each mode each s cs = signals-each mode (longest mode) each (textCodes (alphabetOf mode) s cs)
 
-pub chars-longest : (mode : Mode) (s : Sender) (cs : List ℕ) → allChars cs ≡ true
+chars-longest : (mode : Mode) (s : Sender) (cs : List ℕ) → allChars cs ≡ true
     → charsMs mode s cs ≤ longest mode * length (textCodes (alphabetOf mode) s cs)
 unfolding charsMs
 chars-longest Baudot45 s cs h = let e = chars-each Baudot45 baudot-165 s cs in omega arith
@@ -73,21 +74,33 @@ chars-longest Baudot50 s cs h = let e = chars-each Baudot50 baudot-150 s cs in o
 chars-longest Dtmf s cs h = keys-most cs h
 chars-longest Edt s cs h = let e = chars-each Edt edt-100 s cs in omega arith
 
--- behind what is on the line: two for each character, and two more
-pub behind-most : (mode : Mode) (l : OnLine) (s : Sender) → SenderIn s → (cs : List ℕ) → allChars cs ≡ true
-    → behindMs mode l s cs ≤ longest mode * (2 * length cs + 2)
-behind-most mode l s j cs h =
+-- ---- behind what is on the line
+
+-- how many codes there are, with the one that opens the burst where it is to come
+abbrev pub codesBehind : Alphabet → OnLine → Sender → List ℕ → ℕ
+codesBehind a l s cs =
+    cond (isOpening a l) (1 + length (textCodes a (sender (openingShift s) 0) cs)) (length (textCodes a s cs))
+
+pub behind-longest : (mode : Mode) (l : OnLine) (s : Sender) (cs : List ℕ) → allChars cs ≡ true
+    → behindMs mode l s cs ≤ longest mode * codesBehind (alphabetOf mode) l s cs
+behind-longest mode l s cs h =
     let a = alphabetOf mode in
     let v = openingShift s in
-    let n = 2 * length cs + 1 in
-    let t : SenderIn (sender v 0) = record { shift-in = opening-in s (j .shift-in); count-in = omega arith } in
-    let d = mul-add (longest mode) n 1 in
-    let most : (u : Sender) → SenderIn u → charsMs mode u cs ≤ longest mode * n =
-    λ u i.
-    let e = chars-longest mode u cs h in
-    let m = mul-le-mul-left (longest mode) (text-most a u cs i h) in
-    omega arith in
-    let p = most (sender v 0) t in
-    let q = most s j in
+    by-test (isOpening a l)
+    (λ o.
     let m = shift-most mode v in
-    either (λ (k : ℕ). k ≤ longest mode * (2 * length cs + 2)) (isOpening a l) _ _ (omega arith) (omega arith)
+    let c = chars-longest mode (sender v 0) cs h in
+    let d = mul-add (longest mode) 1 (length (textCodes a (sender v 0) cs)) in
+    rw o (omega arith))
+    (λ o. rw o (chars-longest mode s cs h))
+
+-- two for each character, and two more
+pub opening-sender : (s : Sender) → SenderIn s → SenderIn (sender (openingShift s) 0)
+opening-sender s j = record { shift-in = opening-in s (j .shift-in); count-in = omega arith }
+
+pub behind-most : (a : Alphabet) (l : OnLine) (s : Sender) → SenderIn s → (cs : List ℕ) → allChars cs ≡ true
+    → codesBehind a l s cs ≤ 2 * length cs + 2
+behind-most a l s j cs h =
+    let p = text-most a (sender (openingShift s) 0) cs (opening-sender s j) h in
+    let q = text-most a s cs j h in
+    either (λ (k : ℕ). k ≤ 2 * length cs + 2) (isOpening a l) _ _ (omega arith) (omega arith)

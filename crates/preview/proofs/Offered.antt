@@ -2,7 +2,7 @@
 use mathlib.Core.Path.{_≡_, _∙_, refl, sym, ap, subst}
 use mathlib.Core.Bool.{Bool, true, false, not, _&&_}
 use mathlib.Core.List.{List, [], _∷_, _++_}
-use Prim.Native.Nat.{ℕ, _+_, _*_, _≤_}
+use Prim.Native.Nat.{ℕ, _+_, _≤_}
 use native.Mathlib.Nat.{mul-le-mul}
 use native.Mathlib.Omega.{arith}
 use lib.Dec.{eqb, leb}
@@ -21,7 +21,7 @@ use Rattle.burst.specs.declared.OnLine.{OnLine}
 use Rattle.burst.specs.Rules.{openingShift}
 use Rattle.burst.specs.Line.{begun}
 use Rattle.queue.specs.Queue.{waits, waiters, allWait, waitingOf}
-use Rattle.queue.proofs.Laws.{waiters-wait, wait-append, waiting-offered}
+use Rattle.queue.proofs.Laws.{waiting-offered}
 use Rattle.station.specs.declared.Station.{Station}
 use Rattle.station.specs.Station.{modeOfStation, queueOf, offeredTo}
 use Rattle.station.specs.Entries.{offerAnswer}
@@ -30,7 +30,7 @@ use Rattle.preview.specs.Preview.{isIdle, IdleIn}
 use Rattle.preview.specs.code.Count.{charsMs, behindMs, aheadMs, someMs, msLeft}
 use Rattle.preview.proofs.Idle.{idle-in}
 use Rattle.preview.proofs.Counting.{chars-waiters}
-use Rattle.preview.proofs.Most.{behind-most}
+use Rattle.preview.proofs.Most.{codesBehind, behind-longest, behind-most}
 
 -- those that wait, and those of a text behind them
 module _ (a : Alphabet) where
@@ -84,10 +84,9 @@ module _ (s : Station) (text : List ℕ) (full : length (s .chars) ≡ 256) (z :
   behind-same l t = rw (chars-same t, chars-same (sender (openingShift t) 0)) refl
 
   waiting-low : allChars (waitingOf (queueOf after)) ≡ true
+  unfolding offeredTo
   waiting-low =
-      let a = alphabetOf mode in
-      let w = wait-append a own (waiters a text) own-wait (waiters-wait a text) in
-      all-chars a (waitingOf (queueOf after)) (ap (allWait a) waiting-is ∙ w)
+      all-chars (alphabetOf mode) (waitingOf (queueOf after)) (all-waiting after (offered-in s text full z))
 
   pub behind-few : (l : OnLine) → behindMs mode l (s .core .sender) (own ++ text) ≤ 250_000
   behind-few l =
@@ -97,10 +96,10 @@ module _ (s : Station) (text : List ℕ) (full : length (s .chars) ≡ 256) (z :
       let n = waiting-count after i (offered-full s text full) in
       let e = behind-same l (s .core .sender) in
       let j = core-in s (accepted s text z .in-range) .sender-in in
-      let m = behind-most mode l (s .core .sender) j cs waiting-low in
-      let k = longest-480 mode in
-      let few : 2 * length cs + 2 ≤ 514 = omega arith in
-      let p = mul-le-mul k few in
+      let m = behind-longest mode l (s .core .sender) cs waiting-low in
+      let b = behind-most (alphabetOf mode) l (s .core .sender) j cs waiting-low in
+      let few : codesBehind (alphabetOf mode) l (s .core .sender) cs ≤ 514 = omega arith in
+      let p = mul-le-mul (longest-480 mode) few in
       omega arith
 
 -- ---- the answer

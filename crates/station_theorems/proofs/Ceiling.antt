@@ -1,9 +1,9 @@
 -- The ceiling on sending time: no count is above it.
 use mathlib.Core.Path.{_≡_, _∙_, refl, sym}
-use mathlib.Core.Bool.{Bool, true, false, cond, not, _&&_}
+use mathlib.Core.Bool.{true, false, cond, not}
 use mathlib.Core.List.{List}
 use Prim.Native.Nat.{ℕ, _+_, _*_, _-_, _≤_, max}
-use native.Mathlib.Nat.{mul-le-mul-left, mul-add}
+use native.Mathlib.Nat.{mul-le-mul-left}
 use native.Mathlib.Omega.{arith}
 use lib.Dec.{eqb}
 use lib.ListN.{length, length-replicate}
@@ -27,17 +27,16 @@ use Rattle.burst.specs.declared.OnLine.{OnLine}
 use Rattle.burst.specs.Rules.{freeMs, opensWithShift, openingShift}
 use Rattle.burst.specs.Line.{onLine, inBurst, isCode, partMs, isOpening}
 use Rattle.burst.specs.code.Bounds.{LineIn}
-use Rattle.burst.proofs.Range.{opening-in}
 use Rattle.burst.proofs.Laws.{opening-some, begun-first}
 use Rattle.queue.specs.Queue.{allWait, waitingOf}
 use Rattle.station.specs.declared.Station.{Station}
 use Rattle.station.specs.Station.{modeOfStation, queueOf, offeredTo}
 use Rattle.station.specs.Entries.{offerAnswer}
 use Rattle.station.proofs.Range.{core-in, all-waiting, waiting-count, offered-in, offered-full}
-use Rattle.preview.specs.code.Count.{charsMs, behindMs, someMs, msLeft}
+use Rattle.preview.specs.code.Count.{behindMs, someMs, msLeft}
 use Rattle.preview.proofs.Idle.{idle-in}
 use Rattle.preview.proofs.Lowers.{left-burst, some-is, some-behind}
-use Rattle.preview.proofs.Most.{shift-most, chars-longest}
+use Rattle.preview.proofs.Most.{codesBehind, behind-longest, opening-sender}
 use Rattle.preview.proofs.Offered.{all-chars}
 use Rattle.station_theorems.specs.Ceiling.{mostCodes, openingCodes, ceiling, InNumbers, Counted, PreviewCounts}
 use Rattle.station_theorems.specs.Ceiling.{Ceiling, PreviewCeiling, NoneWaiting, ceilingNotFree, CeilingNotFree}
@@ -52,58 +51,46 @@ firstCodes a s = cond (not (eqb (s .shift) 0)) 0 (openingCodes a)
 
 codes-within : (a : Alphabet) (s : Sender) (cs : List ℕ) → SenderIn s → allChars cs ≡ true
     → length (textCodes a s cs) ≤ mostCodes a (length cs) + firstCodes a s
-codes-within Baudot s cs i t = baudot-most s cs i t
+codes-within Baudot s cs i t = let m = baudot-most s cs i t in omega arith
 codes-within dtmf s cs i t = let m = own-most dtmf cs in omega arith
 codes-within edt s cs i t = let m = own-most edt cs in omega arith
 
-chars-within : (mode : Mode) (s : Sender) (cs : List ℕ) → SenderIn s → allChars cs ≡ true → (more : ℕ)
-    → firstCodes (alphabetOf mode) s ≤ more
-    → charsMs mode s cs ≤ longest mode * (mostCodes (alphabetOf mode) (length cs) + more)
-chars-within mode s cs i t more h =
-    let a = alphabetOf mode in
-    let m = codes-within a s cs i t in
-    let c = chars-longest mode s cs t in
-    let few : length (textCodes a s cs) ≤ mostCodes a (length cs) + more = omega arith in
-    let l = mul-le-mul-left (longest mode) few in
-    omega arith
-
 -- .. and behind what is on the line
-abbrev pub opened : OnLine → Sender → Bool
-opened l s = isCode l && not (eqb (s .shift) 0)
+abbrev mostCodesBehind : Alphabet → OnLine → Sender → ℕ → ℕ
+mostCodesBehind a l s n = mostCodes a n + cond (hasOpened l s) 0 (openingCodes a)
 
 abbrev pub mostBehind : Mode → OnLine → Sender → ℕ → ℕ
-mostBehind mode l s n =
-    let a = alphabetOf mode in
-    longest mode * (mostCodes a n + cond (opened l s) 0 (openingCodes a))
+mostBehind mode l s n = longest mode * mostCodesBehind (alphabetOf mode) l s n
 
-module _ (mode : Mode) (l : OnLine) (s : Sender) (cs : List ℕ) (i : SenderIn s) (t : allChars cs ≡ true) where
-  abbrev a : Alphabet
-  a = alphabetOf mode
-
-  abbrev most : ℕ
-  most = mostBehind mode l s (length cs)
-
+module _ (a : Alphabet) (l : OnLine) (s : Sender) (cs : List ℕ) (i : SenderIn s) (t : allChars cs ≡ true) where
   -- the code that opens the burst is to come
-  opening-most : isOpening a l ≡ true → behindMs mode l s cs ≤ most
-  opening-most o =
+  opening-within : isOpening a l ≡ true → codesBehind a l s cs ≤ mostCodesBehind a l s (length cs)
+  opening-within o =
       let v = openingShift s in
       let p = eqb-true (l .part) 1 (and-left (eqb (l .part) 1) (opensWithShift a) o) in
-      let j : SenderIn (sender v 0) = record { shift-in = opening-in s (i .shift-in); count-in = omega arith } in
       let n : firstCodes a (sender v 0) ≡ 0 = rw (ne-eqb v 0 (opening-some s)) refl in
-      let c = chars-within mode (sender v 0) cs j t 0 (omega arith) in
-      let m = shift-most mode v in
-      let d = mul-add (longest mode) (mostCodes a (length cs)) 1 in
+      let c = codes-within a (sender v 0) cs (opening-sender s i) t in
       rw (o, p, and-right (eqb (l .part) 1) (opensWithShift a) o) (omega arith)
 
-  fewer : firstCodes a s ≤ cond (opened l s) 0 (openingCodes a)
+  fewer : firstCodes a s ≤ cond (hasOpened l s) 0 (openingCodes a)
   fewer =
       by-test (isCode l) (λ e. rw e (omega arith))
       (λ e. rw e (either (λ (n : ℕ). n ≤ openingCodes a) (not (eqb (s .shift) 0)) 0 _ (omega arith) (omega arith)))
 
-  behind-within : behindMs mode l s cs ≤ most
-  behind-within =
-      by-test (isOpening a l) opening-most
-      (λ o. rw o (chars-within mode s cs i t (cond (opened l s) 0 (openingCodes a)) fewer))
+  codes-behind : codesBehind a l s cs ≤ mostCodesBehind a l s (length cs)
+  codes-behind =
+      by-test (isOpening a l) opening-within
+      (λ o.
+      let c = codes-within a s cs i t in
+      let f = fewer in
+      rw o (omega arith))
+
+behind-within : (mode : Mode) (l : OnLine) (s : Sender) (cs : List ℕ) → SenderIn s → allChars cs ≡ true
+    → behindMs mode l s cs ≤ mostBehind mode l s (length cs)
+behind-within mode l s cs i t =
+    let m = behind-longest mode l s cs t in
+    let k = mul-le-mul-left (longest mode) (codes-behind (alphabetOf mode) l s cs i t) in
+    omega arith
 
 -- ---- a station
 
@@ -210,7 +197,7 @@ part-most mode l i =
     either P (eqb (l .part) 2) _ _ (omega arith) (either P (inBurst l) _ _ (omega arith) (omega arith))
 
 -- in numbers
-module _ (n part more : ℕ) (few : n ≤ 256) (one : more ≤ 1) where
+module _ (n part more : ℕ) (few : n ≤ 256) where
   burst-few : (mode : Mode) → part ≤ max (preambleOf mode) (longest mode) → more ≤ openingCodes (alphabetOf mode)
       → part + longest mode * (mostCodes (alphabetOf mode) n + more) ≤ 123_360
   burst-few Baudot45 p o = omega arith
@@ -224,11 +211,6 @@ ceiling-few Baudot50 n few = omega arith
 ceiling-few Dtmf n few = omega arith
 ceiling-few Edt n few = omega arith
 
-opening-few : (a : Alphabet) → openingCodes a ≤ 1
-opening-few Baudot = omega arith
-opening-few dtmf = omega arith
-opening-few edt = omega arith
-
 counted-few : (s : Station) (ms : ℕ) → Counted s ms → ms ≤ 123_360
 counted-few s ms c =
     let mode = modeOfStation s in
@@ -238,11 +220,11 @@ counted-few s ms c =
     by-test (inBurst (s .core .line))
     (λ b.
     let p = part-most mode (s .core .line) (i .line-in) in
-    let o = opening-few a in
-    let k = cond (hasOpened s) 0 (openingCodes a) in
+    let opened = hasOpened (s .core .line) (s .core .sender) in
+    let k = cond opened 0 (openingCodes a) in
     let m : k ≤ openingCodes a =
-    either (λ (j : ℕ). j ≤ openingCodes a) (hasOpened s) 0 _ (omega arith) (omega arith) in
-    let f = burst-few (s .core .waiting) (partLeft s) k n (omega arith) mode (omega arith) m in
+    either (λ (j : ℕ). j ≤ openingCodes a) opened 0 _ (omega arith) (omega arith) in
+    let f = burst-few (s .core .waiting) (partLeft s) k n mode (omega arith) m in
     let t = in-burst s ms c b in
     omega arith)
     (λ b.

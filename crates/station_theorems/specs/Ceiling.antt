@@ -11,6 +11,8 @@ use Rattle.alphabet.specs.declared.Mode.{Mode}
 use Rattle.alphabet.specs.declared.Mode.the-variants.{Baudot45, Baudot50, Dtmf, Edt}
 use Rattle.alphabet.specs.Baudot.{letters, figures}
 use Rattle.alphabet.specs.Modes.{modeNumber, alphabetOf, preambleOf, longest}
+use Rattle.baudot.specs.declared.Sender.{Sender}
+use Rattle.burst.specs.declared.OnLine.{OnLine}
 use Rattle.burst.specs.Rules.{freeMs, opensWithShift}
 use Rattle.burst.specs.Line.{inBurst, isCode, partMs}
 use Rattle.station.specs.declared.Station.{Station}
@@ -88,13 +90,14 @@ partLeft s = length (partMs (modeOfStation s) (s .core .line)) - s .core .line .
 
 -- .. and the codes to come. The one that opens the burst is among them while the preamble is on the line. (Behind it,
 -- in a station that no list of calls gives, the sender may be fresh; it then sends 11111.)
-abbrev pub hasOpened : Station → Bool
-hasOpened s = isCode (s .core .line) && not (eqb (s .core .sender .shift) 0)
+abbrev pub hasOpened : OnLine → Sender → Bool
+hasOpened l s = isCode l && not (eqb (s .shift) 0)
 
 abbrev pub ceilingInBurst : Station → ℕ → ℕ
 ceilingInBurst s n =
     let a = alphabetOfStation s in
-    partLeft s + longest (modeOfStation s) * (mostCodes a n + cond (hasOpened s) 0 (openingCodes a))
+    let opening = cond (hasOpened (s .core .line) (s .core .sender)) 0 (openingCodes a) in
+    partLeft s + longest (modeOfStation s) * (mostCodes a n + opening)
 
 -- It takes one ms at least. (In a station that no list of calls gives, its last part may be over with none waiting.)
 abbrev pub CeilingInBurst : Type 0
