@@ -1,0 +1,3 @@
+pub mod Edges
+pub mod Range
+pub mod code
