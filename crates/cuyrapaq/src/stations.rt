@@ -1,8 +1,10 @@
 // The entries of a station.
+use edges::Report;
 use preview::Previewed;
-use station::Station;
+use station::Measured;
 ghost use mathlib.Core.Path.{_≡_};
 ghost use lib.ListN.{length};
+ghost use Rattle.edges.specs.Edges.{noEdge};
 ghost use Rattle.station.specs.Entries.{openOf, offerOf, ranOf, sentAfter, wordsAfter};
 ghost use Rattle.preview.specs.Preview.{Previews};
 
@@ -15,59 +17,121 @@ pub struct StationRan {
 
 // The station that the host lends is made a fresh one of a mode, 1 to 4; refusal 2 makes it one of mode 1.
 #[no_mangle]
-pub extern "C" fn cq_station_open(station: &mut Station, mode: u8) -> u8
+pub extern "C" fn cq_station_open(station: &mut Measured, mode: u8) -> u8
     ensures { λ r. ⌜ (r ≡ openOf mode .answer) × (now (station .exit) ≡ openOf mode .station) ⌝ }
 {
     let opened = station::open(&mut station.chars, mode);
     station.core = opened.core;
+    station.edges = edges::none();
     opened.answer
 }
 
 // An offer to the station that the host lends: 0 or the number of the refusal.
 #[no_mangle]
-pub extern "C" fn cq_station_offer(station: &mut Station, text: &[u8]) -> u8
+pub extern "C" fn cq_station_offer(station: &mut Measured, text: &[u8]) -> u8
     ensures { λ r. ⌜ (r ≡ offerOf (now (station .entry)) (now (text .entry)) .answer)
         × (now (station .exit) ≡ offerOf (now (station .entry)) (now (text .entry)) .station) ⌝ }
 {
     let c = station.core;
-    let offered = station::offer(c, &mut station.chars, text);
+    let w = station.edges;
+    let offered = station::offer(c, w, &mut station.chars, text);
     station.core = offered.core;
     offered.answer
 }
 
 // How long a text would take to type out, if it were offered to the station that the host lends.
 #[no_mangle]
-pub extern "C" fn cq_station_preview(station: &Station, text: &[u8]) -> Previewed
+pub extern "C" fn cq_station_preview(station: &Measured, text: &[u8]) -> Previewed
     ensures { λ r. ⌜ Previews (now (station .entry)) (now (text .entry)) (r .answer) (r .ms) ⌝ }
 {
     let c = station.core;
-    preview::preview(c, &station.chars, text)
+    let w = station.edges;
+    preview::preview(c, w, &station.chars, text)
 }
 
-// A run on the station that the host lends: the sent ms and the words of the ms that are heard.
+// A run on the station that the host lends: the sent ms and the words of the ms that are heard. It is a run with a
+// report of no edge, which is dropped.
 #[no_mangle]
 pub extern "C" fn cq_station_run(
-    station: &mut Station,
+    station: &mut Measured,
     heard: &[u8],
     sent: &mut [u8],
     words: &mut [u32],
 ) -> StationRan
     ensures { λ r. ⌜ (r ≡ record {
-      answer = ranOf (now (station .entry)) (now (heard .entry)) (length (now (sent .entry)))
+      answer = ranOf (now (station .entry)) noEdge (now (heard .entry)) (length (now (sent .entry)))
           (length (now (words .entry))) .answer;
-      words = ranOf (now (station .entry)) (now (heard .entry)) (length (now (sent .entry)))
+      words = ranOf (now (station .entry)) noEdge (now (heard .entry)) (length (now (sent .entry)))
           (length (now (words .entry))) .words;
     })
-        × ((now (station .exit) ≡ ranOf (now (station .entry)) (now (heard .entry)) (length (now (sent .entry)))
-        (length (now (words .entry))) .station)
-        × ((now (sent .exit) ≡ sentAfter (now (station .entry)) (now (heard .entry)) (length (now (words .entry)))
-        (now (sent .entry)))
-        × (now (words .exit) ≡ wordsAfter (now (station .entry)) (now (heard .entry)) (length (now (sent .entry)))
-        (now (words .entry))))) ⌝ }
+        × ((now (station .exit) ≡ ranOf (now (station .entry)) noEdge (now (heard .entry))
+        (length (now (sent .entry))) (length (now (words .entry))) .station)
+        × ((now (sent .exit) ≡ sentAfter (now (station .entry)) noEdge (now (heard .entry))
+        (length (now (words .entry))) (now (sent .entry)))
+        × (now (words .exit) ≡ wordsAfter (now (station .entry)) noEdge (now (heard .entry))
+        (length (now (sent .entry))) (now (words .entry))))) ⌝ }
 {
     let c = station.core;
-    let ran = station_entry::run(c, &mut station.chars, heard, sent, words);
+    let w = station.edges;
+    let none = edges::no_edge();
+    let ran = station_entry::run(
+        c,
+        w,
+        &mut station.chars,
+        none,
+        false,
+        heard,
+        sent,
+        words,
+    );
     station.core = ran.core;
+    station.edges = ran.edges;
+    StationRan {
+        answer: ran.answer,
+        words: ran.words,
+    }
+}
+
+// The same with a report that the host lends: the edges that count in the run are added to it.
+#[no_mangle]
+pub extern "C" fn cq_station_run_drift(
+    station: &mut Measured,
+    heard: &[u8],
+    sent: &mut [u8],
+    words: &mut [u32],
+    report: &mut Report,
+) -> StationRan
+    ensures { λ r. ⌜ (r ≡ record {
+      answer = ranOf (now (station .entry)) (now (report .entry)) (now (heard .entry)) (length (now (sent .entry)))
+          (length (now (words .entry))) .answer;
+      words = ranOf (now (station .entry)) (now (report .entry)) (now (heard .entry)) (length (now (sent .entry)))
+          (length (now (words .entry))) .words;
+    })
+        × ((now (station .exit) ≡ ranOf (now (station .entry)) (now (report .entry)) (now (heard .entry))
+        (length (now (sent .entry))) (length (now (words .entry))) .station)
+        × ((now (report .exit) ≡ ranOf (now (station .entry)) (now (report .entry)) (now (heard .entry))
+        (length (now (sent .entry))) (length (now (words .entry))) .report)
+        × ((now (sent .exit) ≡ sentAfter (now (station .entry)) (now (report .entry)) (now (heard .entry))
+        (length (now (words .entry))) (now (sent .entry)))
+        × (now (words .exit) ≡ wordsAfter (now (station .entry)) (now (report .entry)) (now (heard .entry))
+        (length (now (sent .entry))) (now (words .entry)))))) ⌝ }
+{
+    let c = station.core;
+    let w = station.edges;
+    let r = *report;
+    let ran = station_entry::run(
+        c,
+        w,
+        &mut station.chars,
+        r,
+        true,
+        heard,
+        sent,
+        words,
+    );
+    station.core = ran.core;
+    station.edges = ran.edges;
+    *report = ran.report;
     StationRan {
         answer: ran.answer,
         words: ran.words,

@@ -8,7 +8,9 @@ use lib.ListN.{replicate}
 use Rattle.signal.specs.Signal.{quiet}
 use Rattle.burst.specs.Line.{inBurst}
 use Rattle.station.specs.declared.Station.{Station}
+use Rattle.station.specs.declared.Measured.{Measured}
 use Rattle.station.specs.Station.{offeredTo, stationAfter}
+use Rattle.station.specs.Measured.{stationOf}
 use Rattle.station.specs.Entries.{offerAnswer}
 
 -- A station in no burst and with nothing waiting.
@@ -26,7 +28,7 @@ pub record IdleIn (s : Station) (n : ℕ) : Type 0 where
 
 -- A preview: the answer is the offer's; if that is 0, the ms are those in which a copy of the station that was offered
 -- the text becomes idle, and else 0.
-pub record Previews (s : Station) (text : List ℕ) (answer ms : ℕ) : Type 0 where
-  pub as-offered : answer ≡ offerAnswer s text
-  pub idle-in : offerAnswer s text ≡ 0 → IdleIn (offeredTo s text) ms
-  pub refused : (offerAnswer s text ≡ 0 → ⊥) → ms ≡ 0
+pub record Previews (x : Measured) (text : List ℕ) (answer ms : ℕ) : Type 0 where
+  pub as-offered : answer ≡ offerAnswer x text
+  pub idle-in : offerAnswer x text ≡ 0 → IdleIn (offeredTo (stationOf x) text) ms
+  pub refused : (offerAnswer x text ≡ 0 → ⊥) → ms ≡ 0

@@ -7,6 +7,7 @@ use alphabet::table::SendTable;
 use baudot::Sender;
 use burst::OnLine;
 use burst::rules;
+use edges::Edges;
 use half_duplex::Core;
 ghost use mathlib.Core.Path.{_≡_};
 ghost use mathlib.Core.Bool.{true, cond};
@@ -20,7 +21,8 @@ ghost use Rattle.baudot.specs.code.Bounds.{SenderIn};
 ghost use Rattle.half_duplex.specs.Core.{modeIn};
 ghost use Rattle.half_duplex.specs.code.Bounds.{CoreIn};
 ghost use Rattle.station.specs.Station.{station, offeredTo};
-ghost use Rattle.station.specs.Entries.{offerAnswer};
+ghost use Rattle.station.specs.Measured.{measured};
+ghost use Rattle.station.specs.code.Accepted.{Accepted};
 ghost use Rattle.preview.specs.Preview.{IdleIn, Previews};
 ghost use Rattle.preview.specs.code.Count.{charsMs, behindMs, aheadMs, someMs};
 
@@ -149,7 +151,7 @@ fn some_ms(n: u32) -> u32
 
 // The ms until a station is idle that was offered a text, with so many waiting then.
 fn ms_left(c: Core, chars: &[u8; 256], text: &[u8], waiting: u16) -> u32
-    requires { ⌜ offerAnswer (station c (now chars)) (now text) ≡ 0 ⌝ }
+    requires { ⌜ Accepted (station c (now chars)) (now text) ⌝ }
     requires { ⌜ waiting ≡ offeredTo (station c (now chars)) (now text) .core .waiting ⌝ }
     ensures { λ r. ⌜ IdleIn (offeredTo (station c (now (chars .entry))) (now (text .entry))) r ⌝ }
 {
@@ -168,10 +170,10 @@ fn ms_left(c: Core, chars: &[u8; 256], text: &[u8], waiting: u16) -> u32
 }
 
 // A preview: the questions of the offer, and the ms until a copy that was offered the text is idle.
-pub fn preview(c: Core, chars: &[u8; 256], text: &[u8]) -> Previewed
-    ensures { λ r. ⌜ Previews (station c (now (chars .entry))) (now (text .entry)) (r .answer) (r .ms) ⌝ }
+pub fn preview(c: Core, w: Edges, chars: &[u8; 256], text: &[u8]) -> Previewed
+    ensures { λ r. ⌜ Previews (measured (station c (now (chars .entry))) w) (now (text .entry)) (r .answer) (r .ms) ⌝ }
 {
-    let asked = station::ask(c, chars, text);
+    let asked = station::ask(c, w, chars, text);
     if asked.answer != 0 {
         return Previewed {
             answer: asked.answer,

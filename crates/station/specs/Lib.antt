@@ -1,3 +1,5 @@
 pub mod Station
+pub mod Measured
 pub mod Range
 pub mod Entries
+pub mod code

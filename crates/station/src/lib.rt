@@ -2,19 +2,31 @@
 use alphabet::Alphabet;
 use alphabet::Mode;
 use baudot::Sender;
+use edges::Edges;
 use half_duplex::Core;
 use reader::Reader;
 ghost use mathlib.Core.Path.{_≡_};
 ghost use Rattle.alphabet.specs.declared.Alphabet.the-variants.{Baudot};
-ghost use Rattle.half_duplex.specs.Core.{freshCore};
+ghost use Rattle.edges.specs.Edges.{noEdges};
+ghost use Rattle.edges.specs.Range.{edgesIn};
+ghost use Rattle.half_duplex.specs.Core.{freshCore, modeIn};
 ghost use Rattle.station.specs.Station.{station, hasDel, readerOffered, coreWith, offeredTo};
-ghost use Rattle.station.specs.Range.{inRange};
+ghost use Rattle.station.specs.Measured.{measured};
+ghost use Rattle.station.specs.Range.{measuredIn};
 ghost use Rattle.station.specs.Entries.{openOf, offerAnswer, offerOf};
 
 // A core, and the characters that wait, the front one first.
 #[repr(C)]
 pub struct Station {
     pub core: Core,
+    pub chars: [u8; 256],
+}
+
+// What a host holds: a core, the edges that wait in it, and the characters that wait.
+#[repr(C)]
+pub struct Measured {
+    pub core: Core,
+    pub edges: Edges,
     pub chars: [u8; 256],
 }
 
@@ -40,20 +52,32 @@ fn fresh(mode: u8) -> Core
     }
 }
 
+// Are the edges that wait in a station in range?
+fn edges_in(c: Core, w: Edges) -> bool
+    ensures { λ r. ⌜ r ≡ edgesIn (modeIn c) (c .reader .frame) w ⌝ }
+{
+    let r = c.reader;
+    let f = r.frame;
+    edges::in_range(Mode::of(c.mode), f, w)
+}
+
 // Question 1: are the station's numbers in range?
-pub fn in_range(c: Core, chars: &[u8; 256]) -> bool
-    ensures { λ r. ⌜ r ≡ inRange (station c (now (chars .entry))) ⌝ }
+pub fn in_range(c: Core, w: Edges, chars: &[u8; 256]) -> bool
+    ensures { λ r. ⌜ r ≡ measuredIn (measured (station c (now (chars .entry))) w) ⌝ }
 {
     if !half_duplex::in_range(c) {
         return false;
     }
     let a = Mode::of(c.mode).alphabet();
-    queue::in_range(a, c.waiting, chars)
+    if !queue::in_range(a, c.waiting, chars) {
+        return false;
+    }
+    edges_in(c, w)
 }
 
 // Opening a station: of mode 1 to 4.
 pub fn open(chars: &mut [u8; 256], mode: u8) -> Answered
-    ensures { λ r. ⌜ station (r .core) (now (chars .exit)) ≡ openOf mode .station ⌝ }
+    ensures { λ r. ⌜ measured (station (r .core) (now (chars .exit))) noEdges ≡ openOf mode .station ⌝ }
     ensures { λ r. ⌜ r .answer ≡ openOf mode .answer ⌝ }
 {
     queue::clear(chars);
@@ -128,12 +152,12 @@ pub struct Asked {
 }
 
 // The questions of an offer.
-pub fn ask(c: Core, chars: &[u8; 256], text: &[u8]) -> Asked
-    ensures { λ r. ⌜ r .answer ≡ offerAnswer (station c (now (chars .entry))) (now (text .entry)) ⌝ }
+pub fn ask(c: Core, w: Edges, chars: &[u8; 256], text: &[u8]) -> Asked
+    ensures { λ r. ⌜ r .answer ≡ offerAnswer (measured (station c (now (chars .entry))) w) (now (text .entry)) ⌝ }
     ensures { λ r. ⌜ (r .answer ≡ 0 → r .waiting ≡ offeredTo (station c (now (chars .entry))) (now (text .entry))
         .core .waiting) ⌝ }
 {
-    if !in_range(c, chars) {
+    if !in_range(c, w, chars) {
         return Asked {
             answer: 1,
             waiting: c.waiting,
@@ -160,12 +184,12 @@ pub fn ask(c: Core, chars: &[u8; 256], text: &[u8]) -> Asked
 }
 
 // Offering a text: those of its characters that send something wait behind the others.
-pub fn offer(c: Core, chars: &mut [u8; 256], text: &[u8]) -> Answered
-    ensures { λ r. ⌜ station (r .core) (now (chars .exit)) ≡ offerOf (station c (now (chars .entry)))
-        (now (text .entry)) .station ⌝ }
-    ensures { λ r. ⌜ r .answer ≡ offerOf (station c (now (chars .entry))) (now (text .entry)) .answer ⌝ }
+pub fn offer(c: Core, w: Edges, chars: &mut [u8; 256], text: &[u8]) -> Answered
+    ensures { λ r. ⌜ measured (station (r .core) (now (chars .exit))) w ≡ offerOf (measured
+        (station c (now (chars .entry))) w) (now (text .entry)) .station ⌝ }
+    ensures { λ r. ⌜ r .answer ≡ offerOf (measured (station c (now (chars .entry))) w) (now (text .entry)) .answer ⌝ }
 {
-    let asked = ask(c, chars, text);
+    let asked = ask(c, w, chars, text);
     if asked.answer != 0 {
         return Answered {
             core: c,
