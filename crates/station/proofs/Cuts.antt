@@ -17,9 +17,6 @@ use Rattle.half_duplex.specs.Core.{coreFrom}
 use Rattle.station.specs.declared.Station.{Station}
 use Rattle.station.specs.Station.{modeOfStation, stationMs, sentMs, eventOf, stationAfter, sentBy, eventsBy, wordsBy}
 use Rattle.alphabet.specs.Modes.{highestLevel}
-use Rattle.station.specs.Entries.{runAnswer}
-use Rattle.station.proofs.Range.{after-in, runs}
-use Rattle.station.proofs.Answers.{run-0}
 
 -- no ms
 module _ (s : Station) where
@@ -49,31 +46,7 @@ cut s xs ys = record {
       ∙ words-append (eventsBy s xs) (eventsBy (stationAfter s xs) ys);
 }
 
--- both parts of a run that succeeds succeed, with slices that are long enough for them
-
 pub mode-after : (s : Station) (heard : List ℕ) → modeOfStation (stationAfter s heard) ≡ modeOfStation s
 unfolding stateAfter stationMs coreFrom
 mode-after s [] = refl
 mode-after s (x ∷ xs) = mode-after (stationMs s x) xs
-
-module _ (s : Station) (xs ys : List ℕ) (sentRoom wordRoom : ℕ) (z : runAnswer s (xs ++ ys) sentRoom wordRoom ≡ 0) where
-  few : length xs + length ys ≤ 4_096
-  few = rw length-append at (leb-true (length (xs ++ ys)) 4_096 (runs s (xs ++ ys) sentRoom wordRoom z .few))
-
-  pub first-runs : (m n : ℕ) → length xs ≤ m → length xs ≤ n → runAnswer s xs m n ≡ 0
-  first-runs m n p q =
-      let r = runs s (xs ++ ys) sentRoom wordRoom z in
-      let l = few in
-      run-0 s xs m n (r .in-range) (omega arith) (at-most-front (highestLevel (modeOfStation s)) xs ys (r .levels)) p q
-
-  pub second-runs : length (s .chars) ≡ 256 → (m n : ℕ) → length ys ≤ m → length ys ≤ n
-      → runAnswer (stationAfter s xs) ys m n ≡ 0
-  second-runs full m n p q =
-      let r = runs s (xs ++ ys) sentRoom wordRoom z in
-      let most = highestLevel (modeOfStation s) in
-      let l = few in
-      let i = after-in s xs full (r .in-range) (at-most-front most xs ys (r .levels)) in
-      let levels =
-      subst (λ (d : Mode). allAtMost (highestLevel d) ys ≡ true) (sym (mode-after s xs))
-      (at-most-behind most xs ys (r .levels)) in
-      run-0 (stationAfter s xs) ys m n i (omega arith) levels p q

@@ -1,6 +1,9 @@
 pub mod Laws
 pub mod Range
+pub mod Edged
+pub mod Kept
 pub mod Answers
 pub mod Cuts
 pub mod Lengths
 pub mod Takings
+pub mod Reports

@@ -1,4 +1,4 @@
--- A station in range: what question 1 says in facts, and that every entry keeps it.
+-- A station in range: what question 1 says in facts, and that every ms and every offer keeps it.
 use mathlib.Core.Path.{_≡_, _∙_, refl}
 use mathlib.Core.Bool.{Bool, true, false, cond}
 use mathlib.Core.List.{List, [], _∷_}
@@ -33,7 +33,8 @@ use Rattle.queue.proofs.Laws as queue
 use Rattle.station.specs.declared.Station.{Station}
 use Rattle.station.specs.Station.{modeOfStation, alphabetOfStation, queueOf, freshStation, hasDel, readerOffered, offeredTo, front, charsAfter, stationMs, stationAfter, wordsBy}
 use Rattle.station.specs.Range.{inRange}
-use Rattle.station.specs.Entries.{StationAnswered, StationRan, answered, isMode, openOf, offerAnswer, offerOf, runAnswer, ran, ranOf}
+use Rattle.station.specs.Entries.{isMode}
+use Rattle.station.specs.code.Accepted.{Accepted}
 
 -- ---- question 1 in facts
 
@@ -210,33 +211,14 @@ reader-offered-in mode Baudot cs r h =
 reader-offered-in mode dtmf cs r h = h
 reader-offered-in mode edt cs r h = h
 
--- what an offer that succeeds has
-pub record Accepted (s : Station) (text : List ℕ) : Type 0 where
-  pub in-range : inRange s ≡ true
-  pub chars : allChars text ≡ true
-  pub space : room (alphabetOfStation s) (queueOf s) text ≡ true
-
 module _ (s : Station) (text : List ℕ) where
-  pub accepted : offerAnswer s text ≡ 0 → Accepted s text
-  unfolding offerAnswer
-  accepted = go (inRange s) refl (allChars text) refl (room (alphabetOfStation s) (queueOf s) text) refl
-    where
-      go : (a : Bool) → inRange s ≡ a → (b : Bool) → allChars text ≡ b
-          → (c : Bool) → room (alphabetOfStation s) (queueOf s) text ≡ c
-          → _≡_ {A = ℕ} (cond a (cond b (cond c 0 4) 3) 1) 0 → Accepted s text
-      go true e true f true g z = record { in-range = e; chars = f; space = g }
-      go true e true f false g z = absurd (omega arith)
-      go true e false f c g z = absurd (omega arith)
-      go false e b f c g z = absurd (omega arith)
-
   pub offered-full : length (s .chars) ≡ 256 → length (offeredTo s text .chars) ≡ 256
   unfolding offeredTo offered
   offered-full full = length-sets (s .chars) (s .core .waiting) (waiters (alphabetOfStation s) text) ∙ full
 
-  pub offered-in : length (s .chars) ≡ 256 → offerAnswer s text ≡ 0 → inRange (offeredTo s text) ≡ true
+  pub offered-in : length (s .chars) ≡ 256 → Accepted s text → inRange (offeredTo s text) ≡ true
   unfolding offeredTo
-  offered-in full z =
-      let t = accepted z in
+  offered-in full t =
       let i = station-in s (t .in-range) in
       let c = i .core-in in
       let a = alphabetOfStation s in
@@ -255,75 +237,3 @@ module _ (s : Station) (text : List ℕ) where
         mode-in = i .mode-in;
         queue-in = q;
       })
-
--- ---- the entries: what they give is in range, if what they are given is
-
-pub open-in : (mode : ℕ) → inRange (openOf mode .station) ≡ true
-unfolding openOf
-open-in mode = go (isMode mode) refl
-  where
-    go : (b : Bool) → isMode mode ≡ b
-        → inRange (cond b (answered (freshStation mode) 0) (answered (freshStation 1) 2) .station) ≡ true
-    go true e = fresh-in mode e
-    go false e = fresh-in 1 refl
-
-pub offer-in : (s : Station) (text : List ℕ) → length (s .chars) ≡ 256 → inRange s ≡ true
-    → inRange (offerOf s text .station) ≡ true
-unfolding offerOf
-offer-in s text full i = go (eqb (offerAnswer s text) 0) refl
-  where
-    go : (b : Bool) → eqb (offerAnswer s text) 0 ≡ b
-        → inRange (cond b (answered (offeredTo s text) 0) (answered s (offerAnswer s text)) .station) ≡ true
-    go true e = offered-in s text full (eqb-true (offerAnswer s text) 0 e)
-    go false e = i
-
-pub offer-full : (s : Station) (text : List ℕ) → length (s .chars) ≡ 256 → length (offerOf s text .station .chars) ≡ 256
-unfolding offerOf
-offer-full s text full =
-    either (λ (r : StationAnswered). length (r .station .chars) ≡ 256) (eqb (offerAnswer s text) 0)
-    (answered (offeredTo s text) 0) (answered s (offerAnswer s text)) (offered-full s text full) full
-
--- what a run that succeeds has
-pub record Runs (s : Station) (heard : List ℕ) (sentRoom wordRoom : ℕ) : Type 0 where
-  pub in-range : inRange s ≡ true
-  pub few : leb (length heard) 4_096 ≡ true
-  pub levels : allAtMost (highestLevel (modeOfStation s)) heard ≡ true
-  pub sent-fits : leb (length heard) sentRoom ≡ true
-  pub words-fit : leb (length heard) wordRoom ≡ true
-
-module _ (s : Station) (heard : List ℕ) (sentRoom wordRoom : ℕ) where
-  pub runs : runAnswer s heard sentRoom wordRoom ≡ 0 → Runs s heard sentRoom wordRoom
-  unfolding runAnswer
-  runs =
-      go (inRange s) refl (leb (length heard) 4_096) refl (allAtMost (highestLevel (modeOfStation s)) heard) refl
-      (leb (length heard) sentRoom) refl (leb (length heard) wordRoom) refl
-    where
-      go : (a : Bool) → inRange s ≡ a → (b : Bool) → leb (length heard) 4_096 ≡ b
-          → (c : Bool) → allAtMost (highestLevel (modeOfStation s)) heard ≡ c
-          → (d : Bool) → leb (length heard) sentRoom ≡ d → (e : Bool) → leb (length heard) wordRoom ≡ e
-          → _≡_ {A = ℕ} (cond a (cond b (cond c (cond d (cond e 0 8) 7) 6) 5) 1) 0 → Runs s heard sentRoom wordRoom
-      go true p true q true r true t true u z =
-          record { in-range = p; few = q; levels = r; sent-fits = t; words-fit = u }
-      go true p true q true r true t false u z = absurd (omega arith)
-      go true p true q true r false t e u z = absurd (omega arith)
-      go true p true q false r d t e u z = absurd (omega arith)
-      go true p false q c r d t e u z = absurd (omega arith)
-      go false p b q c r d t e u z = absurd (omega arith)
-
-  abbrev answer : ℕ
-  answer = runAnswer s heard sentRoom wordRoom
-
-  pub run-full : length (s .chars) ≡ 256 → length (ranOf s heard sentRoom wordRoom .station .chars) ≡ 256
-  unfolding ranOf
-  run-full full =
-      either (λ (r : StationRan). length (r .station .chars) ≡ 256) (eqb answer 0)
-      (ran (stationAfter s heard) 0 (length (wordsBy s heard))) (ran s answer 0) (after-full s heard full) full
-
-  pub run-in : length (s .chars) ≡ 256 → inRange s ≡ true → inRange (ranOf s heard sentRoom wordRoom .station) ≡ true
-  unfolding ranOf
-  run-in full i = go (eqb answer 0) refl
-    where
-      go : (b : Bool) → eqb answer 0 ≡ b
-          → inRange (cond b (ran (stationAfter s heard) 0 (length (wordsBy s heard))) (ran s answer 0) .station) ≡ true
-      go true e = after-in s heard full i (runs (eqb-true answer 0 e) .levels)
-      go false e = i

@@ -12,7 +12,7 @@ ghost use Rattle.edges.specs.Range.{edgesIn};
 ghost use Rattle.half_duplex.specs.Core.{freshCore, modeIn};
 ghost use Rattle.station.specs.Station.{station, hasDel, readerOffered, coreWith, offeredTo};
 ghost use Rattle.station.specs.Measured.{measured};
-ghost use Rattle.station.specs.Range.{measuredIn};
+ghost use Rattle.station.specs.Range.{inRange, measuredIn};
 ghost use Rattle.station.specs.Entries.{openOf, offerAnswer, offerOf};
 
 // A core, and the characters that wait, the front one first.
@@ -61,15 +61,22 @@ fn edges_in(c: Core, w: Edges) -> bool
     edges::in_range(Mode::of(c.mode), f, w)
 }
 
-// Question 1: are the station's numbers in range?
-pub fn in_range(c: Core, w: Edges, chars: &[u8; 256]) -> bool
-    ensures { λ r. ⌜ r ≡ measuredIn (measured (station c (now (chars .entry))) w) ⌝ }
+// Are the numbers of a station beside its edges in range?
+fn station_in(c: Core, chars: &[u8; 256]) -> bool
+    ensures { λ r. ⌜ r ≡ inRange (station c (now (chars .entry))) ⌝ }
 {
     if !half_duplex::in_range(c) {
         return false;
     }
     let a = Mode::of(c.mode).alphabet();
-    if !queue::in_range(a, c.waiting, chars) {
+    queue::in_range(a, c.waiting, chars)
+}
+
+// Question 1: are the station's numbers in range?
+pub fn in_range(c: Core, w: Edges, chars: &[u8; 256]) -> bool
+    ensures { λ r. ⌜ r ≡ measuredIn (measured (station c (now (chars .entry))) w) ⌝ }
+{
+    if !station_in(c, chars) {
         return false;
     }
     edges_in(c, w)

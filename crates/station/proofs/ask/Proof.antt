@@ -8,7 +8,8 @@ use Rattle.alphabet.specs.Normal.{allChars}
 use Rattle.half_duplex.specs.Core.{modeIn}
 use Rattle.queue.specs.Queue.{room, offered}
 use Rattle.station.specs.Station.{station, offeredTo}
-use Rattle.station.specs.Range.{inRange}
+use Rattle.station.specs.Measured.{measured}
+use Rattle.station.specs.Range.{measuredIn}
 use Rattle.station.proofs.Answers.{offer-1, offer-3, offer-4, offer-0}
 use borrow.Author.Needs.{needs}
 use Rattle.station.proofs.ask.Statement.{statement}
@@ -32,7 +33,8 @@ chars-of c = c .before .before .before
 
 -- ---- what is known then
 
-in-range : (c : tie.Else1) → inRange (station (start-of c .args .c) (start-of c .args .chars .now)) ≡ true
+in-range : (c : tie.Else1)
+    → measuredIn (measured (station (start-of c .args .c) (start-of c .args .chars .now)) (start-of c .args .w)) ≡ true
 in-range c = let r = c .before .in-range in sym (r .ensures) ∙ not-false (r .result) (c .if1 .left)
 
 chars : (c : tie.Else2) → allChars (start-of (range-of c) .args .text .now) ≡ true

@@ -2,8 +2,9 @@
 use mathlib.Core.Path.{_≡_, _∙_, refl, sym}
 use borrow.Author.Tests.{ne-eqb}
 use Rattle.station.specs.Station.{station, offeredTo}
+use Rattle.station.specs.Measured.{measured}
 use Rattle.station.specs.Entries.{offerAnswer, offerOf}
-use Rattle.station.proofs.Range.{accepted}
+use Rattle.station.proofs.Kept.{accepted}
 use borrow.Author.Needs.{needs}
 use Rattle.station.proofs.offer.Statement.{statement}
 use Rattle.station.proofs.offer.Tie as tie
@@ -25,7 +26,8 @@ asked-of c = c .before .before
 -- ---- nothing is refused
 
 answer-0 : (c : tie.Else1)
-    → offerAnswer (station (start-of c .args .c) (start-of c .args .chars .now)) (start-of c .args .text .now) ≡ 0
+    → offerAnswer (measured (station (start-of c .args .c) (start-of c .args .chars .now)) (start-of c .args .w))
+    (start-of c .args .text .now) ≡ 0
 answer-0 c = sym (c .before .before .ask .ensures .0) ∙ c .if1 .left
 
 -- ---- the answers
@@ -48,7 +50,7 @@ alphabet-requires c κs = search needs
 offer-requires : tie.Need-offer-requires
 offer-requires c κs =
     let m = c .before in
-    simp (m .alphabet .ensures, m .before .of .ensures) (accepted _ _ (answer-0 (asked-of m)) .space)
+    simp (m .alphabet .ensures, m .before .of .ensures) (accepted _ _ (answer-0 (asked-of m)) .1 .space)
 
 reader-offered-requires : tie.Need-reader-offered-requires
 reader-offered-requires c κs = search needs
