@@ -88,7 +88,7 @@ run-answer s heard sent words e =
     eqb-true (answerTo s heard sent words) 0 (sym (run-succeeds s heard sent words) ∙ e)
 
 -- a refused call leaves the station
-refused-left : (s : Station) (c : Call) → succeeds s c ≡ false → left s c ≡ s
+pub refused-left : (s : Station) (c : Call) → succeeds s c ≡ false → left s c ≡ s
 refused-left s (OfferCall text) e =
     let no = eqb-false (offerAnswer s text) 0 (sym (offer-succeeds s text) ∙ e) in
     ap (λ (a : StationAnswered). a .station) (refused-offer s text no)

@@ -37,7 +37,7 @@ digits-test : T (passes (λ (k : ℕ). eqb (cameIn k) k) 32 0)
 unfolding passes
 digits-test = tt
 
-digits-back : (k : ℕ) → k < 32 → cameIn k ≡ k
+pub digits-back : (k : ℕ) → k < 32 → cameIn k ≡ k
 digits-back k h = eqb→eq (cameIn k) k (passes-at (λ (i : ℕ). eqb (cameIn i) i) 32 digits-test k h)
 
 -- the samples behind the start's
@@ -66,7 +66,7 @@ module _ (e : ℕ) (big : 2 ≤ e) where
       no-sample samples (e * j + i) d p x (baudot-off e (omega arith) (e * j + i) q)
 
   -- the sample of element j
-  on : (j d x : ℕ) → 1 ≤ baudotPlace e j
+  pub on : (j d x : ℕ) → 1 ≤ baudotPlace e j
       → frameStep samples (inFrame (baudotPlace e j) d) x ≡ sampled (getD baudotKinds j None) (baudotPlace e j) d x
   on j d x p =
       in-frame samples (baudotPlace e j) d x p
@@ -102,7 +102,7 @@ module _ (e : ℕ) (big : 2 ≤ e) where
       (chain samples (rw zero-add at (skip (e / 2) 0 (suc j) d x (omega arith) (omega arith) (λ p a b. omega arith)))
       (next samples (on (suc j) d x (omega arith) ∙ l) (rest (suc j) q x)))
 
-  leads : (m d b : ℕ) → b < 2 → sampled (Digit 16) m d (levelOf b) ≡ goesOn m (d / 2 + 16 * b)
+  pub leads : (m d b : ℕ) → b < 2 → sampled (Digit 16) m d (levelOf b) ≡ goesOn m (d / 2 + 16 * b)
   unfolding sampled
   leads m d zero h = refl
   leads m d (suc zero) h = refl

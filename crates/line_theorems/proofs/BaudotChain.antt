@@ -32,7 +32,7 @@ use Rattle.line_theorems.proofs.EdtReading.{reads-edt}
 use Rattle.line_theorems.proofs.Chain.{Gives, none, chain, code-read}
 
 -- reading Baudot gives the characters of a code: every code has a row
-baudot-word : (s k : ℕ) → wordOf (eventOf (reads Baudot s k)) ≡ charsOf (reads Baudot s k)
+pub baudot-word : (s k : ℕ) → wordOf (eventOf (reads Baudot s k)) ≡ charsOf (reads Baudot s k)
 unfolding reads readBaudot
 baudot-word s k =
     let P : Reads → Type 0 = λ (r : Reads). wordOf (eventOf r) ≡ charsOf r in

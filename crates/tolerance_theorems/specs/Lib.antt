@@ -1,0 +1,5 @@
+pub mod Edges
+pub mod Bursts
+pub mod Tolerance
+pub mod Station
+pub mod Calls
