@@ -5,15 +5,15 @@ use burst::rules;
 use edges::Edges;
 use edges::EdgesRead;
 use edges::Report;
+use frames::Frame;
 use half_duplex::Core;
 ghost use mathlib.Core.Path.{_≡_};
-ghost use mathlib.Core.Bool.{true, cond, not, _&&_};
-ghost use Prim.Native.Nat.{_+_, _≤_, _<_};
-ghost use lib.Dec.{eqb};
+ghost use mathlib.Core.Bool.{true, cond};
+ghost use mathlib.Core.List.{List};
+ghost use Prim.Native.Nat.{ℕ, _≤_, _<_};
 ghost use lib.ListN.{length};
 ghost use Rattle.lists.specs.Lists.{allAtMost};
 ghost use Rattle.alphabet.specs.Modes.{highestLevel};
-ghost use Rattle.burst.specs.Line.{inBurst};
 ghost use Rattle.edges.specs.Edges.{noEdge, noEdges, joined, edgesMs, countedMs};
 ghost use Rattle.edges.specs.code.Bounds.{ReportOf, EdgesOf};
 ghost use Rattle.frames.specs.code.Bounds.{FrameOf};
@@ -22,6 +22,7 @@ ghost use Rattle.half_duplex.specs.code.Bounds.{CoreIn};
 ghost use Rattle.station.specs.Station.{station};
 ghost use Rattle.station.specs.Measured.{measured, reportAfter};
 ghost use Rattle.station.specs.Range.{measuredIn};
+ghost use Rattle.station.specs.Listening.{Listens};
 
 // A core, the edges that wait and the report after a ms.
 pub struct Counted {
@@ -31,42 +32,38 @@ pub struct Counted {
 }
 
 // The edges of one ms, which is inhibited or heard.
-fn hear(inhibited: bool, c: Core, w: Edges, heard: u8) -> EdgesRead
-    requires { ⌜ FrameOf (modeIn c) (c .reader .frame) ⌝ }
-    requires { ⌜ EdgesOf (modeIn c) (c .reader .frame) w ⌝ }
-    ensures { λ r. ⌜ r .edges ≡ cond inhibited noEdges (edgesMs (modeIn c) (c .reader .frame) w heard) ⌝ }
-    ensures { λ r. ⌜ r .counted ≡ cond inhibited noEdge (countedMs (modeIn c) (c .reader .frame) w heard) ⌝ }
+fn hear(inhibited: bool, mode: Mode, f: Frame, w: Edges, heard: u8) -> EdgesRead
+    requires { ⌜ FrameOf mode f ⌝ }
+    requires { ⌜ EdgesOf mode f w ⌝ }
+    ensures { λ r. ⌜ r .edges ≡ cond inhibited noEdges (edgesMs mode f w heard) ⌝ }
+    ensures { λ r. ⌜ r .counted ≡ cond inhibited noEdge (countedMs mode f w heard) ⌝ }
 {
     if inhibited {
         let edges = edges::none();
         let counted = edges::no_edge();
         return EdgesRead { edges, counted };
     }
-    let reader = c.reader;
-    let f = reader.frame;
-    edges::hear(Mode::of(c.mode), f, w, heard)
+    edges::hear(mode, f, w, heard)
 }
 
 // One ms.
-fn step(c: Core, w: Edges, r: Report, front: Char, heard: u8) -> Counted
+fn step(mode: Mode, c: Core, w: Edges, r: Report, front: Char, heard: u8) -> Counted
+    requires { ⌜ mode ≡ modeIn c ⌝ }
     requires { ⌜ CoreIn c ⌝ }
     requires { ⌜ (1 ≤ c .waiting → front .0 < 128) ⌝ }
-    requires { ⌜ EdgesOf (modeIn c) (c .reader .frame) w ⌝ }
+    requires { ⌜ EdgesOf mode (c .reader .frame) w ⌝ }
     requires { ⌜ ReportOf 999_000 r ⌝ }
     ensures { λ x. ⌜ x .core ≡ coreAfter c (front .0) heard ⌝ }
-    ensures { λ x. ⌜ x .edges ≡ cond (inhibitedIn c (front .0)) noEdges
-        (edgesMs (modeIn c) (c .reader .frame) w heard) ⌝ }
+    ensures { λ x. ⌜ x .edges ≡ cond (inhibitedIn c (front .0)) noEdges (edgesMs mode (c .reader .frame) w heard) ⌝ }
     ensures { λ x. ⌜ x .report ≡ joined r (cond (inhibitedIn c (front .0)) noEdge
-        (countedMs (modeIn c) (c .reader .frame) w heard)) ⌝ }
+        (countedMs mode (c .reader .frame) w heard)) ⌝ }
 {
     let l = half_duplex::settle(c, front);
     let line = l.line;
-    let e = hear(
-        rules::is_inhibited(line.part != burst::IDLE, c.inhibited),
-        c,
-        w,
-        heard,
-    );
+    let reader = c.reader;
+    let f = reader.frame;
+    let inhibited = rules::is_inhibited(line.part != burst::IDLE, c.inhibited);
+    let e = hear(inhibited, mode, f, w, heard);
     let edges = e.edges;
     let counted = e.counted;
     let report = edges::joined(r, counted);
@@ -81,7 +78,7 @@ fn step(c: Core, w: Edges, r: Report, front: Char, heard: u8) -> Counted
 
 // Does a core hear every ms to come? It is in no burst, none waits, and no inhibited ms is to come.
 fn only_hears(c: Core) -> bool
-    ensures { λ r. ⌜ r ≡ (eqb (c .line .part) 0 && eqb (c .waiting) 0 && eqb (c .inhibited) 0) ⌝ }
+    ensures { λ r. ⌜ ((chars : List ℕ) → r ≡ true → Listens (station c chars)) ⌝ }
 {
     let line = c.line;
     if line.part != burst::IDLE {
@@ -117,7 +114,7 @@ pub fn report_after(c: Core, w: Edges, chars: &[u8], r: Report, heard: &[u8]) ->
             return edges_runs::measure(mode, f, edges, report, &heard[i..]);
         }
         let front = queue::front_after(chars, (c.waiting - core.waiting) as usize);
-        let x = step(core, edges, report, front, heard[i]);
+        let x = step(mode, core, edges, report, front, heard[i]);
         core = x.core;
         edges = x.edges;
         report = x.report;

@@ -176,7 +176,7 @@ pub fn with_ms(e: usize, m: usize, w: Edges, heard: u8) -> Edges
 }
 
 // Was a code found?
-fn is_code(found: Found) -> bool
+pub fn is_code(found: Found) -> bool
     ensures { λ r. ⌜ r ≡ isCode found ⌝ }
 {
     match found {
@@ -187,7 +187,7 @@ fn is_code(found: Found) -> bool
 }
 
 // The ms of a frame at a place of its reader; 0 where it begins.
-fn ms_at(place: u8) -> usize
+pub fn ms_at(place: u8) -> usize
     ensures { λ r. ⌜ r ≡ place - 1 ⌝ }
 {
     if place == 0 {

@@ -20,7 +20,8 @@ use Rattle.frames.specs.code.Bounds.{Framed, FrameOf, isFound}
 use Rattle.frames.proofs.Range.{digits-128, next-in, in-frame}
 use Rattle.frames.specs.declared.samples.Effect.the-variants.{On, Hunts}
 use Rattle.frames.specs.code.Samples.{numberAt, sampleMs, kindOf, Does}
-use Rattle.frames_runs.specs.code.Passing.{frameAt, FramePasses, placeAfter, Stays}
+use Rattle.frames_runs.specs.code.Passing.{frameAt, FramePasses, FrameWalks, placeAfter, Stays}
+use Rattle.frames_runs.proofs.Walking.{walks-none, walks-one, walks-chain, walks-to}
 use Rattle.frames_runs.proofs.Numbered.{next-of, number-next, ms-grows}
 
 -- ---- hunting and waiting: the place stays
@@ -126,6 +127,32 @@ module _ (mode : Mode) (framed : Framed mode) (heard : List ℕ) where
       (pass-one _ _ at (b .in-range) a
       (alike-step place 0 (getD heard at 0) l ∙ ap (λ (n : ℕ). gives (frameAt n 0) nothing) (sym e)))
 
+  -- every ms on its way, if the digits are 0 as they are to be
+  alike-walks : (place i to : ℕ) → place ≤ 1 → Stays heard place i to
+      → FrameWalks mode heard (frameAt place 0) i (frameAt place 0) to
+  alike-walks place i to l s =
+      walks-to samples heard (λ (k : ℕ). frameAt place 0) i to (s .low) (s .high)
+      (λ (k : ℕ) (g : k < to - i). alike-step place 0 (getD heard (i + k) 0) l
+      ∙ ap (λ (p : ℕ). gives (frameAt p 0) nothing) (s .stays (i + k) (omega arith) (omega arith)))
+
+  alike-walks-next : (place i at : ℕ) → place ≤ 1 → Stays heard place i at → at < length heard
+      → (p : ℕ) → p ≡ placeAfter place (getD heard at 0)
+      → FrameWalks mode heard (frameAt place 0) i (frameAt p 0) (at + 1)
+  alike-walks-next place i at l s a p e =
+      walks-chain samples heard _ _ _ i at (at + 1) (s .low) (omega arith) (alike-walks place i at l s)
+      (walks-one samples heard _ _ at a
+      (alike-step place 0 (getD heard at 0) l ∙ ap (λ (n : ℕ). gives (frameAt n 0) nothing) (sym e)))
+
+  -- with digits that are 0 outside a frame
+  pub alike-walks-as : (place digits i to : ℕ) → (place ≤ 1 → digits ≡ 0) → place ≤ 1 → Stays heard place i to
+      → FrameWalks mode heard (frameAt place digits) i (frameAt place 0) to
+  alike-walks-as place digits i to d l s = rw (d l) (alike-walks place i to l s)
+
+  pub alike-walks-next-as : (place digits i at : ℕ) → (place ≤ 1 → digits ≡ 0) → place ≤ 1 → Stays heard place i at
+      → at < length heard → (p : ℕ) → p ≡ placeAfter place (getD heard at 0)
+      → FrameWalks mode heard (frameAt place digits) i (frameAt p 0) (at + 1)
+  alike-walks-next-as place digits i at d l s a p e = rw (d l) (alike-walks-next place i at l s a p e)
+
 -- ---- in a frame
 
 module _ (mode : Mode) where
@@ -155,6 +182,7 @@ pub record Ahead (mode : Mode) (heard : List ℕ) (f : Frame) (i j s at digits :
   pub far : at ≤ length heard + s
   pub digits-in : digits < 128
   pub passes : FramePasses mode heard f i (frameAt (s + 1 - (at - length heard)) digits) (at - (at - length heard))
+  pub walks : FrameWalks mode heard f i (frameAt (s + 1 - (at - length heard)) digits) (at - (at - length heard))
 
 module _ (mode : Mode) (framed : Framed mode) (heard : List ℕ) (f : Frame) (h : FrameOf mode f) (i : ℕ) where
   none-passes : (place digits t to : ℕ) → FrameOf mode (frameAt place digits) → 2 ≤ place → t ≤ to → to ≤ length heard
@@ -165,11 +193,20 @@ module _ (mode : Mode) (framed : Framed mode) (heard : List ℕ) (f : Frame) (h 
       rw z at (pass-to mode framed heard (λ (k : ℕ). frameAt (place + k) digits) t to (rw z h) a b
       (λ (k : ℕ) (g : k < to - t). none-step mode place digits k (getD heard (t + k) 0) l (none k g)))
 
+  none-walks : (place digits t to : ℕ) → 2 ≤ place → t ≤ to → to ≤ length heard
+      → ((k : ℕ) → k < to - t → sampleAt (samplesOf mode) (place - 1 + k) ≡ None)
+      → FrameWalks mode heard (frameAt place digits) t (frameAt (place + (to - t)) digits) to
+  none-walks place digits t to l a b none =
+      let z : place + 0 ≡ place = omega arith in
+      rw z at (walks-to (samplesOf mode) heard (λ (k : ℕ). frameAt (place + k) digits) t to a b
+      (λ (k : ℕ) (g : k < to - t). none-step mode place digits k (getD heard (t + k) 0) l (none k g)))
+
   -- from a place in a frame up to its next sample
-  ahead : (place digits t : ℕ) → FramePasses mode heard f i (frameAt place digits) t → 2 ≤ place
+  ahead : (place digits t : ℕ) → FramePasses mode heard f i (frameAt place digits) t
+      → FrameWalks mode heard f i (frameAt place digits) t → 2 ≤ place
       → (j s at : ℕ) → j ≡ numberAt mode (place - 1) → s ≡ sampleMs mode j → at ≡ t + (s - (place - 1))
       → Ahead mode heard f i j s at digits
-  ahead place digits t p l j s at ej es ea =
+  ahead place digits t p w l j s at ej es ea =
       let low = p .low in
       let high = p .high in
       let g = p .in-range in
@@ -177,8 +214,10 @@ module _ (mode : Mode) (framed : Framed mode) (heard : List ℕ) (f : Frame) (h 
       let behind = n .low in
       let to = at - (at - length heard) in
       let z : place + (to - t) ≡ s + 1 - (at - length heard) = omega arith in
-      let b = none-passes place digits t to g l (omega arith) (omega arith)
-      (λ (k : ℕ) (e : k < to - t). n .none k (omega arith)) in
+      let none : (k : ℕ) → k < to - t → sampleAt (samplesOf mode) (place - 1 + k) ≡ None
+      = λ (k : ℕ) (e : k < to - t). n .none k (omega arith) in
+      let b = none-passes place digits t to g l (omega arith) (omega arith) none in
+      let v = none-walks place digits t to l (omega arith) (omega arith) none in
       record {
         ms = es;
         number = n .number;
@@ -188,18 +227,24 @@ module _ (mode : Mode) (framed : Framed mode) (heard : List ℕ) (f : Frame) (h 
         far = omega arith;
         digits-in = digits-128 mode _ g;
         passes = pass-chain mode framed heard _ _ _ i t to p (rw z at b);
+        walks = walks-chain (samplesOf mode) heard _ _ _ i t to low (omega arith) w (rw z at v);
       }
 
   pub ahead-start : (place digits : ℕ) → f ≡ frameAt place digits → 2 ≤ place → i ≤ length heard
       → (j s : ℕ) → j ≡ numberAt mode (place - 1) → s ≡ sampleMs mode j
       → Ahead mode heard f i j s (i + (s - (place - 1))) digits
   ahead-start place digits e l m j s ej es =
-      ahead place digits i (rw (← e) (pass-none mode framed heard f i h m)) l j s _ ej es refl
+      ahead place digits i (rw (← e) (pass-none mode framed heard f i h m))
+      (rw (← e) (walks-none (samplesOf mode) heard f i)) l j s _ ej es refl
 
   module _ (j s at digits : ℕ) (a : Ahead mode heard f i j s at digits) where
     pub ahead-end : length heard ≤ at
         → FramePasses mode heard f i (frameAt (s + 1 - (at - length heard)) digits) (length heard)
     ahead-end l = let z : at - (at - length heard) ≡ length heard = omega arith in rw z at (a .passes)
+
+    pub ahead-end-walks : length heard ≤ at
+        → FrameWalks mode heard f i (frameAt (s + 1 - (at - length heard)) digits) (length heard)
+    ahead-end-walks l = let z : at - (at - length heard) ≡ length heard = omega arith in rw z at (a .walks)
 
     module _ (l : at < length heard) where
       abbrev x : ℕ
@@ -210,6 +255,12 @@ module _ (mode : Mode) (framed : Framed mode) (heard : List ℕ) (f : Frame) (h 
           let z : s + 1 - (at - length heard) ≡ s + 1 = omega arith in
           let y : at - (at - length heard) ≡ at = omega arith in
           rw (z, y) at (a .passes)
+
+      pub ahead-here-walks : FrameWalks mode heard f i (frameAt (s + 1) digits) at
+      ahead-here-walks =
+          let z : s + 1 - (at - length heard) ≡ s + 1 = omega arith in
+          let y : at - (at - length heard) ≡ at = omega arith in
+          rw (z, y) at (a .walks)
 
       sample-step : frameStep (samplesOf mode) (frameAt (s + 1) digits) x ≡ sampled (kindOf mode j) s digits x
       sample-step =
@@ -225,6 +276,15 @@ module _ (mode : Mode) (framed : Framed mode) (heard : List ℕ) (f : Frame) (h 
           pass-chain mode framed heard _ _ _ i at (at + 1) ahead-here
           (pass-one mode framed heard _ g at (ahead-here .in-range) l (sample-step ∙ e))
 
+      sample-walks : (g : Frame) → sampled (kindOf mode j) s digits x ≡ gives g nothing
+          → FrameWalks mode heard f i g (at + 1)
+      sample-walks g e =
+          walks-chain (samplesOf mode) heard _ _ _ i at (at + 1) (a .from) (omega arith) ahead-here-walks
+          (walks-one (samplesOf mode) heard _ g at l (sample-step ∙ e))
+
+      pub ahead-hunts-walks : Does (kindOf mode j) digits x Hunts → FrameWalks mode heard f i (frameAt 0 0) (at + 1)
+      ahead-hunts-walks e = sample-walks (frameAt 0 0) (e s)
+
       pub ahead-hunts : Does (kindOf mode j) digits x Hunts → FramePasses mode heard f i (frameAt 0 0) (at + 1)
       ahead-hunts e = sample-passes (frameAt 0 0) (e s)
 
@@ -237,5 +297,6 @@ module _ (mode : Mode) (framed : Framed mode) (heard : List ℕ) (f : Frame) (h 
           let grows = ms-grows mode j in
           let z : sampleMs mode j + 1 ≡ s + 1 + 1 - 1 = omega arith in
           let y : next ≡ sampleMs mode (j + 1) = en ∙ ap (sampleMs mode) ek in
-          ahead (s + 1 + 1) after (at + 1) (sample-passes (frameAt (s + 1 + 1) after) (e s)) (omega arith) k next to
+          let g = frameAt (s + 1 + 1) after in
+          ahead (s + 1 + 1) after (at + 1) (sample-passes g (e s)) (sample-walks g (e s)) (omega arith) k next to
           (ek ∙ sym (number-next mode j) ∙ ap (numberAt mode) z) en (omega arith)

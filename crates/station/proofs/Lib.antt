@@ -7,3 +7,4 @@ pub mod Cuts
 pub mod Lengths
 pub mod Takings
 pub mod Reports
+pub mod Listening

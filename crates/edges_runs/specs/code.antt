@@ -1,0 +1,3 @@
+-- How the code goes about its work; no contract of an entry mentions these.
+pub mod Latest
+pub mod Counting
