@@ -134,3 +134,19 @@ module _ (heard chars₀ : List ℕ) (full : length chars₀ ≡ 256) (c₀ : Co
             few = omega arith;
             left = (λ j. reportAfter (whole j) (eq j) (drop (i + 1) heard)) ∙ sym (report-next h) ∙ l .left;
           }
+
+    -- the same, by what a ms of the loop gives: with the front character k
+    module _ (h : i < length heard) (levels : allAtMost (highestLevel (modeIn c₀)) heard ≡ true)
+        (k : ℕ) (ek : k ≡ getD (rest c₀ chars₀ c) 0 0) (m : Mode) (em : m ≡ modeIn c) where
+      abbrev now : ℕ
+      now = getD heard i 0
+
+      pub left-step : (d : Core) → d ≡ coreAfter c k now
+          → (v : Edges) → v ≡ cond (inhibitedIn c k) noEdges (edgesMs m (c .reader .frame) w now)
+          → (q : Report) → q ≡ joined r (cond (inhibitedIn c k) noEdge (countedMs m (c .reader .frame) w now))
+          → Left heard chars₀ c₀ w₀ r₀ d v q (i + 1)
+      unfolding stationMs waitingMs countedIn
+      left-step d ed v ev q eq =
+          left-turn h levels d (ed ∙ ap (λ (n : ℕ). coreAfter c n now) ek)
+          v (ev ∙ (λ j. cond (inhibitedIn c (ek j)) noEdges (edgesMs (em j) (c .reader .frame) w now)))
+          q (eq ∙ (λ j. joined r (cond (inhibitedIn c (ek j)) noEdge (countedMs (em j) (c .reader .frame) w now))))

@@ -1,5 +1,5 @@
 -- `only_hears` meets its contract.
-use mathlib.Core.Path.{_≡_, _∙_, refl, sym, ap, subst}
+use mathlib.Core.Path.{_≡_, sym, ap, subst}
 use mathlib.Core.Bool.{true, false, not}
 use lib.Dec.{T}
 use borrow.Author.Tests.{eq-eqb, eqb-true}
@@ -17,9 +17,9 @@ returns-2 c = λ chars e. never e
 
 returns-3 : tie.Need-returns-3
 returns-3 c = λ chars e. record {
-  no-burst = ?;
-  none-waiting = ?;
-  none-to-come = eqb-true _ 0 ?;
+  no-burst = ap not (eq-eqb _ 0 (c .before .before .before .if1 .left));
+  none-waiting = c .before .if2 .left;
+  none-to-come = eqb-true _ 0 e;
 }
 
 pub only-hears-spec : {M : Type 1} → statement M
