@@ -24,8 +24,8 @@ use Rattle.queue.specs.Queue.{waits, waiters, allWait, waitingOf}
 use Rattle.queue.proofs.Laws.{waiting-offered}
 use Rattle.station.specs.declared.Station.{Station}
 use Rattle.station.specs.Station.{modeOfStation, queueOf, offeredTo}
-use Rattle.station.specs.Entries.{offerAnswer}
-use Rattle.station.proofs.Range.{core-in, all-waiting, waiting-count, accepted, offered-in, offered-full}
+use Rattle.station.specs.code.Accepted.{Accepted}
+use Rattle.station.proofs.Range.{core-in, all-waiting, waiting-count, offered-in, offered-full}
 use Rattle.preview.specs.Preview.{isIdle, IdleIn}
 use Rattle.preview.specs.code.Count.{charsMs, behindMs, aheadMs, someMs, msLeft}
 use Rattle.preview.proofs.Idle.{idle-in}
@@ -54,7 +54,7 @@ longest-480 Baudot50 = omega arith
 longest-480 Dtmf = omega arith
 longest-480 Edt = omega arith
 
-module _ (s : Station) (text : List ℕ) (full : length (s .chars) ≡ 256) (z : offerAnswer s text ≡ 0) where
+module _ (s : Station) (text : List ℕ) (full : length (s .chars) ≡ 256) (z : Accepted s text) where
   abbrev mode : Mode
   mode = modeOfStation s
 
@@ -65,14 +65,14 @@ module _ (s : Station) (text : List ℕ) (full : length (s .chars) ≡ 256) (z :
   after = offeredTo s text
 
   own-wait : allWait (alphabetOf mode) own ≡ true
-  own-wait = all-waiting s (accepted s text z .in-range)
+  own-wait = all-waiting s (z .in-range)
 
   pub chars-low : allChars (own ++ text) ≡ true
-  chars-low = at-most-append 0x7f own text (all-chars (alphabetOf mode) own own-wait) (accepted s text z .chars)
+  chars-low = at-most-append 0x7f own text (all-chars (alphabetOf mode) own own-wait) (z .chars)
 
   waiting-is : waitingOf (queueOf after) ≡ own ++ waiters (alphabetOf mode) text
   unfolding offeredTo
-  waiting-is = waiting-offered (alphabetOf mode) (queueOf s) full text (accepted s text z .space)
+  waiting-is = waiting-offered (alphabetOf mode) (queueOf s) full text (z .space)
 
   chars-same : (t : Sender) → charsMs mode t (own ++ text) ≡ charsMs mode t (waitingOf (queueOf after))
   chars-same t =
@@ -95,7 +95,7 @@ module _ (s : Station) (text : List ℕ) (full : length (s .chars) ≡ 256) (z :
       let c = core-in after i .waiting-in in
       let n = waiting-count after i (offered-full s text full) in
       let e = behind-same l (s .core .sender) in
-      let j = core-in s (accepted s text z .in-range) .sender-in in
+      let j = core-in s (z .in-range) .sender-in in
       let m = behind-longest mode l (s .core .sender) cs waiting-low in
       let b = behind-most (alphabetOf mode) l (s .core .sender) j cs waiting-low in
       let few : codesBehind (alphabetOf mode) l (s .core .sender) cs ≤ 514 = omega arith in
@@ -123,7 +123,7 @@ module _ (s : Station) (text : List ℕ) (waiting : ℕ) (w : waiting ≡ offere
   unfolding stateAfter
   idle-now e = record { idle = idle-is ∙ e; first = λ k h. absurd (omega arith) }
 
-  module _ (full : length (s .chars) ≡ 256) (z : offerAnswer s text ≡ 0) where
+  module _ (full : length (s .chars) ≡ 256) (z : Accepted s text) where
     -- the ms that the code counts, ahead of the codes and of the codes
     abbrev aheadOf : ℕ
     aheadOf = aheadMs (modeOfStation s) (s .core .line) (s .core .silence)

@@ -12,6 +12,7 @@ ghost use Rattle.lists.specs.Lists.{allAtMost};
 ghost use Rattle.alphabet.specs.Modes.{highestLevel};
 ghost use Rattle.edges.specs.Edges.{noEdge};
 ghost use Rattle.edges.specs.Range.{reportIn};
+ghost use Rattle.edges.specs.code.Bounds.{ReportOf};
 ghost use Rattle.half_duplex.specs.Core.{modeIn};
 ghost use Rattle.station.specs.Station.{station, stationAfter};
 ghost use Rattle.station.specs.Measured.{measured, measuredAfter, reportAfter};
@@ -76,7 +77,9 @@ fn counted(wanted: bool, c: Core, w: Edges, chars: &[u8; 256], r: Report, heard:
 
 // The edges that wait after a run, told by the place of the frame before it and after it.
 fn edges_after(c: Core, w: Edges, heard: &[u8], after: Core) -> Edges
-    ensures { λ r. ⌜ ((chars : List ℕ) → measuredIn (measured (station c chars) w) ≡ true → length chars ≡ 256
+    requires { ⌜ ReportOf 900_000 (w .seen) ⌝ }
+    requires { ⌜ length (now heard) ≤ 4_096 ⌝ }
+    ensures { λ r. ⌜ ((chars : List ℕ) → measuredIn (measured (station c chars) w) ≡ true
         → allAtMost (highestLevel (modeIn c)) (now (heard .entry)) ≡ true
         → after ≡ stationAfter (station c chars) (now (heard .entry)) .core
         → r ≡ measuredAfter (measured (station c chars) w) (now (heard .entry)) .edges) ⌝ }

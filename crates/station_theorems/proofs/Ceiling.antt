@@ -31,8 +31,10 @@ use Rattle.burst.proofs.Laws.{opening-some, begun-first}
 use Rattle.queue.specs.Queue.{allWait, waitingOf}
 use Rattle.station.specs.declared.Station.{Station}
 use Rattle.station.specs.Station.{modeOfStation, queueOf, offeredTo}
+use Rattle.station.specs.Measured.{stationOf}
 use Rattle.station.specs.Entries.{offerAnswer}
 use Rattle.station.proofs.Range.{core-in, all-waiting, waiting-count, offered-in, offered-full}
+use Rattle.station.proofs.Kept.{accepted}
 use Rattle.preview.specs.code.Count.{behindMs, someMs, msLeft}
 use Rattle.preview.proofs.Idle.{idle-in}
 use Rattle.preview.proofs.Lowers.{left-burst, some-is, some-behind}
@@ -159,9 +161,11 @@ pub in-numbers : InNumbers
 in-numbers = record { baudot45 = λ n. refl; baudot50 = λ n. refl; dtmf = λ n. omega arith; edt = λ n. omega arith }
 
 pub preview-counts : PreviewCounts
-preview-counts s text ms full p =
+preview-counts x text ms full p =
+    let s = stationOf x in
     let z = sym (p .as-offered) in
-    record { full = offered-full s text full; in-range = offered-in s text full z; idle-in = p .idle-in z }
+    let i = offered-in s text full (accepted x text z .1) in
+    record { full = offered-full s text full; in-range = i; idle-in = p .idle-in z }
 
 pub none-waiting : NoneWaiting
 none-waiting s ms c b z = count-is s ms c ∙ none-left s ms c b z
@@ -177,8 +181,8 @@ ceiling-holds s ms c t =
 
 pub preview-ceiling : PreviewCeiling
 unfolding offeredTo
-preview-ceiling s text ms full p t =
-    ceiling-holds (offeredTo s text) ms (preview-counts s text ms full p)
+preview-ceiling x text ms full p t =
+    ceiling-holds (offeredTo (stationOf x) text) ms (preview-counts x text ms full p)
     (record { no-burst = t .no-burst; free = t .free })
 
 pub ceiling-in-burst : CeilingInBurst
@@ -233,11 +237,11 @@ counted-few s ms c =
     omega arith)
 
 pub none-longer : NoneLonger
-none-longer s text answer ms full p =
-    by-test (eqb (offerAnswer s text) 0)
+none-longer x text answer ms full p =
+    by-test (eqb (offerAnswer x text) 0)
     (λ e.
-    let z = eqb-true (offerAnswer s text) 0 e in
-    counted-few (offeredTo s text) ms
-    (preview-counts s text ms full
+    let z = eqb-true (offerAnswer x text) 0 e in
+    counted-few (offeredTo (stationOf x) text) ms
+    (preview-counts x text ms full
     (record { as-offered = sym z; idle-in = p .idle-in; refused = p .refused })))
-    (λ e. let z = p .refused (eqb-false (offerAnswer s text) 0 e) in omega arith)
+    (λ e. let z = p .refused (eqb-false (offerAnswer x text) 0 e) in omega arith)

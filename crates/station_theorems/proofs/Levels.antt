@@ -24,6 +24,7 @@ use Rattle.burst.specs.declared.OnLine.{OnLine}
 use Rattle.burst.specs.Line.{inBurst, isCode, partMs, levelOn}
 use Rattle.half_duplex.specs.Core.{settled, coreFrom}
 use Rattle.station.specs.Station.{modeOfStation, front, stationMs, sentMs, sentBy}
+use Rattle.station.specs.Measured.{stationOf}
 use Rattle.station.specs.Entries.{sentAfter}
 use Rattle.station_theorems.specs.Output.{highestSent, SentInMode, RunSentInMode}
 
@@ -135,7 +136,8 @@ sent-in-mode s (x ∷ xs) =
 -- and so is each that a run writes
 pub run-sent-in-mode : RunSentInMode
 unfolding sentAfter
-run-sent-in-mode s heard wordRoom slice z =
+run-sent-in-mode x r heard wordRoom slice z =
+    let s = stationOf x in
     let sent = sentBy s heard in
     let n = outputs-length stationMs sentMs s heard in
     rw (z, take-at sent (drop (length sent) slice) (length heard) n) (sent-in-mode s heard)

@@ -4,3 +4,4 @@ pub mod Levels
 pub mod Idle
 pub mod Ceiling
 pub mod Reached
+pub mod Drift

@@ -34,10 +34,14 @@ use Rattle.burst.specs.Line.{onLine, inBurst}
 use Rattle.queue.specs.Queue.{waits, waiters, allWait, waitingOf, room, offered}
 use Rattle.queue.proofs.Laws.{waiting-offered}
 use Rattle.station.specs.declared.Station.{Station}
+use Rattle.station.specs.declared.Measured.{Measured}
 use Rattle.station.specs.Station.{modeOfStation, alphabetOfStation, queueOf, offeredTo, freshStation}
-use Rattle.station.specs.Range.{inRange}
+use Rattle.station.specs.Measured.{stationOf, freshMeasured}
+use Rattle.station.specs.Range.{inRange, measuredIn}
 use Rattle.station.specs.Entries.{offerAnswer}
-use Rattle.station.proofs.Range.{core-in, offered-in, offered-full, fresh-in, number-in, fresh-full}
+use Rattle.station.proofs.Range.{core-in, offered-in, offered-full, number-in, fresh-full}
+use Rattle.station.proofs.Edged.{measured-in}
+use Rattle.station.proofs.Kept.{accepted, fresh-measured}
 use Rattle.preview.specs.Preview.{IdleIn}
 use Rattle.preview.specs.code.Count.{codeMs, charsMs, behindMs, msLeft}
 use Rattle.preview.proofs.Idle.{idle-in}
@@ -231,8 +235,14 @@ behind-reached mode l s n b p h o =
 
 -- ---- a station with nothing waiting, and its offer
 
-module _ (s : Station) (full : length (s .chars) ≡ 256) (i : inRange s ≡ true) (none : s .core .waiting ≡ 0)
+module _ (x : Measured) (full : length (x .chars) ≡ 256) (r : measuredIn x ≡ true) (none : x .core .waiting ≡ 0)
     (n : ℕ) (low : 1 ≤ n) (high : n ≤ 256) where
+  abbrev s : Station
+  s = stationOf x
+
+  i : inRange s ≡ true
+  i = measured-in x r .0
+
   abbrev a : Alphabet
   a = alphabetOfStation s
 
@@ -255,9 +265,9 @@ module _ (s : Station) (full : length (s .chars) ≡ 256) (i : inRange s ≡ tru
   unfolding room
   space = let l = wait-length in le-leb (s .core .waiting + length (waiters a text)) 256 (omega arith)
 
-  taken : offerAnswer s text ≡ 0
+  taken : offerAnswer x text ≡ 0
   unfolding offerAnswer
-  taken = rw (i, all-chars a text all-wait, space) refl
+  taken = rw (r, all-chars a text all-wait, space) refl
 
   waiting-is : after .core .waiting ≡ n
   unfolding offeredTo offered
@@ -273,10 +283,10 @@ module _ (s : Station) (full : length (s .chars) ≡ 256) (i : inRange s ≡ tru
   counted : Counted after (msLeft after)
   counted =
       let f = offered-full s text full in
-      let r = offered-in s text full taken in
-      record { full = f; in-range = r; idle-in = idle-in after f r }
+      let k = offered-in s text full (accepted x text taken .1) in
+      record { full = f; in-range = k; idle-in = idle-in after f k }
 
-  reaches : (ms : ℕ) → msLeft after ≡ ms → Reaches s n ms
+  reaches : (ms : ℕ) → msLeft after ≡ ms → Reaches x n ms
   reaches ms e = record {
     waiting = waiting-is;
     previews = record {
@@ -298,7 +308,7 @@ module _ (s : Station) (full : length (s .chars) ≡ 256) (i : inRange s ≡ tru
   not-free b =
       let w = waiting-is in
       let e = first-left after (msLeft after) counted b (omega arith) in
-      let r = behind-text (onLine 1 0 0) refl (omega arith) in
+      let t = behind-text (onLine 1 0 0) refl (omega arith) in
       omega arith
 
   in-burst : inBurst (s .core .line) ≡ true → msLeft after ≡ ceilingInBurst s n
@@ -309,7 +319,7 @@ module _ (s : Station) (full : length (s .chars) ≡ 256) (i : inRange s ≡ tru
       let len = waiting-length after (msLeft after) counted in
       let wait = waiting-wait after (msLeft after) counted in
       let m = some-behind mode l (s .core .sender) (waitingOf (queueOf after)) (omega arith) wait in
-      let r = behind-text l b (core-in s i .line-in .part-in) in
+      let t = behind-text l b (core-in s i .line-in .part-in) in
       let k = partLeft s + behindMs mode l (s .core .sender) (waitingOf (queueOf after)) in
       let e = left-burst mode l (s .core .sender) (after .core .waiting) (s .core .silence)
       (waitingOf (queueOf after)) b in
@@ -319,12 +329,12 @@ module _ (s : Station) (full : length (s .chars) ≡ 256) (i : inRange s ≡ tru
 -- ---- the statements
 
 pub reached-not-free : ReachedNotFree
-reached-not-free s full i b none n low high =
-    reaches s full i none n low high (ceilingNotFree s n) (not-free s full i none n low high b)
+reached-not-free x full r b none n low high =
+    reaches x full r none n low high (ceilingNotFree (stationOf x) n) (not-free x full r none n low high b)
 
 pub reached-in-burst : ReachedInBurst
-reached-in-burst s full i b none n low high =
-    reaches s full i none n low high (ceilingInBurst s n) (in-burst s full i none n low high b)
+reached-in-burst x full r b none n low high =
+    reaches x full r none n low high (ceilingInBurst (stationOf x) n) (in-burst x full r none n low high b)
 
 fresh-ceiling : (mode : Mode) (n : ℕ) → ceilingNotFree (freshStation (modeNumber mode)) n ≡ ceiling mode n
 unfolding freshStation
@@ -337,9 +347,9 @@ pub reached : Reached
 unfolding freshStation
 reached mode n low high =
     let m = modeNumber mode in
-    let s = freshStation m in
-    subst (Reaches s n) (fresh-ceiling mode n)
-    (reached-not-free s (fresh-full m) (fresh-in m (number-in mode)) refl refl n low high)
+    let x = freshMeasured m in
+    subst (Reaches x n) (fresh-ceiling mode n)
+    (reached-not-free x (fresh-full m) (fresh-measured m (number-in mode)) refl refl n low high)
 
 -- in EDT all codes have 100 ms, and each that waits has one
 edt-behind : (mode : Mode) → mode ≡ Edt → (s : Sender) (cs : List ℕ) → allWait (alphabetOf mode) cs ≡ true

@@ -43,8 +43,11 @@ use Rattle.half_duplex.specs.Core.{inhibitedIn, coreFrom}
 use Rattle.station.specs.declared.Station.{Station}
 use Rattle.station.specs.Station as station
 use Rattle.station.specs.Station.{modeOfStation, front, stationMs, wordsBy}
+use Rattle.station.specs.Measured.{stationOf}
 use Rattle.station.specs.Entries.{runAnswer, ranOf, wordsAfter}
-use Rattle.station.proofs.Range.{core-in, runs}
+use Rattle.station.proofs.Range.{core-in}
+use Rattle.station.proofs.Edged.{measured-in}
+use Rattle.station.proofs.Kept.{runs}
 use Rattle.station_theorems.proofs.Faults.{or-second, Among, step-faults, mode-faults}
 use Rattle.station_theorems.specs.Output.{highestChar, faultsAt, faultsOf, faultWords, isOneOf, isWord, allWords, WordsWellFormed, RunWordsWellFormed}
 
@@ -203,11 +206,11 @@ words-well-formed s heard i = all-good heard s (core-in s i .reader-in .frame-in
 -- and so is every word that a run counts, of any station
 pub run-words-well-formed : RunWordsWellFormed
 unfolding ranOf wordsAfter allWords
-run-words-well-formed s heard sentRoom slice =
-    let answer = runAnswer s heard sentRoom (length slice) in
-    let ws = wordsBy s heard in
+run-words-well-formed x r heard sentRoom slice =
+    let answer = runAnswer x r heard sentRoom (length slice) in
+    let ws = wordsBy (stationOf x) heard in
     by-test (eqb answer 0)
     (λ e.
-    let i = runs s heard sentRoom (length slice) (eqb-true answer 0 e) .in-range in
-    rw (e, take-append-seam ws (drop (length ws) slice)) (words-well-formed s heard i))
+    let i = measured-in x (runs x r heard sentRoom (length slice) (eqb-true answer 0 e) .in-range) .0 in
+    rw (e, take-append-seam ws (drop (length ws) slice)) (words-well-formed (stationOf x) heard i))
     (λ e. rw e refl)

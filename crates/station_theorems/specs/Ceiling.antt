@@ -16,8 +16,10 @@ use Rattle.burst.specs.declared.OnLine.{OnLine}
 use Rattle.burst.specs.Rules.{freeMs, opensWithShift}
 use Rattle.burst.specs.Line.{inBurst, isCode, partMs}
 use Rattle.station.specs.declared.Station.{Station}
-use Rattle.station.specs.Station.{modeOfStation, alphabetOfStation, offeredTo, freshStation}
-use Rattle.station.specs.Range.{inRange}
+use Rattle.station.specs.declared.Measured.{Measured}
+use Rattle.station.specs.Station.{modeOfStation, alphabetOfStation, offeredTo}
+use Rattle.station.specs.Measured.{stationOf, freshMeasured}
+use Rattle.station.specs.Range.{inRange, measuredIn}
 use Rattle.preview.specs.Preview.{IdleIn, Previews}
 
 -- The most codes that n characters take: in Baudot a shift code and its own for each; DTMF and EDT have no shifts.
@@ -52,8 +54,8 @@ pub record Counted (s : Station) (ms : ℕ) : Type 0 where
 
 abbrev pub PreviewCounts : Type 0
 PreviewCounts =
-    (s : Station) (text : List ℕ) (ms : ℕ) → length (s .chars) ≡ 256 → Previews s text 0 ms
-    → Counted (offeredTo s text) ms
+    (x : Measured) (text : List ℕ) (ms : ℕ) → length (x .chars) ≡ 256 → Previews x text 0 ms
+    → Counted (offeredTo (stationOf x) text) ms
 
 -- A silent station with a free line: in no burst, and with 300 ms of silence.
 pub record Silent (s : Station) : Type 0 where
@@ -67,8 +69,8 @@ Ceiling = (s : Station) (ms : ℕ) → Counted s ms → Silent s → ms ≤ ceil
 -- .. the offer's included ..
 abbrev pub PreviewCeiling : Type 0
 PreviewCeiling =
-    (s : Station) (text : List ℕ) (ms : ℕ) → length (s .chars) ≡ 256 → Previews s text 0 ms → Silent s
-    → ms ≤ ceiling (modeOfStation s) (offeredTo s text .core .waiting)
+    (x : Measured) (text : List ℕ) (ms : ℕ) → length (x .chars) ≡ 256 → Previews x text 0 ms → Silent (stationOf x)
+    → ms ≤ ceiling (modeOfStation (stationOf x)) (offeredTo (stationOf x) text .core .waiting)
 
 -- .. and with none waiting it is 0, also where the line is not free.
 abbrev pub NoneWaiting : Type 0
@@ -109,7 +111,7 @@ CeilingInBurst =
 -- for each of 256 that wait.
 abbrev pub NoneLonger : Type 0
 NoneLonger =
-    (s : Station) (text : List ℕ) (answer ms : ℕ) → length (s .chars) ≡ 256 → Previews s text answer ms
+    (x : Measured) (text : List ℕ) (answer ms : ℕ) → length (x .chars) ≡ 256 → Previews x text answer ms
     → ms ≤ 123_360
 
 -- Each ceiling is reached. In Baudot by 1 and A in turn, the first of the shift that is not in force; ..
@@ -133,25 +135,25 @@ abbrev pub textFor : Station → ℕ → List ℕ
 textFor s n = longestText (alphabetOfStation s) (s .core .sender .shift) n
 
 -- A preview of this text of n characters tells so many ms, and after its offer n wait.
-pub record Reaches (s : Station) (n ms : ℕ) : Type 0 where
-  pub waiting : offeredTo s (textFor s n) .core .waiting ≡ n
-  pub previews : Previews s (textFor s n) 0 ms
+pub record Reaches (x : Measured) (n ms : ℕ) : Type 0 where
+  pub waiting : offeredTo (stationOf x) (textFor (stationOf x) n) .core .waiting ≡ n
+  pub previews : Previews x (textFor (stationOf x) n) 0 ms
 
 -- For each n from 1 to 256: a fresh station of each mode reaches the ceiling; ..
 abbrev pub Reached : Type 0
-Reached = (mode : Mode) (n : ℕ) → 1 ≤ n → n ≤ 256 → Reaches (freshStation (modeNumber mode)) n (ceiling mode n)
+Reached = (mode : Mode) (n : ℕ) → 1 ≤ n → n ≤ 256 → Reaches (freshMeasured (modeNumber mode)) n (ceiling mode n)
 
 -- .. so does every station in range with nothing waiting, the ms until its line is free on top; ..
 abbrev pub ReachedNotFree : Type 0
 ReachedNotFree =
-    (s : Station) → length (s .chars) ≡ 256 → inRange s ≡ true → inBurst (s .core .line) ≡ false
-    → s .core .waiting ≡ 0 → (n : ℕ) → 1 ≤ n → n ≤ 256 → Reaches s n (ceilingNotFree s n)
+    (x : Measured) → length (x .chars) ≡ 256 → measuredIn x ≡ true → inBurst (x .core .line) ≡ false
+    → x .core .waiting ≡ 0 → (n : ℕ) → 1 ≤ n → n ≤ 256 → Reaches x n (ceilingNotFree (stationOf x) n)
 
 -- .. and every such station in a burst.
 abbrev pub ReachedInBurst : Type 0
 ReachedInBurst =
-    (s : Station) → length (s .chars) ≡ 256 → inRange s ≡ true → inBurst (s .core .line) ≡ true
-    → s .core .waiting ≡ 0 → (n : ℕ) → 1 ≤ n → n ≤ 256 → Reaches s n (ceilingInBurst s n)
+    (x : Measured) → length (x .chars) ≡ 256 → measuredIn x ≡ true → inBurst (x .core .line) ≡ true
+    → x .core .waiting ≡ 0 → (n : ℕ) → 1 ≤ n → n ≤ 256 → Reaches x n (ceilingInBurst (stationOf x) n)
 
 -- In EDT every text reaches it.
 abbrev pub EdtAlways : Type 0

@@ -1,3 +1,4 @@
 pub mod Output
 pub mod Idle
 pub mod Ceiling
+pub mod Drift

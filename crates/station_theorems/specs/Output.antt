@@ -14,8 +14,11 @@ use Rattle.frames.specs.declared.Cause.{Cause}
 use Rattle.frames.specs.declared.Cause.the-variants.{Quiet, StopNotMark, OddParity, NoRow, LetterKey}
 use Rattle.frames.specs.Samples.{Sample, None, Start, Digit, Parity, Stop, Last, Placed, samplesOf}
 use Rattle.reader.specs.Words.{causeNumber, faultWord}
+use Rattle.edges.specs.declared.Report.{Report}
 use Rattle.station.specs.declared.Station.{Station}
+use Rattle.station.specs.declared.Measured.{Measured}
 use Rattle.station.specs.Station.{modeOfStation, sentBy, wordsBy}
+use Rattle.station.specs.Measured.{stationOf}
 use Rattle.station.specs.Range.{inRange}
 use Rattle.station.specs.Entries.{runAnswer, ranOf, sentAfter, wordsAfter}
 
@@ -66,12 +69,13 @@ abbrev pub WordsWellFormed : Type 0
 WordsWellFormed =
     (s : Station) (heard : List ℕ) → inRange s ≡ true → allWords (modeOfStation s) (wordsBy s heard) ≡ true
 
--- A run of any station on any slices: the words that it counts, in front in the word slice, are well formed.
+-- A run of any station with any report on any slices: the words that it counts, in front in the word slice, are well
+-- formed.
 abbrev pub RunWordsWellFormed : Type 0
 RunWordsWellFormed =
-    (s : Station) (heard : List ℕ) (sentRoom : ℕ) (slice : List ℕ)
-    → allWords (modeOfStation s)
-    (take (ranOf s heard sentRoom (length slice) .words) (wordsAfter s heard sentRoom slice)) ≡ true
+    (x : Measured) (r : Report) (heard : List ℕ) (sentRoom : ℕ) (slice : List ℕ)
+    → allWords (modeOfStation (stationOf x))
+    (take (ranOf x r heard sentRoom (length slice) .words) (wordsAfter x r heard sentRoom slice)) ≡ true
 
 -- The fault words written out, of which a mode gives no other: kind 1, the ms, four bits that are zero, the cause.
 abbrev pub FaultWords : Type 0
@@ -106,6 +110,6 @@ SentInMode = (s : Station) (heard : List ℕ) → allAtMost (highestSent s) (sen
 -- A run that succeeds: as many ms as were heard, in front in the sent slice, are values of the mode.
 abbrev pub RunSentInMode : Type 0
 RunSentInMode =
-    (s : Station) (heard : List ℕ) (wordRoom : ℕ) (slice : List ℕ)
-    → runAnswer s heard (length slice) wordRoom ≡ 0
-    → allAtMost (highestSent s) (take (length heard) (sentAfter s heard wordRoom slice)) ≡ true
+    (x : Measured) (r : Report) (heard : List ℕ) (wordRoom : ℕ) (slice : List ℕ)
+    → runAnswer x r heard (length slice) wordRoom ≡ 0
+    → allAtMost (highestSent (stationOf x)) (take (length heard) (sentAfter x r heard wordRoom slice)) ≡ true

@@ -1,2 +1,2 @@
-// Theorems on every station in range: its output words, what it sends, and in how many ms at most it becomes idle.
-// No function.
+// Theorems on every station in range: its output words, what it sends, in how many ms at most it becomes idle, and the
+// edges of the frames that it reads. No function.

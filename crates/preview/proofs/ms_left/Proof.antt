@@ -13,7 +13,7 @@ use Rattle.station.specs.declared.Station.{Station}
 use Rattle.queue.specs.Queue.{waitingOf}
 use Rattle.station.specs.Station.{station, queueOf}
 use Rattle.station.specs.Range.{inRange}
-use Rattle.station.proofs.Range.{core-in, accepted}
+use Rattle.station.proofs.Range.{core-in}
 use Rattle.preview.specs.code.Count.{charsMs, behindMs}
 use Rattle.preview.proofs.Offered.{chars-low, behind-few, idle-now, idle-later}
 use borrow.Author.Needs.{needs}
@@ -51,7 +51,7 @@ module _ (c : tie.Start) where
   text = c .args .text .now
 
   in-range : inRange s ≡ true
-  in-range = accepted s text (c .pre .0) .in-range
+  in-range = c .pre .0 .in-range
 
 returns : tie.Need-returns
 returns c = let t = c .before .before .before .before in idle-now (s t) (text t) _ (t .pre .1) (c .if1 .taken)

@@ -1,5 +1,6 @@
 -- `preview` meets its contract: a refusal of the offer, or the ms.
 use mathlib.Core.Path.{_∙_, refl, sym}
+use Rattle.station.proofs.Kept.{accepted}
 use borrow.Author.Needs.{needs}
 use Rattle.preview.proofs.preview.Statement.{statement}
 use Rattle.preview.proofs.preview.Tie as tie
@@ -19,7 +20,7 @@ ms-left-requires : tie.Need-ms-left-requires
 ms-left-requires c κs =
     let a = c .before .before .ask .ensures in
     let z = c .if1 .left in
-    (sym (a .0) ∙ z, a .1 z)
+    (accepted _ _ (sym (a .0) ∙ z) .1, a .1 z)
 
 returns-2 : tie.Need-returns-2
 returns-2 c =
