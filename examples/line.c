@@ -1,6 +1,6 @@
 /*
  * A bench tool: what a station sends for a text, how long that takes and can take at most, what it reads from a line,
- * and pictures.
+ * how early or late the edges of a line come, and pictures.
  *
  *     make lib
  *     gcc -std=c99 -Iinclude examples/line.c target/staticlib/libcuyrapaq.a -o target/line
@@ -9,6 +9,8 @@
  *     target/line time baudot45 'please call back' 'pls cb'    the ms of each text by itself, by a preview
  *     target/line most dtmf 1 80 256                           the most ms that so many characters take
  *     printf '11 70\n0 50\n2 70\n' | target/line read dtmf     the words, each with its ms, faults with cause; the text
+ *     target/line drift baudot45 <runs                         the edges of each frame, early or late; the report
+ *     target/line drift baudot45 svg <runs >drift.svg          the edges as a histogram
  *     printf 'E' | target/line svg baudot45 >e.svg             the burst as a picture
  *     target/line svg edt 41 >code.svg                         one code as a picture
  */
@@ -52,6 +54,8 @@ static const char usage[] = "usage: line send MODE <text         the ms that a s
                             "       line time MODE TEXT..        the same of several texts, each by itself\n"
                             "       line most MODE N..           the most ms that N characters can take there\n"
                             "       line read MODE <runs         the words read from such lines, faults with cause\n"
+                            "       line drift MODE <runs        the edges of such lines, early or late; Baudot alone\n"
+                            "       line drift MODE svg <runs    a histogram of them\n"
                             "       line svg MODE <text          a picture of the burst\n"
                             "       line svg MODE CODE           a picture of one code: 00001, **4 or 41 (EDT: hex)\n"
                             "MODE is baudot45, baudot50, dtmf or edt\n";
@@ -302,6 +306,33 @@ static int run_length(const struct mode *mode, char *line, unsigned long at, uns
     return 1;
 }
 
+/* How far the input is read. */
+struct input {
+    unsigned long line, ms;
+};
+
+/* The next run of the input; 0 if there is none. */
+static int next_run(const struct mode *mode, struct input *input, uint8_t *level, unsigned long *ms)
+{
+    char line[200];
+    unsigned long number;
+    while (fgets(line, sizeof line, stdin) != NULL) {
+        input->line++;
+        if (strlen(line) == sizeof line - 1 && line[sizeof line - 2] != '\n') {
+            stop("line %lu is longer than %d characters", input->line, (int)sizeof line - 2);
+        }
+        if (run_length(mode, line, input->line, &number, ms)) {
+            if (*ms > MOST_HEARD - input->ms) {
+                stop("the input is longer than %d ms", MOST_HEARD);
+            }
+            input->ms += *ms;
+            *level = (uint8_t)number;
+            return 1;
+        }
+    }
+    return 0;
+}
+
 /* The sign of a character, or its number if it has none. */
 static const char *sign(uint8_t character)
 {
@@ -353,9 +384,6 @@ static void hear_run(cq_station *station, uint8_t level, unsigned long ms, struc
 {
     size_t words;
     uint32_t word;
-    if (ms > MOST_HEARD - read->ms) {
-        stop("the input is longer than %d ms", MOST_HEARD);
-    }
     for (; ms > 0; ms--) {
         run_ms(station, level, &word, &words);
         if (words > 0) {
@@ -367,19 +395,15 @@ static void hear_run(cq_station *station, uint8_t level, unsigned long ms, struc
 
 static void do_read(const struct mode *mode)
 {
-    char line[200];
-    unsigned long at, level, ms;
+    unsigned long ms;
+    uint8_t level;
     size_t i;
+    struct input input = {0, 0};
     struct read read = {0, 0, 0, NULL};
     cq_station station;
     ran_well(cq_station_open(&station, mode->number));
-    for (at = 1; fgets(line, sizeof line, stdin) != NULL; at++) {
-        if (strlen(line) == sizeof line - 1 && line[sizeof line - 2] != '\n') {
-            stop("line %lu is longer than %d characters", at, (int)sizeof line - 2);
-        }
-        if (run_length(mode, line, at, &level, &ms)) {
-            hear_run(&station, (uint8_t)level, ms, &read);
-        }
+    while (next_run(mode, &input, &level, &ms)) {
+        hear_run(&station, level, ms, &read);
     }
     printf("faults: %lu\ntext: ", read.faults);
     for (i = 0; i < read.length; i++) {
@@ -387,6 +411,170 @@ static void do_read(const struct mode *mode)
     }
     putchar('\n');
     free(read.text);
+}
+
+/* The first ms of an element of a frame, and how many elements it has. */
+static size_t element_start(uint8_t mode, size_t element)
+{
+    return mode == CQ_MODE_BAUDOT_45 ? 22 * element : mode == CQ_MODE_BAUDOT_50 ? 20 * element : (100 * element + 10) / 11;
+}
+
+static size_t elements(uint8_t mode)
+{
+    return mode == CQ_MODE_EDT ? 11 : 7;
+}
+
+/*
+ * Drift. The station is run ms by ms with one report. Its `edges` say when the frame that it reads has one more, and
+ * the report grows when the frame's stop is read.
+ */
+#define MOST_EDGES 144 /* of a frame: at most one in each ms */
+#define MOST_MOVED 11  /* ms, early or late */
+#define PLACES 7       /* where edges belong: to the start of an element */
+
+struct edge {
+    unsigned ms;   /* of the frame */
+    int moved;     /* its displacement */
+    uint8_t level; /* which it brings */
+};
+
+struct tally {
+    unsigned long edges;
+    long sum;
+};
+
+struct drift {
+    cq_drift_report report;
+    size_t waiting; /* edges of the frame that is being read */
+    struct edge edge[MOST_EDGES];
+    unsigned long frames, early, late;
+    unsigned long moved[2 * MOST_MOVED + 1]; /* how many edges of each displacement */
+    struct tally place[PLACES], to[CQ_LEVEL_SPACE + 1];
+};
+
+static void add_edge(struct tally *tally, int moved)
+{
+    tally->edges++;
+    tally->sum += moved;
+}
+
+/* The mean of some edges, with its sign. */
+static const char *mean(const struct tally *tally)
+{
+    static char text[40];
+    long edges = (long)tally->edges, hundredths;
+    if (edges == 0) {
+        return "none";
+    }
+    hundredths = ((tally->sum < 0 ? -tally->sum : tally->sum) * 200 + edges) / (2 * edges);
+    sprintf(text, "%s%ld.%02ld ms", hundredths == 0 ? "" : tally->sum < 0 ? "-" : "+", hundredths / 100,
+            hundredths % 100);
+    return text;
+}
+
+/* The edges of a frame that was read: one line of output, and into the sums. */
+static void keep_frame(const struct mode *mode, unsigned long start, struct drift *drift, int lines)
+{
+    size_t i;
+    drift->frames++;
+    for (i = 0; i < drift->waiting; i++) {
+        const struct edge *edge = &drift->edge[i];
+        size_t place = ((size_t)((int)edge->ms - edge->moved)) / element_start(mode->number, 1);
+        drift->early += edge->moved < 0;
+        drift->late += edge->moved > 0;
+        drift->moved[edge->moved + MOST_MOVED]++;
+        add_edge(&drift->place[place], edge->moved);
+        add_edge(&drift->to[edge->level], edge->moved);
+        if (lines && i == 0) {
+            printf("frame at %lu:", start);
+        }
+        if (lines) {
+            printf("%s %u ", i == 0 ? "" : ",", edge->ms);
+            printf(edge->moved == 0 ? "on time" : edge->moved < 0 ? "early by %d" : "late by %d", abs(edge->moved));
+        }
+    }
+    if (lines) {
+        putchar('\n');
+    }
+}
+
+/* One ms of the line. */
+static void drift_ms(const struct mode *mode, cq_station *station, uint8_t level, unsigned long ms, struct drift *drift,
+                     int lines)
+{
+    cq_drift_report waited = station->edges.seen, all = drift->report;
+    unsigned frame_ms = station->core.reader.frame.place - 1u; /* in a frame */
+    long edges, sum;
+    uint8_t sent;
+    uint32_t word;
+    cq_station_ran ran = cq_station_run_drift(station, &level, 1, &sent, 1, &word, 1, &drift->report);
+    if (ran.answer == CQ_REFUSED_REPORT_FULL) {
+        stop("at ms %lu there are more than %d edges, and a report takes no more", ms, CQ_DRIFT_EDGES_MAX);
+    }
+    ran_well(ran.answer);
+    /* With this ms, the frame's edges have counted or still wait; there are none if it has broken. */
+    edges = (long)(drift->report.edges - all.edges) + (long)station->edges.seen.edges;
+    sum = (long)drift->report.sum - all.sum + station->edges.seen.sum;
+    if (edges == 0) {
+        drift->waiting = 0;
+    } else if (edges > (long)waited.edges) {
+        struct edge *edge = &drift->edge[drift->waiting++];
+        edge->ms = frame_ms;
+        edge->moved = (int)(sum - waited.sum);
+        edge->level = level;
+    }
+    if (drift->report.edges > all.edges) {
+        keep_frame(mode, ms - frame_ms, drift, lines);
+        drift->waiting = 0;
+    }
+}
+
+/* The edges of the input. */
+static void hear_drift(const struct mode *mode, struct drift *drift, int lines)
+{
+    static const cq_drift_report fresh = CQ_DRIFT_FRESH;
+    struct input input = {0, 0};
+    unsigned long ms, at = 0;
+    uint8_t level;
+    cq_station station;
+    if (mode->number != CQ_MODE_BAUDOT_45 && mode->number != CQ_MODE_BAUDOT_50) {
+        stop("the edges of %s are not measured: it is baudot45 or baudot50", mode->word);
+    }
+    memset(drift, 0, sizeof *drift);
+    drift->report = fresh;
+    ran_well(cq_station_open(&station, mode->number));
+    while (next_run(mode, &input, &level, &ms)) {
+        for (; ms > 0; ms--) {
+            drift_ms(mode, &station, level, at++, drift, lines);
+        }
+    }
+}
+
+static void print_tally(const char *name, const struct tally *tally)
+{
+    if (tally->edges > 0) {
+        printf("%s: %lu edge%s, mean %s\n", name, tally->edges, tally->edges == 1 ? "" : "s", mean(tally));
+    }
+}
+
+static void do_drift(const struct mode *mode, struct drift *drift)
+{
+    struct tally all;
+    char name[32];
+    size_t i;
+    hear_drift(mode, drift, 1);
+    all.edges = drift->report.edges;
+    all.sum = drift->report.sum;
+    printf("frames: %lu\nedges: %lu, %lu early, %lu on time, %lu late\n", drift->frames, all.edges, drift->early,
+           all.edges - drift->early - drift->late, drift->late);
+    printf("sum: %ld ms\nmean: %s\nsmallest: %ld ms\nlargest: %ld ms\n", all.sum, mean(&all),
+           (long)drift->report.smallest, (long)drift->report.largest);
+    for (i = 0; i < PLACES; i++) {
+        sprintf(name, "near %lu", (unsigned long)element_start(mode->number, i));
+        print_tally(name, &drift->place[i]);
+    }
+    print_tally("to mark", &drift->to[CQ_LEVEL_MARK]);
+    print_tally("to space", &drift->to[CQ_LEVEL_SPACE]);
 }
 
 /*
@@ -442,10 +630,16 @@ static void draw_upright(long x, int from, int to, const char *class)
     printf("<path d=\"M%ld %dV%d\" class=\"%s\"/>\n", x, from, to, class);
 }
 
+/* A name left of the picture. */
+static void draw_name(int y, const char *name)
+{
+    printf("<text x=\"%d\" y=\"%d\" class=\"level\">%s</text>\n", LEFT - 8, y, name);
+}
+
 static void draw_level(const struct picture *p, int y, const char *name)
 {
     printf("<path d=\"M%d %dH%ld\" class=\"guide\"/>\n", LEFT, y, x_of(p, p->burst->ms));
-    printf("<text x=\"%d\" y=\"%d\" class=\"level\">%s</text>\n", LEFT - 8, y + 4, name);
+    draw_name(y + 4, name);
 }
 
 static void draw_levels(const struct picture *p)
@@ -466,7 +660,7 @@ static void draw_axis(const struct picture *p)
     size_t ms, end = p->burst->ms, step = p->scale > 3 ? 10 : p->scale > 1 ? 50 : 100;
     char text[32];
     printf("<path d=\"M%d %dH%ld\" class=\"axis\"/>\n", LEFT, AXIS_Y, x_of(p, end));
-    printf("<text x=\"%d\" y=\"%d\" class=\"level\">ms</text>\n", LEFT - 8, AXIS_Y + 20);
+    draw_name(AXIS_Y + 20, "ms");
     for (ms = 0; ms <= end; ms += 10) {
         draw_upright(x_of(p, ms), AXIS_Y, AXIS_Y + (ms % step == 0 ? 8 : 4), "axis");
         if (ms % step == 0) {
@@ -528,17 +722,6 @@ static const char *meaning(const struct piece *piece)
         return piece->character == ' ' ? "SPACE" : sign((uint8_t)piece->character);
     }
     return piece->code == 31 ? "letters" : "figures";
-}
-
-/* The first ms of an element of a frame, and how many elements it has. */
-static size_t element_start(uint8_t mode, size_t element)
-{
-    return mode == CQ_MODE_BAUDOT_45 ? 22 * element : mode == CQ_MODE_BAUDOT_50 ? 20 * element : (100 * element + 10) / 11;
-}
-
-static size_t elements(uint8_t mode)
-{
-    return mode == CQ_MODE_EDT ? 11 : 7;
 }
 
 static const char *element_name(uint8_t mode, size_t element, uint8_t level)
@@ -604,11 +787,10 @@ static void draw_piece(const struct picture *p, const struct piece *piece)
     }
 }
 
-static void draw_head(const struct picture *p)
+static void draw_head(long width, int height, const char *title)
 {
-    long width = x_of(p, p->burst->ms) + RIGHT;
     printf("<svg xmlns=\"http://www.w3.org/2000/svg\" width=\"%ld\" height=\"%d\" viewBox=\"0 0 %ld %d\">\n", width,
-           HEIGHT, width, HEIGHT);
+           height, width, height);
     puts("<style>\n"
          "text{font-family:sans-serif;font-size:12px;text-anchor:middle;fill:#222}\n"
          "text.title{text-anchor:start;font-size:14px}text.level{text-anchor:end}\n"
@@ -616,8 +798,8 @@ static void draw_head(const struct picture *p)
          "path{fill:none;stroke:#222;stroke-width:1}path.guide{stroke:#ddd}path.signal{stroke-width:2}\n"
          "path.piece{stroke:#06c}path.element{stroke:#aaa;stroke-dasharray:2 2}\n"
          "</style>");
-    printf("<rect width=\"%ld\" height=\"%d\" fill=\"#fff\"/>\n", width, HEIGHT);
-    printf("<text x=\"%d\" y=\"24\" class=\"title\">%s</text>\n", LEFT, p->mode->name);
+    printf("<rect width=\"%ld\" height=\"%d\" fill=\"#fff\"/>\n", width, height);
+    printf("<text x=\"%d\" y=\"24\" class=\"title\">%s</text>\n", LEFT, title);
 }
 
 static void draw(const struct mode *mode, const struct burst *burst, int scale)
@@ -633,13 +815,102 @@ static void draw(const struct mode *mode, const struct burst *burst, int scale)
     if (burst->ms > MOST_DRAWN) {
         stop("the burst has %lu ms; at most %d are drawn", (unsigned long)burst->ms, MOST_DRAWN);
     }
-    draw_head(&p);
+    draw_head(x_of(&p, burst->ms) + RIGHT, HEIGHT, mode->name);
     draw_levels(&p);
     for (i = 0; i < burst->pieces; i++) {
         draw_piece(&p, &burst->piece[i]);
     }
     draw_signal(&p);
     draw_axis(&p);
+    puts("</svg>");
+}
+
+/*
+ * The histogram: a bar for each displacement, early ones left, and a line at the mean. Below it the mean of the edges
+ * near each start of an element, late ones above the line.
+ */
+#define BAR 28        /* units from one displacement to the next */
+#define BARS_TOP 70
+#define BARS_FOOT 230
+#define NEAR_Y 345    /* on time */
+#define NEAR_SCALE 4  /* units for each ms */
+#define NEAR_STEP 100 /* from one element to the next */
+#define NEAR_FOOT 410
+#define DRIFT_WIDTH (LEFT + 2 * MOST_MOVED * BAR + LEFT)
+#define DRIFT_HEIGHT 440
+
+static long bar_x(int moved)
+{
+    return LEFT + (long)(moved + MOST_MOVED) * BAR;
+}
+
+static void draw_bars(const struct drift *drift)
+{
+    unsigned long most = 0, count;
+    long mean_x = bar_x(0) + (long)drift->report.sum * BAR / (long)drift->report.edges;
+    int moved, y;
+    char text[32];
+    for (moved = -MOST_MOVED; moved <= MOST_MOVED; moved++) {
+        count = drift->moved[moved + MOST_MOVED];
+        most = count > most ? count : most;
+    }
+    for (moved = -MOST_MOVED; moved <= MOST_MOVED; moved++) {
+        count = drift->moved[moved + MOST_MOVED];
+        y = BARS_FOOT - (int)(count * (BARS_FOOT - BARS_TOP) / most);
+        if (count > 0) {
+            printf("<rect x=\"%ld\" y=\"%d\" width=\"%d\" height=\"%d\" fill=\"#06c\"/>\n", bar_x(moved) - BAR / 2 + 2,
+                   y == BARS_FOOT ? y - 1 : y, BAR - 4, y == BARS_FOOT ? 1 : BARS_FOOT - y);
+            sprintf(text, "%lu", count);
+            draw_text(bar_x(moved), y - 4, "small", text);
+        }
+        sprintf(text, moved > 0 ? "+%d" : "%d", moved);
+        draw_text(bar_x(moved), BARS_FOOT + 16, "small", text);
+    }
+    printf("<path d=\"M%ld %dH%ld\" class=\"axis\"/>\n", bar_x(-MOST_MOVED) - BAR / 2, BARS_FOOT,
+           bar_x(MOST_MOVED) + BAR / 2);
+    draw_upright(mean_x, BARS_TOP - 18, BARS_FOOT, "element");
+    draw_text(mean_x, BARS_TOP - 22, "small", "mean");
+    draw_text(bar_x(-MOST_MOVED / 2), BARS_FOOT + 34, "character", "early");
+    draw_text(bar_x(0), BARS_FOOT + 34, "character", "on time");
+    draw_text(bar_x(MOST_MOVED / 2), BARS_FOOT + 34, "character", "late");
+}
+
+static void draw_near(const struct mode *mode, const struct drift *drift)
+{
+    char text[32];
+    size_t i;
+    printf("<path d=\"M%d %dH%d\" class=\"guide\"/>\n", LEFT, NEAR_Y, LEFT + (PLACES - 1) * NEAR_STEP);
+    draw_name(NEAR_Y + 4 - 30, "late");
+    draw_name(NEAR_Y + 4, "on time");
+    draw_name(NEAR_Y + 4 + 30, "early");
+    draw_name(NEAR_FOOT, "near ms");
+    for (i = 0; i < PLACES; i++) {
+        const struct tally *tally = &drift->place[i];
+        long x = LEFT + (long)i * NEAR_STEP, y;
+        sprintf(text, "%lu", (unsigned long)element_start(mode->number, i));
+        draw_text(x, NEAR_FOOT, "small", text);
+        if (tally->edges > 0) {
+            y = NEAR_Y - tally->sum * NEAR_SCALE / (long)tally->edges;
+            printf("<circle cx=\"%ld\" cy=\"%ld\" r=\"4\" fill=\"#06c\"/>\n", x, y);
+            draw_text(x, (int)y - 8, "small", mean(tally));
+        }
+    }
+}
+
+static void draw_drift(const struct mode *mode, struct drift *drift)
+{
+    struct tally all;
+    char title[100];
+    hear_drift(mode, drift, 0);
+    all.edges = drift->report.edges;
+    all.sum = drift->report.sum;
+    if (all.edges == 0) {
+        stop("no frame with edges was read, so there is nothing to draw");
+    }
+    sprintf(title, "%s: %lu edges, mean %s", mode->name, all.edges, mean(&all));
+    draw_head(DRIFT_WIDTH, DRIFT_HEIGHT, title);
+    draw_bars(drift);
+    draw_near(mode, drift);
     puts("</svg>");
 }
 
@@ -704,15 +975,21 @@ int main(int argc, char **argv)
 {
     static struct burst burst;
     static uint8_t text[LONGEST + 1];
+    static struct drift edges;
     const char *verb = argc > 1 ? argv[1] : "";
     int svg = strcmp(verb, "svg") == 0, send = strcmp(verb, "send") == 0, read = strcmp(verb, "read") == 0;
-    int time = strcmp(verb, "time") == 0, most = strcmp(verb, "most") == 0;
+    int time = strcmp(verb, "time") == 0, most = strcmp(verb, "most") == 0, drift = strcmp(verb, "drift") == 0;
     const struct mode *mode;
-    if (!(svg || send || read || time || most) || argc < (most ? 4 : 3) || (svg && argc > 4) || (read && argc > 3)) {
+    if (!(svg || send || read || time || most || drift) || argc < (most ? 4 : 3) || (svg && argc > 4) ||
+        (read && argc > 3) || (drift && argc > 3 && (argc > 4 || strcmp(argv[3], "svg") != 0))) {
         fputs(usage, stderr);
         return 2;
     }
     mode = mode_of(argv[2]);
+    if (drift) {
+        (argc > 3 ? draw_drift : do_drift)(mode, &edges);
+        return 0;
+    }
     if (read) {
         do_read(mode);
         return 0;

@@ -1,13 +1,13 @@
 /*
  * cuyrapaq.h: the C interface of the Cuyrapaq textphone line engine.
  *
- * Four entries are a station: it sends typed characters over the line and reads those of the other end,
- * in Baudot, DTMF or EDT (ITU-T V.18, Annexes A to C), and tells beforehand how long sending will take. Two
- * convert text to five-bit Baudot codes and back. Three more are a calling set (clause 5.1): what it sends
- * while it calls, and the tone that it chooses among those it hears. Each works on slices that the host lends
- * for the call: a pointer and a number of elements. The engine uses no heap, keeps nothing between calls and
- * calls nothing back. Several threads may call it at the same time, each with its own slice to be written and
- * its own state.
+ * Five entries are a station: it sends typed characters over the line and reads those of the other end,
+ * in Baudot, DTMF or EDT (ITU-T V.18, Annexes A to C), tells beforehand how long sending will take, and how early
+ * or late the line changes in Baudot. Two convert text to five-bit Baudot codes and back. Three more are a calling
+ * set (clause 5.1): what it sends while it calls, and the tone that it chooses among those it hears. Each works on
+ * slices that the host lends for the call: a pointer and a number of elements. The engine uses no heap, keeps
+ * nothing between calls and calls nothing back. Several threads may call it at the same time, each with its own
+ * slice to be written and its own state.
  *
  * Link libcuyrapaq.a (x86-64, System V calling convention). It calls nothing of the C library.
  */
@@ -25,8 +25,8 @@ extern "C" {
  * The version of the interface. MAJOR: a struct, an entry's contract or a refusal's meaning changed;
  * MINOR: entries or macros were added; PATCH: the contracts are the same.
  */
-#define CQ_VERSION_MAJOR 5
-#define CQ_VERSION_MINOR 2
+#define CQ_VERSION_MAJOR 6
+#define CQ_VERSION_MINOR 0
 #define CQ_VERSION_PATCH 0
 #define CQ_VERSION (CQ_VERSION_MAJOR * 10000L + CQ_VERSION_MINOR * 100L + CQ_VERSION_PATCH)
 
@@ -46,7 +46,7 @@ extern "C" {
  * entries of the engine. The comment of each entry lists those that it gives, in the order in which it asks.
  */
 #define CQ_OK                       0
-#define CQ_REFUSED_STATE            1 /* a number of the station, or the shift or count, is out of range */
+#define CQ_REFUSED_STATE            1 /* a number of the station or report, or the shift or count, is out of range */
 #define CQ_REFUSED_MODE             2 /* the mode is not 1 to 4 */
 #define CQ_REFUSED_CHARACTER        3 /* a byte of the text is above 127 */
 #define CQ_REFUSED_FULL             4 /* no space for all characters that send something */
@@ -58,6 +58,7 @@ extern "C" {
 #define CQ_REFUSED_CODE            10 /* a code is above 31 */
 #define CQ_REFUSED_TONE            11 /* a heard tone is above 11 */
 #define CQ_REFUSED_CALLING_STATE   12 /* a number of the calling set's state is out of range */
+#define CQ_REFUSED_REPORT_FULL     18 /* the report would have more than 65,536 edges */
 
 /* What cq_baudot_send gives back. */
 typedef struct cq_baudot_sent {
@@ -292,10 +293,33 @@ uint8_t cq_calling_run(cq_calling *state, const uint8_t *tones, size_t tones_len
 #define CQ_WORD_MS(word)    ((unsigned)((uint32_t)(word) >> 8 & 0xFFFFF))
 
 /*
- * A station, which the host keeps: make it with cq_station_open, and let nothing but cq_station_offer and
- * cq_station_run change it. It holds no pointer, so it may be copied, moved and stored. The fields are
- * listed with their ranges, since each entry asks for them first; only `waiting` is of use to a host. Where
- * four numbers are given, they are those of modes 1 to 4.
+ * Drift: how early or late the edges of a line come. An edge is a change between mark and space from one ms to the
+ * next, in a Baudot frame that is read without fault, that of a shift code too: behind the frame's ms 0, and no later
+ * than the sample of its stop (ms 143 in mode 1, 130 in mode 2). A change through quiet is none. The ms of an edge is
+ * the first of the new level. Its displacement is that ms of the frame less the nearest multiple of the element
+ * (22 or 20 ms), the earlier one of two that are as near: negative if the edge is early, 0 if it is on time; -10 to 11
+ * in mode 1, -9 to 10 in mode 2. In DTMF and EDT no edge is measured.
+ *
+ * A report sums up some edges, and the host keeps it. Begin with CQ_DRIFT_FRESH. In range are: no edge, and all four
+ * numbers 0; or the ranges below.
+ */
+#define CQ_DRIFT_EDGES_MAX 65536 /* the most edges of a report */
+
+typedef struct cq_drift_report {
+    uint32_t edges;   /* how many, 1 to CQ_DRIFT_EDGES_MAX */
+    int32_t sum;      /* that of their displacements, at most 11 times the edges either way */
+    int32_t smallest; /* the smallest displacement, -11 to 11 */
+    int32_t largest;  /* the largest, -11 to 11 */
+} cq_drift_report;
+
+/* A report of no edge, for its definition: cq_drift_report report = CQ_DRIFT_FRESH; */
+#define CQ_DRIFT_FRESH {0, 0, 0, 0}
+
+/*
+ * A station, which the host keeps: make it with cq_station_open, and let nothing but cq_station_offer,
+ * cq_station_run and cq_station_run_drift change it. It holds no pointer, so it may be copied, moved and stored. The
+ * fields are listed with their ranges, since each entry asks for them first; only `waiting` is of use to a host, and
+ * `edges` to a bench tool. Where four numbers are given, they are those of modes 1 to 4.
  *
  * The ms of a part, which bound `at`:
  *   0, in no burst   0
@@ -345,14 +369,22 @@ typedef struct cq_core {
     uint8_t mode; /* 1 to 4 */
 } cq_core;
 
+/* The edges of the Baudot frame that is being read (`place` 2 or more); outside one all numbers are 0. They count
+ * once its stop is read. Behind `level` stand three bytes that have no meaning: compare stations by their fields. */
+typedef struct cq_edges {
+    cq_drift_report seen; /* in a report's range, and fewer edges than the frame has had ms: at most place - 2 */
+    uint8_t level;        /* that of the frame's latest ms, 0 to 2 */
+} cq_edges;
+
 typedef struct cq_station {
     cq_core core;
+    cq_edges edges;
     /* Those waiting, the front one first: each 00 to 7F, and sends something in the mode (docs/ANNEXES.md lists
      * those that do not). Behind them anything may stand. */
     uint8_t chars[CQ_STATION_WAITING_MAX];
 } cq_station;
 
-/* What cq_station_run gives back. */
+/* What cq_station_run and cq_station_run_drift give back. */
 typedef struct cq_station_ran {
     uint8_t answer; /* CQ_OK or a refusal */
     size_t words;   /* words written; after a refusal 0 */
@@ -365,8 +397,8 @@ typedef struct cq_station_previewed {
 } cq_station_previewed;
 
 /*
- * Opens a station of a mode: nothing waits, the line is free, the sender is fresh and the reader hunts in
- * letters.
+ * Opens a station of a mode: nothing waits, no edge either, the line is free, the sender is fresh and the reader
+ * hunts in letters.
  *
  * station  where the station goes; what stood there does not matter
  * mode     1 to 4
@@ -430,6 +462,40 @@ uint8_t cq_station_offer(cq_station *station, const uint8_t *text, size_t text_l
  */
 cq_station_ran cq_station_run(cq_station *station, const uint8_t *heard, size_t heard_length, uint8_t *sent,
                               size_t sent_length, uint32_t *words, size_t words_length);
+
+/*
+ * Runs a station for some ms and measures the line: does what cq_station_run does, and adds the edges that count to
+ * a report.
+ *
+ * station              the station, which the call changes
+ * heard, heard_length  what is heard, as for cq_station_run
+ * sent, sent_length    where the sent ms go, as there
+ * words, words_length  where the words go, as there
+ * report               the report, which the call changes: a fresh one, or as the last call left it
+ *
+ * The edges of a frame wait in the station, and count all at once in the call that holds the sample of its stop, also
+ * if calls of cq_station_run went before. Those of a frame that breaks never count, nor those of one that the
+ * station's own burst cuts off.
+ *
+ * CQ_OK: the station, `sent`, `words` and the result are those of cq_station_run. The report is that of the edges it
+ * had and those that count in these ms. A list of ms may be cut into calls in any way, with the same result.
+ *
+ * Refusals, asked in this order; the first that applies is the answer:
+ *   CQ_REFUSED_STATE        (1)  a number of the station or of the report is out of range
+ *   CQ_REFUSED_DURATION     (5)  heard_length is above CQ_STATION_MS_MAX
+ *   CQ_REFUSED_HEARD        (6)  an element of heard is above CQ_LEVEL_MAX of the mode
+ *   CQ_REFUSED_SENT_SLICE   (7)  sent_length is less than heard_length
+ *   CQ_REFUSED_WORD_SLICE   (8)  words_length is less than heard_length
+ *   CQ_REFUSED_REPORT_FULL (18)  the report would have more than CQ_DRIFT_EDGES_MAX edges; with a fresh one never
+ * Each leaves the station, the report, `sent` and `words` as they were, and has 0 words. After the last, put the report
+ * by and run the same ms with a fresh one.
+ *
+ * Pointers and slices are as for cq_station_run, and `report` overlaps none of them. cq_station_run is this run with a
+ * fresh report that is dropped.
+ */
+cq_station_ran cq_station_run_drift(cq_station *station, const uint8_t *heard, size_t heard_length, uint8_t *sent,
+                                    size_t sent_length, uint32_t *words, size_t words_length,
+                                    cq_drift_report *report);
 
 /*
  * Tells how long it would take to send a text, and what waits already, on a quiet line.
@@ -496,8 +562,13 @@ static_assert(sizeof(cq_calling_chosen) == 2, "cq_calling_chosen has 2 bytes");
 static_assert(offsetof(cq_calling_chosen, choice) == 1, "choice stands at byte 1");
 static_assert(sizeof(cq_core) == 20, "cq_core has 20 bytes");
 static_assert(offsetof(cq_core, mode) == 19, "mode stands at byte 19");
-static_assert(sizeof(cq_station) == 276, "cq_station has 276 bytes");
-static_assert(offsetof(cq_station, chars) == 20, "chars stand from byte 20 on");
+static_assert(sizeof(cq_drift_report) == 16, "cq_drift_report has 16 bytes");
+static_assert(offsetof(cq_drift_report, largest) == 12, "largest stands at byte 12");
+static_assert(sizeof(cq_edges) == 20, "cq_edges has 20 bytes");
+static_assert(offsetof(cq_edges, level) == 16, "level stands at byte 16");
+static_assert(sizeof(cq_station) == 296, "cq_station has 296 bytes");
+static_assert(offsetof(cq_station, edges) == 20, "edges stand from byte 20 on");
+static_assert(offsetof(cq_station, chars) == 40, "chars stand from byte 40 on");
 static_assert(sizeof(cq_station_ran) == 16, "cq_station_ran has 16 bytes");
 static_assert(offsetof(cq_station_ran, words) == 8, "words stands at byte 8");
 static_assert(sizeof(cq_station_previewed) == 8, "cq_station_previewed has 8 bytes");
@@ -514,8 +585,13 @@ typedef char cq_check_calling_chosen[sizeof(cq_calling_chosen) == 2 ? 1 : -1];
 typedef char cq_check_calling_chosen_choice[offsetof(cq_calling_chosen, choice) == 1 ? 1 : -1];
 typedef char cq_check_core[sizeof(cq_core) == 20 ? 1 : -1];
 typedef char cq_check_core_mode[offsetof(cq_core, mode) == 19 ? 1 : -1];
-typedef char cq_check_station[sizeof(cq_station) == 276 ? 1 : -1];
-typedef char cq_check_station_chars[offsetof(cq_station, chars) == 20 ? 1 : -1];
+typedef char cq_check_drift_report[sizeof(cq_drift_report) == 16 ? 1 : -1];
+typedef char cq_check_drift_report_largest[offsetof(cq_drift_report, largest) == 12 ? 1 : -1];
+typedef char cq_check_edges[sizeof(cq_edges) == 20 ? 1 : -1];
+typedef char cq_check_edges_level[offsetof(cq_edges, level) == 16 ? 1 : -1];
+typedef char cq_check_station[sizeof(cq_station) == 296 ? 1 : -1];
+typedef char cq_check_station_edges[offsetof(cq_station, edges) == 20 ? 1 : -1];
+typedef char cq_check_station_chars[offsetof(cq_station, chars) == 40 ? 1 : -1];
 typedef char cq_check_station_ran[sizeof(cq_station_ran) == 16 ? 1 : -1];
 typedef char cq_check_station_ran_words[offsetof(cq_station_ran, words) == 8 ? 1 : -1];
 typedef char cq_check_station_previewed[sizeof(cq_station_previewed) == 8 ? 1 : -1];

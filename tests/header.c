@@ -1,8 +1,8 @@
 /*
  * Calls all entries through the header: the worked examples, the calling set's timetable, pause and
  * choice, a station that sends to another, several bursts, previews and the most ms of sending, every fault word,
- * every refusal and what it leaves, empty slices, slices that fit exactly, and the bytes around the result. Prints
- * what failed.
+ * reports of drift, every refusal and what it leaves, empty slices, slices that fit exactly, and the bytes around the
+ * result. Prints what failed.
  */
 #include "cuyrapaq.h"
 
@@ -152,8 +152,15 @@ static void layout(void)
     check(offsetof(cq_keys, key) == 0 && offsetof(cq_keys, ms) == 1 && offsetof(cq_keys, needed) == 2, "fields",
           "cq_keys");
     check(offsetof(cq_core, mode) == 19, "mode", "cq_core");
-    check(sizeof(cq_station) == 276, "size", "cq_station");
-    check(offsetof(cq_station, core) == 0 && offsetof(cq_station, chars) == 20, "fields", "cq_station");
+    check(sizeof(cq_drift_report) == 16, "size", "cq_drift_report");
+    check(offsetof(cq_drift_report, edges) == 0 && offsetof(cq_drift_report, sum) == 4 &&
+              offsetof(cq_drift_report, smallest) == 8 && offsetof(cq_drift_report, largest) == 12,
+          "fields", "cq_drift_report");
+    check(sizeof(cq_edges) == 20, "size", "cq_edges");
+    check(offsetof(cq_edges, seen) == 0 && offsetof(cq_edges, level) == 16, "fields", "cq_edges");
+    check(sizeof(cq_station) == 296, "size", "cq_station");
+    check(offsetof(cq_station, core) == 0 && offsetof(cq_station, edges) == 20 && offsetof(cq_station, chars) == 40,
+          "fields", "cq_station");
     check(sizeof(cq_station_ran) == 16, "size", "cq_station_ran");
     check(offsetof(cq_station_ran, answer) == 0 && offsetof(cq_station_ran, words) == 8, "fields", "cq_station_ran");
     check(sizeof(cq_station_previewed) == 8, "size", "cq_station_previewed");
@@ -166,6 +173,8 @@ static void layout(void)
           "numbers of the levels", "macros");
     check(CQ_LEVEL_MAX(CQ_MODE_DTMF) == 16 && CQ_LEVEL_MAX(CQ_MODE_EDT) == 2, "CQ_LEVEL_MAX", "macros");
     check(CQ_STATION_MS_MAX == 4096 && CQ_STATION_WAITING_MAX == 256, "most ms, most waiting", "macros");
+    check(CQ_DRIFT_EDGES_MAX == 65536, "most edges of a report", "macros");
+    check(CQ_VERSION_MAJOR == 6 && CQ_VERSION == 60000, "version", "macros");
     check(sizeof(constant_size) == 1 && CONSTANT == 122880 && sizeof(CQ_SENDING_MS_MAX(1, 1)) == sizeof(uint32_t) &&
               1000 - CQ_SENDING_MS_MAX(CQ_MODE_DTMF | 0, 1 + 1) / 2 == 520 && CQ_SENDING_MS_MAX(0, 1) == 0 &&
               CQ_SENDING_MS_MAX(5, 1) == 0,
@@ -176,7 +185,8 @@ static void layout(void)
     check(CQ_OK == 0 && CQ_REFUSED_STATE == 1 && CQ_REFUSED_MODE == 2 && CQ_REFUSED_CHARACTER == 3 &&
               CQ_REFUSED_FULL == 4 && CQ_REFUSED_DURATION == 5 && CQ_REFUSED_HEARD == 6 &&
               CQ_REFUSED_SENT_SLICE == 7 && CQ_REFUSED_WORD_SLICE == 8 && CQ_REFUSED_RESULT_SLICE == 9 &&
-              CQ_REFUSED_CODE == 10 && CQ_REFUSED_TONE == 11 && CQ_REFUSED_CALLING_STATE == 12,
+              CQ_REFUSED_CODE == 10 && CQ_REFUSED_TONE == 11 && CQ_REFUSED_CALLING_STATE == 12 &&
+              CQ_REFUSED_REPORT_FULL == 18,
           "numbers of the answers", "macros");
 }
 
@@ -574,10 +584,23 @@ static int words_stay(size_t length)
     return 1;
 }
 
-/* A station has no padding, so that its bytes are its fields. */
+/* By fields, since three bytes behind `level` have no meaning; nothing else in a station is padding. */
 static int same_station(const cq_station *a, const cq_station *b)
 {
-    return memcmp(a, b, sizeof *a) == 0;
+    return memcmp(&a->core, &b->core, sizeof a->core) == 0 && memcmp(a->chars, b->chars, sizeof a->chars) == 0 &&
+           memcmp(&a->edges.seen, &b->edges.seen, sizeof a->edges.seen) == 0 && a->edges.level == b->edges.level;
+}
+
+/* Whether a report has these numbers. */
+static int is_report(const cq_drift_report *report, uint32_t edges, int32_t sum, int32_t smallest, int32_t largest)
+{
+    return report->edges == edges && report->sum == sum && report->smallest == smallest && report->largest == largest;
+}
+
+/* Whether no edges wait. */
+static int none_wait(const cq_station *station)
+{
+    return is_report(&station->edges.seen, 0, 0, 0, 0) && station->edges.level == CQ_LEVEL_QUIET;
 }
 
 static cq_station opened(uint8_t mode)
@@ -585,7 +608,7 @@ static cq_station opened(uint8_t mode)
     cq_station station;
     memset(&station, 0xA5, sizeof station);
     check(cq_station_open(&station, mode) == CQ_OK, "an opening is not refused", "open");
-    check(station.core.mode == mode && station.core.waiting == 0, "a fresh station", "open");
+    check(station.core.mode == mode && station.core.waiting == 0 && none_wait(&station), "a fresh station", "open");
     return station;
 }
 
@@ -1235,6 +1258,577 @@ static void station_refusals(void)
     }
 }
 
+/* A report that is lent stands between two others, which stay. */
+static cq_drift_report lent[3];
+
+static void lend_report(const cq_drift_report *report)
+{
+    memset(lent, 0x5A, sizeof lent);
+    lent[1] = *report;
+}
+
+static int reports_stay(void)
+{
+    return is_report(&lent[0], 0x5A5A5A5A, 0x5A5A5A5A, 0x5A5A5A5A, 0x5A5A5A5A) &&
+           memcmp(&lent[0], &lent[2], sizeof lent[0]) == 0;
+}
+
+/* Hears some ms in one call with a report. A copy of the station does the same in a run without one. */
+static size_t drifts(const char *which, cq_station *station, const uint8_t *heard, size_t ms, cq_drift_report *report)
+{
+    static uint8_t sent[CQ_STATION_MS_MAX];
+    static uint32_t words[CQ_STATION_MS_MAX];
+    cq_station copy = *station;
+    size_t n = runs(which, &copy, heard, ms);
+    cq_station_ran r;
+    memcpy(sent, slice, ms);
+    memcpy(words, word_slice, n * sizeof words[0]);
+    fill();
+    fill_words();
+    lend_report(report);
+    r = cq_station_run_drift(station, heard, ms, slice, ms, word_slice, ms, &lent[1]);
+    check(r.answer == CQ_OK && r.words == n, "the same answer and number of words as without a report", which);
+    check(memcmp(slice, sent, ms) == 0 && stays(ms), "the same sent ms", which);
+    check(memcmp(word_slice, words, n * sizeof words[0]) == 0 && words_stay(n), "the same words", which);
+    check(same_station(station, &copy), "the same station", which);
+    check(reports_stay(), "what stands around the report stays", which);
+    *report = lent[1];
+    return n;
+}
+
+/* Heard ms, written as runs of q, m and s with their ms: "s22 m143". Gives back how many. */
+static size_t levels_of(const char *written, uint8_t *heard)
+{
+    size_t n = 0, ms;
+    while (*written != '\0') {
+        uint8_t level = *written == 'm' ? CQ_LEVEL_MARK : *written == 's' ? CQ_LEVEL_SPACE : CQ_LEVEL_QUIET;
+        for (ms = 0, written++; *written >= '0' && *written <= '9'; written++) {
+            ms = 10 * ms + (size_t)(*written - '0');
+        }
+        memset(heard + n, level, ms);
+        n += ms;
+        written += *written == ' ';
+    }
+    return n;
+}
+
+#define NO_WORD 0xFFFFFFFFu
+
+/* Lines that a fresh station hears, the word they give, and the report by hand. */
+static const struct {
+    uint8_t mode;
+    const char *heard;
+    uint32_t word;
+    cq_drift_report report;
+} lines[] = {
+    /* E at 22 ms: edges at 22, 44 and 132. On time; -3, 3 and 5; all early; all late. */
+    {CQ_MODE_BAUDOT_45, "m150 s22 m22 s88 m33", 'E', {3, 0, 0, 0}},
+    {CQ_MODE_BAUDOT_45, "m150 s19 m28 s90 m28", 'E', {3, 5, -3, 5}},
+    {CQ_MODE_BAUDOT_45, "s20 m21 s88 m36", 'E', {3, -8, -3, -2}},
+    {CQ_MODE_BAUDOT_45, "s25 m24 s90 m26", 'E', {3, 15, 3, 7}},
+    /* At 20 ms: 20, 40 and 120. */
+    {CQ_MODE_BAUDOT_50, "m150 s20 m20 s80 m30", 'E', {3, 0, 0, 0}},
+    {CQ_MODE_BAUDOT_50, "s17 m28 s84 m21", 'E', {3, 11, -3, 9}},
+    /* A shift code has edges too: 11111. */
+    {CQ_MODE_BAUDOT_45, "s22 m143", NO_WORD, {1, 0, 0, 0}},
+    /* A tie is of the earlier multiple: 33 is 11 late, 34 is 10 early; 30 is 10 late, 31 is 9 early. */
+    {CQ_MODE_BAUDOT_45, "s33 m111", NO_WORD, {1, 11, 11, 11}},
+    {CQ_MODE_BAUDOT_45, "s34 m110", 'V', {1, -10, -10, -10}},
+    {CQ_MODE_BAUDOT_45, "s22 m33 s77 m33", 'E', {3, 11, 0, 11}},
+    {CQ_MODE_BAUDOT_50, "s30 m101", NO_WORD, {1, 10, 10, 10}},
+    {CQ_MODE_BAUDOT_50, "s31 m100", 'V', {1, -9, -9, -9}},
+    /* At the stop's sample, the last ms heard; a ms ahead of it; one behind it the frame has broken. */
+    {CQ_MODE_BAUDOT_45, "s143 m1", 0x08, {1, 11, 11, 11}},
+    {CQ_MODE_BAUDOT_45, "s142 m2", 0x08, {1, 10, 10, 10}},
+    {CQ_MODE_BAUDOT_45, "s144 m1", 0x10008F02, {0, 0, 0, 0}},
+    {CQ_MODE_BAUDOT_50, "s130 m1", 0x08, {1, 10, 10, 10}},
+    {CQ_MODE_BAUDOT_50, "s131 m1", 0x10008202, {0, 0, 0, 0}},
+    /* A frame whose stop's sample is not heard yet; a start that follows the sample at once is no edge. */
+    {CQ_MODE_BAUDOT_45, "s22 m22 s88 m11", NO_WORD, {0, 0, 0, 0}},
+    {CQ_MODE_BAUDOT_45, "s22 m22 s88 m12 s1", 'E', {3, 0, 0, 0}},
+    /* Behind ms 0: edges at 1 and 2, which are nearest to the start. */
+    {CQ_MODE_BAUDOT_45, "s1 m1 s20 m22 s88 m12", 'E', {5, 3, 0, 2}},
+    /* Faults: stop not mark; quiet at a sample; no space at the start's. What comes behind a fault counts. */
+    {CQ_MODE_BAUDOT_45, "s20 m24 s105 m1", 0x10008F02, {0, 0, 0, 0}},
+    {CQ_MODE_BAUDOT_45, "s20 m30 q6 s88", 0x10003701, {0, 0, 0, 0}},
+    {CQ_MODE_BAUDOT_45, "s22 m22 s88 m11 q1", 0x10008F01, {0, 0, 0, 0}},
+    {CQ_MODE_BAUDOT_45, "s5 m20", NO_WORD, {0, 0, 0, 0}},
+    {CQ_MODE_BAUDOT_45, "s5 m20 s22 m21 s89 m12", 'E', {3, -1, -1, 0}},
+    {CQ_MODE_BAUDOT_45, "s20 m24 s105 m1 s23 m121", 0x10008F02, {1, 1, 1, 1}},
+    /* Changes through quiet are no edges: one of three, another, all; and quiet between two ms of mark. */
+    {CQ_MODE_BAUDOT_45, "s20 q2 m22 s88 m33", 'E', {2, 0, 0, 0}},
+    {CQ_MODE_BAUDOT_45, "s21 m23 q1 s86 m34", 'E', {2, -2, -1, -1}},
+    {CQ_MODE_BAUDOT_45, "s21 q1 m21 q1 s87 q1 m33", 'E', {0, 0, 0, 0}},
+    {CQ_MODE_BAUDOT_45, "s21 m10 q2 m12 s88 m33", 'E', {3, 1, -1, 1}},
+    /* Two frames; quiet between them. */
+    {CQ_MODE_BAUDOT_45, "s22 m143 s19 m28 s90 m28", 'E', {4, 5, -3, 5}},
+    {CQ_MODE_BAUDOT_50, "s18 m132 q500 s20 m20 s83 m27", 'E', {4, 1, -2, 3}},
+    /* DTMF: key 1, and 2 right behind it; EDT: A. Nothing is measured. */
+    {CQ_MODE_DTMF, "m40 s40 q40", 'b', {0, 0, 0, 0}},
+    {CQ_MODE_EDT, "m300 s10 m9 s45 m9 s9 m18", 'A', {0, 0, 0, 0}},
+};
+
+/* Each line in one call, with a fresh report and with one that has edges; and in two calls, cut at every ms. */
+static void drift_lines(void)
+{
+    static uint8_t heard[CQ_STATION_MS_MAX];
+    size_t i, at, ms, n;
+    for (i = 0; i < sizeof lines / sizeof lines[0]; i++) {
+        const char *which = lines[i].heard;
+        const cq_drift_report *r = &lines[i].report;
+        uint32_t words = lines[i].word == NO_WORD ? 0 : 1;
+        cq_station station = opened(lines[i].mode), whole;
+        cq_drift_report report = CQ_DRIFT_FRESH, more = {7, -7, -2, 1};
+        ms = levels_of(which, heard);
+        n = drifts(which, &station, heard, ms, &report);
+        check(n == words && (n == 0 || word_slice[0] == lines[i].word), "the word of a line", which);
+        check(is_report(&report, r->edges, r->sum, r->smallest, r->largest), "the report of a line", which);
+        whole = station;
+        station = opened(lines[i].mode);
+        drifts(which, &station, heard, ms, &more);
+        check(is_report(&more, 7 + r->edges, r->sum - 7, r->smallest < -2 ? r->smallest : -2,
+                        r->largest > 1 ? r->largest : 1),
+              "edges added to a report", which);
+        for (at = 0; at <= ms; at++) {
+            cq_drift_report cut = CQ_DRIFT_FRESH;
+            station = opened(lines[i].mode);
+            n = drifts(which, &station, heard, at, &cut);
+            n += drifts(which, &station, heard + at, ms - at, &cut);
+            check(n == words && same_station(&station, &whole), "in two calls", which);
+            check(is_report(&cut, r->edges, r->sum, r->smallest, r->largest), "the report of two calls", which);
+        }
+    }
+}
+
+/* The edges of a frame wait, and count at its stop, by whichever of the two runs they came. */
+static void drift_waits(void)
+{
+    static const int32_t at[3] = {19, 47, 137}, moved[3] = {-3, 3, 5};
+    static uint8_t heard[165];
+    cq_station station = opened(CQ_MODE_BAUDOT_45), copy;
+    cq_drift_report report = CQ_DRIFT_FRESH, fresh = CQ_DRIFT_FRESH, none = CQ_DRIFT_FRESH;
+    size_t ms, i;
+    levels_of("s19 m28 s90 m28", heard);
+    for (ms = 0; ms < 143; ms++) {
+        int32_t edges = 0, sum = 0, smallest = 0, largest = 0;
+        drifts("waits", &station, heard + ms, 1, &report);
+        for (i = 0; i < 3 && at[i] <= (int32_t)ms; i++) {
+            edges++;
+            sum += moved[i];
+            smallest = i == 0 || moved[i] < smallest ? moved[i] : smallest;
+            largest = i == 0 || moved[i] > largest ? moved[i] : largest;
+        }
+        check(is_report(&station.edges.seen, (uint32_t)edges, sum, smallest, largest), "edges that wait", "waits");
+        check(station.edges.level == heard[ms], "the level of the latest ms", "waits");
+        check(is_report(&report, 0, 0, 0, 0), "none counts ahead of the stop's sample", "waits");
+    }
+    copy = station;
+    drifts("waits", &station, heard + ms, 1, &report);
+    check(is_report(&report, 3, 5, -3, 5) && none_wait(&station), "all count at the stop's sample", "waits");
+    /* The stop's sample in a run without a report: the edges are gone. */
+    runs("waits", &copy, heard + ms, 165 - ms);
+    check(none_wait(&copy), "none waits behind the stop's sample", "waits");
+    drifts("waits", &copy, heard, 10, &none);
+    check(is_report(&none, 0, 0, 0, 0), "what counted in a run without a report", "waits");
+    /* All but the stop's sample without a report. */
+    station = opened(CQ_MODE_BAUDOT_45);
+    runs("waits", &station, heard, 143);
+    check(drifts("waits", &station, heard + 143, 1, &fresh) == 1, "a word", "waits");
+    check(is_report(&fresh, 3, 5, -3, 5), "edges of runs without a report count at the stop", "waits");
+}
+
+/* A ms in which the receiver is off drops the frame and its edges. No list of calls leads to it within a frame. */
+static void drift_dropped(uint8_t mode)
+{
+    static uint8_t heard[165];
+    cq_station half = opened(mode), station;
+    cq_drift_report report = CQ_DRIFT_FRESH;
+    levels_of("s19 m28 s90 m28", heard);
+    runs("dropped", &half, heard, 60);
+    check(half.edges.seen.edges == 2 && half.edges.level == CQ_LEVEL_SPACE, "two edges wait", "dropped");
+    station = half;
+    station.core.silence = 300;
+    offers("dropped", &station, "E", 1, 1);
+    check(station.edges.seen.edges == 2, "an offer leaves them", "dropped");
+    drifts("own burst", &station, heard + 60, 1, &report);
+    check(slice[0] == CQ_LEVEL_MARK && none_wait(&station), "dropped in the first ms of a burst", "own burst");
+    drifts("own burst", &station, heard + 61, 104, &report);
+    check(none_wait(&station) && is_report(&report, 0, 0, 0, 0), "none of them counts", "own burst");
+    station = half;
+    station.core.inhibited = 1;
+    drifts("inhibited", &station, heard + 60, 1, &report);
+    check(none_wait(&station) && station.core.reader.frame.place == 0, "dropped in an inhibited ms", "inhibited");
+    drifts("inhibited", &station, heard + 140, 25, &report);
+    check(none_wait(&station) && is_report(&report, 0, 0, 0, 0), "none of them counts", "inhibited");
+}
+
+/* The report of one frame: each change, less the multiple of e to which it is nearest, searched from 0 on. */
+static cq_drift_report searched(const uint8_t *heard, size_t e)
+{
+    cq_drift_report r = CQ_DRIFT_FRESH;
+    size_t m;
+    int32_t multiple;
+    for (m = 1; m <= 6 * e + e / 2; m++) {
+        int32_t nearest = (int32_t)m;
+        if (heard[m] == heard[m - 1] || heard[m] == CQ_LEVEL_QUIET || heard[m - 1] == CQ_LEVEL_QUIET) {
+            continue;
+        }
+        for (multiple = (int32_t)e; multiple <= 7 * (int32_t)e; multiple += (int32_t)e) {
+            int32_t from = (int32_t)m - multiple;
+            if ((from < 0 ? -from : from) < (nearest < 0 ? -nearest : nearest)) {
+                nearest = from;
+            }
+        }
+        r.smallest = r.edges == 0 || nearest < r.smallest ? nearest : r.smallest;
+        r.largest = r.edges == 0 || nearest > r.largest ? nearest : r.largest;
+        r.sum += nearest;
+        r.edges++;
+    }
+    return r;
+}
+
+/* A frame that is read without fault gives the report that is searched for. */
+static void frame_drifts(const char *which, uint8_t mode, size_t e, const uint8_t *heard)
+{
+    cq_station station = opened(mode);
+    cq_drift_report report = CQ_DRIFT_FRESH, r = searched(heard, e);
+    size_t n = drifts(which, &station, heard, 6 * e + e / 2 + 1, &report);
+    check((n == 0 || word_slice[0] <= 0x7F) && station.core.reader.frame.place == 0, "a frame without fault", which);
+    check(is_report(&report, r.edges, r.sum, r.smallest, r.largest), "the report of a frame", which);
+}
+
+/* An edge at every ms where one can be, a short one ahead of the start's sample, as many as there can be, and any. */
+static void drift_frames(uint8_t mode, size_t e)
+{
+    static uint8_t heard[144];
+    size_t stop = 6 * e + e / 2, m, i;
+    uint32_t random = 111;
+    for (m = e / 2 + 1; m <= stop; m++) {
+        int32_t d = (int32_t)((m - e / 2 - 1) % e) - (int32_t)(e / 2) + 1; /* from -10 or -9 up to 11 or 10 */
+        cq_drift_report r;
+        memset(heard, CQ_LEVEL_SPACE, m);
+        memset(heard + m, CQ_LEVEL_MARK, stop + 1 - m);
+        r = searched(heard, e);
+        check(is_report(&r, 1, d, d, d), "the search", "one edge");
+        frame_drifts("one edge", mode, e, heard);
+    }
+    for (m = 1; m < e / 2; m++) {
+        memset(heard, CQ_LEVEL_SPACE, stop);
+        heard[m] = heard[stop] = CQ_LEVEL_MARK;
+        frame_drifts("a short mark", mode, e, heard);
+        heard[m] = CQ_LEVEL_QUIET;
+        frame_drifts("a short quiet", mode, e, heard);
+    }
+    for (m = 0; m <= stop; m++) {
+        heard[m] = m % 2 == 0 ? CQ_LEVEL_SPACE : CQ_LEVEL_MARK;
+    }
+    heard[e / 2] = CQ_LEVEL_SPACE; /* ms 11, or 10; then mark at the stop's sample, ms 143, or 130 */
+    heard[stop] = CQ_LEVEL_MARK;
+    frame_drifts("changes in every ms", mode, e, heard);
+    check(searched(heard, e).edges == (mode == CQ_MODE_BAUDOT_45 ? 141u : 129u), "how many", "changes in every ms");
+    for (i = 0; i < 300; i++) {
+        for (m = 0; m <= stop; m++) {
+            random = random * 1664525u + 1013904223u;
+            heard[m] = m == 0 || m == e / 2                ? CQ_LEVEL_SPACE
+                       : m == stop                         ? CQ_LEVEL_MARK
+                       : m % e == e / 2                    ? (uint8_t)(1 + (random >> 24) % 2)
+                       : (random >> 8) % (i % 30 + 1) == 0 ? (uint8_t)((random >> 24) % 3)
+                                                           : heard[m - 1];
+        }
+        frame_drifts("any changes", mode, e, heard);
+    }
+}
+
+/* A run with a report is refused, and leaves the station, the report and the slices. */
+static void drift_refused(const char *which, cq_station station, const uint8_t *heard, size_t ms, size_t room,
+                          size_t word_room, cq_drift_report report, uint8_t answer)
+{
+    cq_station before = station;
+    cq_station_ran r;
+    fill();
+    fill_words();
+    lend_report(&report);
+    r = cq_station_run_drift(&station, heard, ms, slice, room, word_slice, word_room, &lent[1]);
+    check(r.answer == answer && r.words == 0, "refusal of a run with a report", which);
+    check(stays(0) && words_stay(0), "a refusal leaves the slices", which);
+    check(same_station(&station, &before), "a refusal leaves the station", which);
+    check(memcmp(&lent[1], &report, sizeof report) == 0 && reports_stay(), "a refusal leaves the report", which);
+}
+
+/* The questions in order, in each mode. */
+static void drift_questions(void)
+{
+    static uint8_t heard[CQ_STATION_MS_MAX + 1];
+    static const cq_drift_report fresh = CQ_DRIFT_FRESH, bad_report = {0, 0, 0, 1};
+    uint8_t mode;
+    for (mode = CQ_MODE_BAUDOT_45; mode <= CQ_MODE_EDT; mode++) {
+        cq_station station = opened(mode), bad;
+        size_t most = CQ_STATION_MS_MAX + 1;
+        cq_drift_report report = {CQ_DRIFT_EDGES_MAX, 1, -1, 2};
+        offers("waiting", &station, "e", 1, 1);
+        memset(heard, CQ_LEVEL_QUIET, sizeof heard);
+        drift_refused("5", station, heard, most, most, most, fresh, CQ_REFUSED_DURATION);
+        drift_refused("7", station, heard, 10, 9, 10, fresh, CQ_REFUSED_SENT_SLICE);
+        drift_refused("7 ahead of 8", station, heard, 10, 9, 9, fresh, CQ_REFUSED_SENT_SLICE);
+        drift_refused("8", station, heard, 10, 10, 9, fresh, CQ_REFUSED_WORD_SLICE);
+        heard[9] = (uint8_t)(CQ_LEVEL_MAX(mode) + 1);
+        drift_refused("6", station, heard, 10, 10, 10, fresh, CQ_REFUSED_HEARD);
+        drift_refused("6 ahead of 7", station, heard, 10, 0, 0, fresh, CQ_REFUSED_HEARD);
+        drift_refused("5 ahead of 6", station, heard, most, 0, 0, fresh, CQ_REFUSED_DURATION);
+        drift_refused("1, report", station, heard, 0, 0, 0, bad_report, CQ_REFUSED_STATE);
+        drift_refused("1, report, ahead of 5", station, heard, most, 0, 0, bad_report, CQ_REFUSED_STATE);
+        bad = station;
+        bad.core.silence = 301;
+        drift_refused("1, silence", bad, heard, most, 0, 0, fresh, CQ_REFUSED_STATE);
+        memset(&bad, 0, sizeof bad);
+        drift_refused("1, zeros", bad, heard, 0, 0, 0, fresh, CQ_REFUSED_STATE);
+        /* A full report takes ms without an edge that counts; no ms are taken. */
+        drifts("no ms", &station, heard, 0, &report);
+        heard[9] = CQ_LEVEL_QUIET;
+        drifts("most ms", &station, heard, CQ_STATION_MS_MAX, &report);
+        check(is_report(&report, CQ_DRIFT_EDGES_MAX, 1, -1, 2), "a report to which nothing is added", "most ms");
+    }
+}
+
+/* 18 is the last question: a report takes 65,536 edges and not one more. */
+static void drift_full(uint8_t mode, const char *code, const char *two)
+{
+    static uint8_t heard[CQ_STATION_MS_MAX];
+    size_t ms = levels_of(code, heard), at;
+    cq_station station = opened(mode);
+    cq_drift_report report = {CQ_DRIFT_EDGES_MAX - 3, -11 * (CQ_DRIFT_EDGES_MAX - 3), -11, -11}, fresh = CQ_DRIFT_FRESH;
+    cq_drift_report full;
+    cq_station_ran r;
+    offers("full", &station, "E", 1, 1);
+    station.core.silence = 0; /* so that the character waits, and the station reads */
+    check(drifts("three more", &station, heard, ms, &report) == 1, "a word", "full");
+    check(is_report(&report, CQ_DRIFT_EDGES_MAX, -11 * (CQ_DRIFT_EDGES_MAX - 3), -11, 0), "65,536 edges", "full");
+    full = report;
+    drift_refused("18", station, heard, ms, ms, ms, full, CQ_REFUSED_REPORT_FULL);
+    full.edges -= 2;
+    full.sum = 0;
+    drift_refused("18, one too many", station, heard, ms, ms, ms, full, CQ_REFUSED_REPORT_FULL);
+    drift_refused("18, room to spare", station, heard, ms, ms + 1, ms + 1, full, CQ_REFUSED_REPORT_FULL);
+    drift_refused("8 ahead of 18", station, heard, ms, ms, ms - 1, full, CQ_REFUSED_WORD_SLICE);
+    drift_refused("7 ahead of 18", station, heard, ms, ms - 1, ms, full, CQ_REFUSED_SENT_SLICE);
+    heard[ms] = 3;
+    drift_refused("6 ahead of 18", station, heard, ms + 1, ms + 1, ms + 1, full, CQ_REFUSED_HEARD);
+    full.sum = 11 * CQ_DRIFT_EDGES_MAX;
+    drift_refused("1 ahead of 18", station, heard, ms, ms, ms, full, CQ_REFUSED_STATE);
+    full = report;
+    /* The edges of two frames, one of which would still fit. */
+    ms = levels_of(two, heard);
+    full.edges -= 3;
+    full.sum = 0;
+    drift_refused("18, two frames", station, heard, ms, ms, ms, full, CQ_REFUSED_REPORT_FULL);
+    full.edges -= 3;
+    drifts("two frames that fit", &station, heard, ms, &full);
+    check(full.edges == CQ_DRIFT_EDGES_MAX, "65,536 edges", "two frames that fit");
+    /* A full report takes a frame up to its stop's sample; there a fresh one goes on. A run never answers 18. */
+    ms = levels_of(code, heard);
+    for (at = 0; at + 1 < ms; at++) {
+        drifts("up to the stop", &station, heard + at, 1, &report);
+    }
+    check(station.edges.seen.edges == 3, "three edges wait", "full");
+    drift_refused("18 at the stop", station, heard + at, 1, 1, 1, report, CQ_REFUSED_REPORT_FULL);
+    r = cq_station_run_drift(&station, heard + at, 1, slice, 1, word_slice, 1, &fresh);
+    check(r.answer == CQ_OK && r.words == 1 && is_report(&fresh, 3, 0, 0, 0), "a fresh report goes on", "full");
+}
+
+/* A number of a report, or of the edges that wait, at its bound and past it. */
+struct bound {
+    const char *name;
+    cq_drift_report report;
+    int in;
+};
+
+/* A station in a Baudot frame may have 7 edges waiting at place 9, and a report may have as many at any time. */
+static const struct bound bounds[] = {
+    {"no edge", {0, 0, 0, 0}, 1},
+    {"no edge, sum 1", {0, 1, 0, 0}, 0},
+    {"no edge, sum -1", {0, -1, 0, 0}, 0},
+    {"no edge, smallest 1", {0, 0, 1, 0}, 0},
+    {"no edge, smallest -1", {0, 0, -1, 0}, 0},
+    {"no edge, largest 1", {0, 0, 0, 1}, 0},
+    {"no edge, largest -1", {0, 0, 0, -1}, 0},
+    {"one edge, all 0", {1, 0, 0, 0}, 1},
+    {"sum 11", {1, 11, 0, 0}, 1},
+    {"sum 12", {1, 12, 0, 0}, 0},
+    {"sum -11", {1, -11, 0, 0}, 1},
+    {"sum -12", {1, -12, 0, 0}, 0},
+    {"sum 77", {7, 77, 11, 11}, 1},
+    {"sum 78", {7, 78, 11, 11}, 0},
+    {"sum -77", {7, -77, -11, -11}, 1},
+    {"sum -78", {7, -78, -11, -11}, 0},
+    {"highest sum", {7, INT32_MAX, 0, 0}, 0},
+    {"lowest sum", {7, INT32_MIN, 0, 0}, 0},
+    {"smallest -11", {7, 0, -11, 0}, 1},
+    {"smallest -12", {7, 0, -12, 0}, 0},
+    {"smallest 11", {7, 0, 11, 0}, 1},
+    {"smallest 12", {7, 0, 12, 0}, 0},
+    {"lowest smallest", {7, 0, INT32_MIN, 0}, 0},
+    {"highest smallest", {7, 0, INT32_MAX, 0}, 0},
+    {"largest 11", {7, 0, 0, 11}, 1},
+    {"largest 12", {7, 0, 0, 12}, 0},
+    {"largest -11", {7, 0, 0, -11}, 1},
+    {"largest -12", {7, 0, 0, -12}, 0},
+    {"lowest largest", {7, 0, 0, INT32_MIN}, 0},
+    {"highest largest", {7, 0, 0, INT32_MAX}, 0},
+    {"smallest above largest", {7, 0, 11, -11}, 1}, /* is not asked */
+    {"most edges there can be", {UINT32_MAX, 0, 0, 0}, 0},
+};
+#define FRAME_PLACE 9 /* 8 ms so far */
+
+/* Whether all entries take a station with these edges, or all refuse it with 1. */
+static void edges_asked(const char *which, cq_station station, int in)
+{
+    static const uint8_t heard[1] = {CQ_LEVEL_QUIET}, text[1] = {'e'};
+    static const cq_drift_report fresh = CQ_DRIFT_FRESH;
+    cq_station copy = station;
+    if (in) {
+        cq_drift_report report = CQ_DRIFT_FRESH;
+        check(preview(which, station, text, 1).answer == CQ_OK, "a preview is not refused", which);
+        offers(which, &copy, "e", 1, 1);
+        check(memcmp(&copy.edges.seen, &station.edges.seen, sizeof copy.edges.seen) == 0 &&
+                  copy.edges.level == station.edges.level,
+              "an offer leaves the edges", which);
+        drifts(which, &station, heard, 0, &report);
+        drifts(which, &station, heard, 1, &report);
+        return;
+    }
+    preview_refused(which, &station, text, 1, CQ_REFUSED_STATE);
+    offer_refused(which, station, text, 1, CQ_REFUSED_STATE);
+    station_refused(which, station, heard, 1, 1, 1, CQ_REFUSED_STATE);
+    drift_refused(which, station, heard, 1, 1, 1, fresh, CQ_REFUSED_STATE);
+    check(cq_station_open(&copy, copy.core.mode) == CQ_OK && none_wait(&copy), "an opening drops them", which);
+}
+
+/* The edges that wait, in a frame of a mode and outside one. */
+static void edges_bounds(uint8_t mode)
+{
+    static const uint8_t most[4] = {144, 131, 1, 96};
+    int baudot = mode == CQ_MODE_BAUDOT_45 || mode == CQ_MODE_BAUDOT_50;
+    cq_station fresh = opened(mode), station;
+    unsigned place, level;
+    size_t i;
+    for (place = 0; place <= most[mode - 1]; place++) {
+        int frame = baudot && place >= 2;
+        fresh.core.reader.frame.place = (uint8_t)place;
+        for (level = 0; level <= 4; level++) {
+            station = fresh;
+            station.edges.level = (uint8_t)level;
+            edges_asked("level", station, level == 0 || (frame && level <= 2));
+        }
+        /* As many as there can be, and one more. */
+        station = fresh;
+        station.edges.seen.edges = frame ? place - 2 : 0;
+        edges_asked("edges", station, 1);
+        station.edges.seen.edges++;
+        edges_asked("edges, one more", station, 0);
+    }
+    for (i = 0; i < sizeof bounds / sizeof bounds[0]; i++) {
+        station = fresh;
+        station.edges.seen = bounds[i].report;
+        station.core.reader.frame.place = mode == CQ_MODE_DTMF ? 1 : FRAME_PLACE;
+        edges_asked(bounds[i].name, station, i == 0 || (baudot && bounds[i].in));
+        station.core.reader.frame.place = 0;
+        edges_asked(bounds[i].name, station, i == 0);
+    }
+    station = fresh;
+    station.edges.level = 255;
+    edges_asked("level 255", station, 0);
+}
+
+/* All edges that wait ahead of the stop's sample count there; space ahead of it brings one more, 11 or 10 late. */
+static void edges_count(uint8_t mode, uint8_t stop, int32_t late)
+{
+    static const uint8_t mark[1] = {CQ_LEVEL_MARK};
+    cq_station fresh = opened(mode), station;
+    size_t i;
+    fresh.core.reader.frame.place = (uint8_t)(stop + 1);
+    for (i = 0; i < sizeof bounds / sizeof bounds[0]; i++) {
+        cq_drift_report report = CQ_DRIFT_FRESH, b = bounds[i].report;
+        if (!bounds[i].in) {
+            continue;
+        }
+        station = fresh;
+        station.edges.seen = b;
+        station.edges.level = CQ_LEVEL_MARK;
+        drifts(bounds[i].name, &station, mark, 1, &report);
+        check(is_report(&report, b.edges, b.sum, b.smallest, b.largest), "edges that waited", bounds[i].name);
+        station = fresh;
+        station.edges.seen = b;
+        station.edges.level = CQ_LEVEL_SPACE;
+        memset(&report, 0, sizeof report);
+        drifts(bounds[i].name, &station, mark, 1, &report);
+        check(is_report(&report, b.edges + 1, b.sum + late, b.edges > 0 && b.smallest < late ? b.smallest : late,
+                        b.edges > 0 && b.largest > late ? b.largest : late),
+              "edges that waited, and one more", bounds[i].name);
+    }
+    /* As many as can wait there. */
+    station = fresh;
+    station.edges.seen.edges = stop - 1u;
+    station.edges.seen.sum = -11 * (stop - 1);
+    station.edges.seen.smallest = station.edges.seen.largest = -11;
+    for (i = 0; i < 2; i++) {
+        cq_station copy = station;
+        cq_drift_report report = {CQ_DRIFT_EDGES_MAX, 0, 0, 0};
+        report.edges -= stop - 1u - (uint32_t)i;
+        if (i == 0) {
+            drifts("a full report", &copy, mark, 1, &report);
+            check(is_report(&report, CQ_DRIFT_EDGES_MAX, -11 * (stop - 1), -11, 0), "as many as can wait", "full");
+        } else {
+            drift_refused("one more than full", copy, mark, 1, 1, 1, report, CQ_REFUSED_REPORT_FULL);
+        }
+    }
+}
+
+/* A report, in each mode. */
+static void report_bounds(uint8_t mode)
+{
+    static const uint8_t quiet[1] = {CQ_LEVEL_QUIET};
+    static const struct bound large[] = {
+        {"65,536 edges", {CQ_DRIFT_EDGES_MAX, 0, 0, 0}, 1},
+        {"65,537 edges", {CQ_DRIFT_EDGES_MAX + 1, 0, 0, 0}, 0},
+        {"largest sum", {CQ_DRIFT_EDGES_MAX, 11 * CQ_DRIFT_EDGES_MAX, 11, 11}, 1},
+        {"largest sum and 1", {CQ_DRIFT_EDGES_MAX, 11 * CQ_DRIFT_EDGES_MAX + 1, 11, 11}, 0},
+        {"smallest sum", {CQ_DRIFT_EDGES_MAX, -11 * CQ_DRIFT_EDGES_MAX, -11, -11}, 1},
+        {"smallest sum less 1", {CQ_DRIFT_EDGES_MAX, -11 * CQ_DRIFT_EDGES_MAX - 1, -11, -11}, 0},
+    };
+    cq_station station = opened(mode);
+    size_t i, n = sizeof bounds / sizeof bounds[0];
+    for (i = 0; i < n + sizeof large / sizeof large[0]; i++) {
+        const struct bound *b = i < n ? &bounds[i] : &large[i - n];
+        cq_drift_report report = b->report;
+        if (b->in) {
+            drifts(b->name, &station, quiet, 1, &report);
+            check(memcmp(&report, &b->report, sizeof report) == 0, "a report stays without an edge", b->name);
+        } else {
+            drift_refused(b->name, station, quiet, 1, 1, 1, report, CQ_REFUSED_STATE);
+        }
+    }
+}
+
+static void drift(void)
+{
+    uint8_t mode;
+    drift_lines();
+    drift_waits();
+    drift_dropped(CQ_MODE_BAUDOT_45);
+    drift_dropped(CQ_MODE_BAUDOT_50);
+    drift_frames(CQ_MODE_BAUDOT_45, 22);
+    drift_frames(CQ_MODE_BAUDOT_50, 20);
+    drift_questions();
+    drift_full(CQ_MODE_BAUDOT_45, "s22 m22 s88 m12", "s22 m22 s88 m33 s22 m22 s88 m12");
+    drift_full(CQ_MODE_BAUDOT_50, "s20 m20 s80 m11", "s20 m20 s80 m30 s20 m20 s80 m11");
+    edges_count(CQ_MODE_BAUDOT_45, 143, 11);
+    edges_count(CQ_MODE_BAUDOT_50, 130, 10);
+    for (mode = CQ_MODE_BAUDOT_45; mode <= CQ_MODE_EDT; mode++) {
+        edges_bounds(mode);
+        report_bounds(mode);
+    }
+}
+
 int main(void)
 {
     uint8_t mode;
@@ -1259,6 +1853,7 @@ int main(void)
     }
     station_previews();
     station_refusals();
+    drift();
     if (failures != 0) {
         printf("header: %lu of %lu checks failed\n", failures, checks);
         return 1;

@@ -3,8 +3,8 @@
  * exactly as long as it is lent, so that an access outside shows; slices to be written are often left as malloc
  * gives them, so that a decision on their old content shows, too. Levels, characters, codes, tones, lengths and
  * states are now and then out of range. Also checks that a refusal leaves what was lent as it was, that a result
- * keeps within its range, that a preview leaves the station and answers as the offer does, and that every answer and
- * every cause of a fault comes.
+ * keeps within its range, that a preview leaves the station and answers as the offer does, that a run with a report
+ * does what one without does, and that every answer and every cause of a fault comes.
  *
  *     memory [ROUNDS]
  */
@@ -16,12 +16,12 @@
 
 #define STATIONS 6
 #define ROUNDS 15000
-#define ANSWERS 13 /* 0 to 12 */
+#define ANSWERS 19 /* 0 to 12, and 18 */
 #define CAUSES 6 /* 1 to 5 */
 #define LONGEST (480 + 256 * 480) /* ms of a preview: a DTMF code of four keys on the line, and 256 that wait */
 #define PATTERN 0xA5
 
-static unsigned long failures, answers[ANSWERS], previews[ANSWERS], causes[CAUSES];
+static unsigned long failures, answers[ANSWERS], previews[ANSWERS], drifts[ANSWERS], edges, causes[CAUSES];
 
 static void check(int holds, const char *what)
 {
@@ -224,6 +224,13 @@ static void calling(void)
 
 static cq_station *stations[STATIONS];
 
+/* By fields: the three bytes behind `level` have no meaning. */
+static int same_station(const cq_station *a, const cq_station *b)
+{
+    return memcmp(&a->core, &b->core, sizeof a->core) == 0 && memcmp(a->chars, b->chars, sizeof a->chars) == 0 &&
+           memcmp(&a->edges.seen, &b->edges.seen, sizeof a->edges.seen) == 0 && a->edges.level == b->edges.level;
+}
+
 static void open_station(cq_station *station)
 {
     uint8_t mode = (uint8_t)(one_in(10) ? below(256) : 1 + below(4));
@@ -239,7 +246,7 @@ static void offer(cq_station *station)
     if (succeeds(cq_station_offer(station, text, length))) {
         check(station->core.waiting <= CQ_STATION_WAITING_MAX, "how many wait");
     } else {
-        check(memcmp(station, &before, sizeof before) == 0, "refusal of cq_station_offer");
+        check(same_station(station, &before), "refusal of cq_station_offer");
     }
     free(text);
 }
@@ -259,7 +266,7 @@ static void preview(const cq_station *station)
     memcpy(text_before, text, length);
     *copy = *station;
     r = cq_station_preview(station, text, length);
-    check(memcmp(station, &before, sizeof before) == 0, "the station behind cq_station_preview");
+    check(same_station(station, &before), "the station behind cq_station_preview");
     check(memcmp(text, text_before, length) == 0, "the text behind cq_station_preview");
     check(r.answer == cq_station_offer(copy, text, length), "answer of a preview");
     previews[r.answer % ANSWERS]++;
@@ -307,14 +314,29 @@ static int are_words(uint8_t mode, const uint32_t *words, size_t count)
     return 1;
 }
 
-/* Heard ms: all quiet, runs of one level, or any level in each ms; in DTMF also keys that count, many of them * and #,
- * with quiet between them. */
+/* Baudot codes, one behind the other, with edges that come late and are not clean. */
+static void codes(uint8_t *heard, size_t ms, size_t e)
+{
+    size_t i;
+    unsigned code = 0;
+    for (i = 0; i < ms; i++) {
+        size_t at = i % (6 * e + 3 * e / 2), element = at / e;
+        code = at == 0 ? below(32) : code;
+        heard[i] = element == 0 || (element < 6 && (code >> (element - 1)) % 2 == 0) ? CQ_LEVEL_SPACE : CQ_LEVEL_MARK;
+        heard[i] = i > 0 && at % e < below(5) ? heard[i - 1] : heard[i];
+    }
+}
+
+/* Heard ms: all quiet, runs of one level, or any level in each ms; in Baudot also codes; in DTMF also keys that count,
+ * many of them * and #, with quiet between them. */
 static uint8_t *lend_heard(size_t ms, uint8_t mode)
 {
     unsigned levels = one_in(3) ? 1u : CQ_LEVEL_MAX(mode) + 1u;
     uint8_t *heard = lend_values(ms, levels);
     size_t i;
-    if (mode == CQ_MODE_DTMF && one_in(3)) {
+    if ((mode == CQ_MODE_BAUDOT_45 || mode == CQ_MODE_BAUDOT_50) && one_in(3)) {
+        codes(heard, ms, mode == CQ_MODE_BAUDOT_45 ? 22 : 20);
+    } else if (mode == CQ_MODE_DTMF && one_in(3)) {
         for (i = 0; i < ms; i++) {
             uint8_t next = (uint8_t)(one_in(2) ? CQ_KEY_STAR + below(2) : 1 + below(CQ_KEY_D));
             heard[i] = i / 45 % 2 == 1 ? CQ_LEVEL_QUIET : i % 45 == 0 ? next : heard[i - 1];
@@ -341,18 +363,82 @@ static void run(cq_station *station)
         check(ms <= sent.bytes && all_below(sent.memory, ms, CQ_LEVEL_MAX(station->core.mode) + 1u), "sent ms");
         check(r.words <= ms && are_words(station->core.mode, words.memory, r.words), "words");
     } else {
-        check(r.words == 0 && memcmp(station, &before, sizeof before) == 0, "refusal of cq_station_run");
+        check(r.words == 0 && same_station(station, &before), "refusal of cq_station_run");
     }
     free(heard);
     free(sent.memory);
     free(words.memory);
 }
 
+/* A report: fresh, of some edges, or almost full; now and then damaged. */
+static cq_drift_report *lend_report(void)
+{
+    cq_drift_report *report = lend(sizeof *report);
+    memset(report, 0, sizeof *report);
+    if (one_in(2)) {
+        report->edges = one_in(2) ? 1 + below(1000) : CQ_DRIFT_EDGES_MAX - below(4);
+        report->smallest = -(int32_t)below(12);
+        report->largest = (int32_t)below(12);
+        report->sum = (int32_t)below(22 * report->edges + 1) - 11 * (int32_t)report->edges;
+    }
+    if (one_in(20)) {
+        damage(report, sizeof *report);
+    }
+    return report;
+}
+
+/* A run with a report, and one without on a copy: the same, unless the report is refused. */
+static void run_drift(cq_station *station)
+{
+    size_t ms = any_ms(), words_length;
+    uint8_t *heard = lend_heard(ms, station->core.mode);
+    struct slice sent = lend_slice(room_for(ms)), words = lend_slice(room_for(ms) * sizeof(uint32_t));
+    uint8_t *sent_too = lend(sent.bytes);
+    uint32_t *words_too = lend(words.bytes);
+    cq_station *copy = lend(sizeof *copy), before = *station;
+    cq_drift_report *report = lend_report(), report_before = *report;
+    cq_station_ran r, plain;
+    *copy = *station;
+    words_length = words.bytes / sizeof(uint32_t);
+    r = cq_station_run_drift(station, heard, ms, sent.memory, sent.bytes, words.memory, words_length, report);
+    plain = cq_station_run(copy, heard, ms, sent_too, sent.bytes, words_too, words_length);
+    check(stays(&sent, r.answer == CQ_OK ? ms : 0), "sent ms behind the result");
+    check(stays(&words, r.words * sizeof(uint32_t)), "words behind the result");
+    drifts[r.answer % ANSWERS]++;
+    if (succeeds(r.answer)) {
+        check(plain.answer == CQ_OK && plain.words == r.words && same_station(station, copy) &&
+                  memcmp(sent.memory, sent_too, ms) == 0 &&
+                  memcmp(words.memory, words_too, r.words * sizeof(uint32_t)) == 0,
+              "what cq_station_run does");
+        check(report->edges >= report_before.edges && report->edges <= CQ_DRIFT_EDGES_MAX &&
+                  report->sum <= 11 * (int32_t)report->edges && -report->sum <= 11 * (int32_t)report->edges &&
+                  report->smallest >= -11 && report->largest <= 11,
+              "the report");
+        check(report->edges > report_before.edges ||
+                  memcmp(report, &report_before, sizeof report_before) == 0, "a report without another edge");
+        edges += report->edges - report_before.edges;
+    } else {
+        check(r.words == 0 && same_station(station, &before) &&
+                  memcmp(report, &report_before, sizeof report_before) == 0,
+              "refusal of cq_station_run_drift");
+        check(r.answer == plain.answer || r.answer == CQ_REFUSED_STATE ||
+                  (r.answer == CQ_REFUSED_REPORT_FULL && plain.answer == CQ_OK),
+              "answer of cq_station_run_drift");
+    }
+    free(heard);
+    free(sent.memory);
+    free(words.memory);
+    free(sent_too);
+    free(words_too);
+    free(copy);
+    free(report);
+}
+
 /* One call of a station. A damaged one that is refused is opened anew after a while. */
 static void station_call(void)
 {
     cq_station *station = stations[below(STATIONS)];
-    unsigned which = below(30);
+    unsigned which = below(40);
     if (which == 0) {
         open_station(station);
     } else if (which == 1) {
@@ -361,6 +447,8 @@ static void station_call(void)
         offer(station);
     } else if (which < 14) {
         preview(station);
+    } else if (which < 24) {
+        run_drift(station);
     } else {
         run(station);
     }
@@ -389,8 +477,13 @@ int main(int argc, char **argv)
         free(stations[i]);
     }
     for (i = 0; i < ANSWERS && rounds >= ROUNDS; i++) {
-        check(answers[i] > 0, "an answer that never comes");
+        int run = i == CQ_OK || i == CQ_REFUSED_STATE || (i >= CQ_REFUSED_DURATION && i <= CQ_REFUSED_WORD_SLICE);
+        check((answers[i] > 0) == (i <= CQ_REFUSED_CALLING_STATE || i == CQ_REFUSED_REPORT_FULL),
+              "an answer that never comes, or is none");
+        check((drifts[i] > 0) == (run || i == CQ_REFUSED_REPORT_FULL),
+              "an answer of runs with a report that never comes, or is none of theirs");
     }
+    check(edges > 0 || rounds < ROUNDS, "an edge that never comes");
     for (i = 0; i < ANSWERS && rounds >= ROUNDS; i++) {
         int given = i == CQ_OK || i == CQ_REFUSED_STATE || i == CQ_REFUSED_CHARACTER || i == CQ_REFUSED_FULL;
         check((previews[i] > 0) == given, "an answer of previews that never comes, or is none of theirs");
@@ -410,6 +503,11 @@ int main(int argc, char **argv)
     for (i = 0; i <= CQ_REFUSED_FULL; i++) {
         printf(" %lu", previews[i]);
     }
+    fputs("; of runs with a report:", stdout);
+    for (i = 0; i < ANSWERS; i++) {
+        printf(" %lu", drifts[i]);
+    }
+    printf("; edges: %lu", edges);
     fputs("; each cause, from 1 on:", stdout);
     for (i = 1; i < CAUSES; i++) {
         printf(" %lu", causes[i]);
