@@ -21,7 +21,7 @@ use Rattle.demand3.proofs.Told.{Told, toldAfter, toldDoes, toldHeard}
 use Rattle.demand3.proofs.Cuts.{behind, idle-later}
 use Rattle.demand3.proofs.OneClock.{Clock, OneClock, ReadsOn, followsIn, wordsIn, reads-on}
 use Rattle.demand3.proofs.OwnRules.{toldOf, own-after, own-does, own-heard, own-none, own-append}
-use Rattle.demand3.proofs.StationLike.{opened-like}
+use Rattle.demand3.proofs.StationLike.{opened-matches}
 use Rattle.demand3.proofs.Calls.{CallsLike, calls-like, words-up-to}
 
 pub same-words : (cs : List ℕ) → map characterWord cs ≡ cs
@@ -34,7 +34,7 @@ abbrev pub toldIn : ℕ → List Call → List Told
 toldIn n calls = toldOf (modeOf n) freshModel (stepsBy (opened n) calls)
 
 of-calls : (n : ℕ) (calls : List Call) → CallsLike (modeOf n) calls (opened n) freshModel (toldIn n calls)
-of-calls n calls = calls-like (modeOf n) calls (opened n) freshModel fresh (opened-like n)
+of-calls n calls = calls-like (modeOf n) calls (opened n) freshModel fresh (opened-matches n)
 
 pub sends-as-model : SendsAsModel
 sends-as-model n calls =
@@ -59,7 +59,8 @@ module _ (d : Lists) where
   dids-are = own-does mode (stepsA d) freshModel
 
   pub words-are : (t : ℕ) → wordsBefore d t ≡ wordsIn mode (clockOf d) toldB t
-  words-are t = words-up-to mode (d .callsB) (t - d .openB) (opened (d .mode)) freshModel fresh (opened-like (d .mode))
+  words-are t =
+      words-up-to mode (d .callsB) (t - d .openB) (opened (d .mode)) freshModel fresh (opened-matches (d .mode))
 
   module _ (p : Premises d) where
     -- B's steps, as they are told

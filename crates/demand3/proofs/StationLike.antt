@@ -26,12 +26,16 @@ use Rattle.half_duplex.proofs.Range.{takes-waiting-by}
 use Rattle.queue.specs.Queue.{waits, waiters, waitingOf, taken}
 use Rattle.queue.proofs.Laws.{waiting-offered, waiting-taken}
 use Rattle.station.specs.declared.Station.{Station}
+use Rattle.station.specs.declared.Measured.{Measured}
 use Rattle.station.specs.Station.{modeOfStation, alphabetOfStation, queueOf, station, freshStation, readerOffered}
 use Rattle.station.specs.Station.{offeredTo, front, charsAfter, stationMs, sentMs, eventOf}
-use Rattle.station.specs.Range.{inRange}
-use Rattle.station.specs.Entries.{answered, isMode, openOf, offerAnswer}
+use Rattle.station.specs.Measured.{stationOf, freshMeasured}
+use Rattle.station.specs.Range.{inRange, measuredIn}
+use Rattle.station.specs.Entries.{answered, isMode, openOf}
+use Rattle.station.specs.code.Accepted.{Accepted}
 use Rattle.station.proofs.Range.{core-in, front-waits, fresh-in, fresh-full, ms-in, ms-full}
-use Rattle.station.proofs.Range.{waiting-count, number-in, accepted, offered-in, offered-full}
+use Rattle.station.proofs.Range.{waiting-count, number-in, offered-in, offered-full}
+use Rattle.station.proofs.Kept.{open-in}
 use Rattle.demand3.specs.Model.{Model, Loaded, freshModel, offered, begun, nextCode, loadBy, inBurst, oneGone}
 use Rattle.demand3.specs.Model.{closed, silenceAfter, beginsIn, load, endsIn}
 use Rattle.demand3.specs.Calls.{opened}
@@ -75,6 +79,11 @@ pub record Like (mode : Mode) (s : Station) (m : Model) (r : Reader) : Type 0 wh
   pub silence-is : Capped (m .silence) (s .core .silence)
   pub inhibited-is : s .core .inhibited ≡ m .inhibitedMs
   pub reader-is : s .core .reader ≡ r
+
+-- and so is one with the edges that wait in it, if they are in range
+pub record Matches (mode : Mode) (x : Measured) (m : Model) (r : Reader) : Type 0 where
+  pub in-range : measuredIn x ≡ true
+  pub like : Like mode (stationOf x) m r
 
 mode-of : (mode : Mode) → modeOf (modeNumber mode) ≡ mode
 mode-of Baudot45 = refl
@@ -234,14 +243,13 @@ module _ (mode : Mode) (s : Station) (m : Model) (r : Reader) (h : Like mode s m
         subst (λ (begins : Bool). LikeBy begins (endsIn mode m)) begins-same (subst (LikeBy b) (ends-same heard i) told)
 
   -- an offer that succeeds
-  pub offer-like : (cs : List ℕ) → offerAnswer s cs ≡ 0
+  pub offer-like : (cs : List ℕ) → Accepted s cs
       → Like mode (offeredTo s cs) (offered mode cs m) (readerOffered (alphabetOf mode) cs r)
   unfolding offeredTo offered
-  offer-like cs z =
-      let t = accepted s cs z in
+  offer-like cs t =
       let w = waiting-offered (alphabetOfStation s) (queueOf s) (h .full) cs (t .space) in
       record {
-        in-range = offered-in s cs (h .full) z;
+        in-range = offered-in s cs (h .full) t;
         full = offered-full s cs (h .full);
         mode-is = h .mode-is;
         waiting-is = (λ i. h .waiting-is i ++ waiters (alphabetOf (sym mode-same i)) cs) ∙ sym w;
@@ -268,13 +276,13 @@ fresh-like mode = record {
   reader-is = refl;
 }
 
-opened-is : (n : ℕ) → opened n ≡ freshStation (modeNumber (modeOf n))
+opened-is : (n : ℕ) → opened n ≡ freshMeasured (modeNumber (modeOf n))
 unfolding openOf
 opened-is n = go (eqb n 2) (eqb n 3) (eqb n 4) refl refl refl
   where
     -- 1, or no mode's number
     first : (b : Bool) → isMode n ≡ b → eqb n 2 ≡ false → eqb n 3 ≡ false → eqb n 4 ≡ false
-        → cond b (answered (freshStation n) 0) (answered (freshStation 1) 2) .station ≡ freshStation 1
+        → cond b (answered (freshMeasured n) 0) (answered (freshMeasured 1) 2) .station ≡ freshMeasured 1
     first true e p q r =
         let l = leb-true 1 n (and-left (leb 1 n) (leb n 4) e) in
         let h = leb-true n 4 (and-right (leb 1 n) (leb n 4) e) in
@@ -282,15 +290,20 @@ opened-is n = go (eqb n 2) (eqb n 3) (eqb n 4) refl refl refl
         let y = eqb-false n 3 q in
         let z = eqb-false n 4 r in
         let o : n ≡ 1 = omega arith in
-        ap freshStation o
+        ap freshMeasured o
     first false e p q r = refl
 
     go : (a b c : Bool) → eqb n 2 ≡ a → eqb n 3 ≡ b → eqb n 4 ≡ c
-        → opened n ≡ freshStation (modeNumber (cond a Baudot50 (cond b Dtmf (cond c Edt Baudot45))))
+        → opened n ≡ freshMeasured (modeNumber (cond a Baudot50 (cond b Dtmf (cond c Edt Baudot45))))
     go true b c p q r = ap opened (eqb-true n 2 p)
     go false true c p q r = ap opened (eqb-true n 3 q)
     go false false true p q r = ap opened (eqb-true n 4 r)
     go false false false p q r = first (isMode n) refl p q r
 
-pub opened-like : (n : ℕ) → Like (modeOf n) (opened n) freshModel fresh
-opened-like n = subst (λ (s : Station). Like (modeOf n) s freshModel fresh) (sym (opened-is n)) (fresh-like (modeOf n))
+pub opened-matches : (n : ℕ) → Matches (modeOf n) (opened n) freshModel fresh
+opened-matches n = record {
+  in-range = open-in n;
+  like =
+      subst (λ (x : Measured). Like (modeOf n) (stationOf x) freshModel fresh) (sym (opened-is n))
+      (fresh-like (modeOf n));
+}

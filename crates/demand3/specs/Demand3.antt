@@ -13,11 +13,13 @@ use Rattle.alphabet.specs.declared.Alphabet.the-variants.{Baudot}
 use Rattle.alphabet.specs.declared.Mode.{Mode}
 use Rattle.alphabet.specs.Modes.{modeOf, alphabetOf}
 use Rattle.alphabet.specs.Normal.{normalForm, allChars}
+use Rattle.edges.specs.declared.Report.{Report}
 use Rattle.reader.specs.Words.{characterWord}
 use Rattle.demand3.specs.Model.{ShiftCode, Step, Did, freshModel, modelAfter, does, heardIn, msIn, OffersNone}
 use Rattle.demand3.specs.Model.{sentIn, takenIn}
 use Rattle.demand3.specs.Reading.{synchronizingCode, synchronizedAfter, mostBefore, NoBurst, EndsIdle}
-use Rattle.demand3.specs.Calls.{Call, RunCall, opened, succeeds, leftBy, sentBy, wordsBy, stepsBy, upTo}
+use Rattle.demand3.specs.Calls.{Call, RunCall, opened, reportLeft, succeeds, leftBy, sentBy, wordsBy, stepsBy}
+use Rattle.demand3.specs.Calls.{upTo}
 
 -- D3: "every list of offers and runs on station A and every such list on station B, refused calls among them",
 -- "whatever A hears": any calls. 01: "One clock numbers the ms of both."
@@ -148,20 +150,24 @@ SendsAsModel = (mode : ℕ) (calls : List Call)
     → sentBy (opened mode) calls ≡ sentIn (does (modeOf mode) freshModel (stepsBy (opened mode) calls))
 
 -- 01: a list's words are "the same if such a run is cut in two"; and so are its sent ms and the steps of its model. In
--- place of a run that succeeds after some calls: the run on its first ms, and the run on the others, each with any
--- slices that are long enough.
+-- place of a run that succeeds after some calls: the run on its first ms, with its report, and the run on the others,
+-- with the report that the first gives back; each with any slices that are long enough.
 pub record Same (cs ds : List Call) (mode : ℕ) : Type 0 where
   pub same-words : wordsBy (opened mode) cs ≡ wordsBy (opened mode) ds
   pub same-sent : sentBy (opened mode) cs ≡ sentBy (opened mode) ds
   pub same-steps : stepsBy (opened mode) cs ≡ stepsBy (opened mode) ds
 
 abbrev pub CutInTwo : Type 0
-CutInTwo = (mode : ℕ) (past next : List Call) (xs ys sent words sent1 words1 sent2 words2 : List ℕ)
-    → succeeds (leftBy (opened mode) past) (RunCall (xs ++ ys) sent words) ≡ true
+CutInTwo =
+    (mode : ℕ) (past next : List Call) (r : Report) (xs ys sent words sent1 words1 sent2 words2 : List ℕ)
+    → let s = leftBy (opened mode) past in
+    let whole = RunCall r (xs ++ ys) sent words in
+    let first = RunCall r xs sent1 words1 in
+    let second = RunCall (reportLeft s first) ys sent2 words2 in
+    succeeds s whole ≡ true
     → length xs ≤ length sent1 → length xs ≤ length words1
     → length ys ≤ length sent2 → length ys ≤ length words2
-    → Same (past ++ (RunCall (xs ++ ys) sent words ∷ next))
-    (past ++ (RunCall xs sent1 words1 ∷ RunCall ys sent2 words2 ∷ next)) mode
+    → Same (past ++ (whole ∷ next)) (past ++ (first ∷ second ∷ next)) mode
 
 -- D3: "taking the normal form twice equals taking it once", in every mode.
 abbrev pub NormalTwice : Type 0

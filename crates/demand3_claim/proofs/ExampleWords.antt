@@ -26,11 +26,14 @@ use Rattle.reader.specs.Words.{wordsOf}
 use Rattle.line_theorems.specs.Examples.{chars}
 use Rattle.burst.specs.Rules.{mayBegin, mayEnd}
 use Rattle.burst.specs.Line.{partMs, isOver, begun, codeBegins, nextCode, levelOn, oneGone, closed}
+use Rattle.edges.specs.Edges.{joined as joinedEdges, isEdge, withMs, edgesMs, countedMs}
+use Rattle.edges.specs.Range.{reportIn, edgesIn}
 use Rattle.half_duplex.specs.Core.{silenceAfter, settled, coreFrom}
 use Rattle.half_duplex.specs.Range.{coreIn}
 use Rattle.queue.specs.Queue.{waiters, allWait, room, offered, inRange as queueIn}
 use Rattle.station.specs.Station.{freshStation, hasDel, offeredTo, stationMs, eventOf}
-use Rattle.station.specs.Range.{inRange}
+use Rattle.station.specs.Measured.{waitingMs, countedIn, measuredMs}
+use Rattle.station.specs.Range.{inRange, measuredIn}
 use Rattle.station.specs.Entries.{openOf, offerAnswer, offerOf, runAnswer, ranOf, wordsAfter}
 use Rattle.demand3.specs.Model.{heardIn}
 use Rattle.demand3.specs.Calls.{upTo}
@@ -47,6 +50,7 @@ unfolding baudot45 callsB45 line45
     chars allAtMost stateAfter outputs joined sends reads signal signals
     waiters allWait room offered queueIn mayBegin mayEnd partMs isOver begun codeBegins nextCode levelOn oneGone closed
     silenceAfter settled coreFrom coreIn freshStation hasDel offeredTo stationMs eventOf inRange
+    waitingMs countedIn measuredMs measuredIn reportIn edgesIn joinedEdges edgesMs countedMs isEdge withMs
     openOf offerAnswer offerOf runAnswer ranOf wordsAfter heardIn upTo
     placed sampleAt samplesOf sampled frameStep lastMs keyStep hear inhibited wordsOf
     wanted sendBaudot readBaudot printedAt leftRows rightRows rows bits bitsFrom a1 a2 digits held baudotSignal
@@ -58,6 +62,7 @@ unfolding dtmf callsBKeys
     chars allAtMost stateAfter outputs joined sends reads signal signals
     waiters allWait room offered queueIn mayBegin mayEnd partMs isOver begun codeBegins nextCode levelOn oneGone closed
     silenceAfter settled coreFrom coreIn freshStation hasDel offeredTo stationMs eventOf inRange
+    waitingMs countedIn measuredMs measuredIn reportIn edgesIn joinedEdges edgesMs countedMs
     openOf offerAnswer offerOf runAnswer ranOf wordsAfter heardIn upTo
     placed sampleAt samplesOf sampled frameStep lastMs keyStep hear inhibited wordsOf
     keys prefixes keysOf heldKeys withMark codeFrom marksThenDigit among notStruck remaining names firstSign named
@@ -69,6 +74,7 @@ unfolding edt callsBEdt
     chars allAtMost stateAfter outputs joined sends reads signal signals
     waiters allWait room offered queueIn mayBegin mayEnd partMs isOver begun codeBegins nextCode levelOn oneGone closed
     silenceAfter settled coreFrom coreIn freshStation hasDel offeredTo stationMs eventOf inRange
+    waitingMs countedIn measuredMs measuredIn reportIn edgesIn joinedEdges edgesMs countedMs
     openOf offerAnswer offerOf runAnswer ranOf wordsAfter heardIn upTo
     placed sampleAt samplesOf sampled frameStep lastMs keyStep hear inhibited wordsOf
     edtSignal edtElements digits sum tabulate edtKinds

@@ -44,8 +44,8 @@ use Rattle.demand3_claim.specs.Examples.{callsAKeys, callsBKeys, dtmf, c
 use Rattle.demand3.proofs.Told.{inhibitedBy, msBy, toldEvents}
 use Rattle.demand3.proofs.Cuts.{behind, does-length}
 use Rattle.demand3.proofs.OwnRules.{toldOf, own-does, own-heard}
-use Rattle.demand3.specs.Accepts.{accepts}
-use Rattle.demand3.proofs.Accepts.{modelSteps, steps-are}
+use Rattle.demand3.specs.Accepts.{accepts, isPlain}
+use Rattle.demand3.proofs.Accepts.{modelSteps, allPlain, steps-are}
 use Rattle.demand3.proofs.Demand3.{sends-as-model, words-are}
 use Rattle.demand3_claim.proofs.ExampleWords.{HandsOut, words-45, words-dtmf, words-edt}
 
@@ -195,8 +195,18 @@ modelB d = modelSteps (theMode d) freshModel (d .callsB)
 abbrev pub didsOf : Lists → List Did
 didsOf d = does (theMode d) freshModel (modelA d)
 
+-- no run has a report, so that the models tell which calls succeed
+abbrev pub plain : Lists → Bool
+plain d = allPlain (d .callsA) && allPlain (d .callsB)
+
+pub steps-of : (d : Lists) → plain d ≡ true → (stepsA d ≡ modelA d) × (stepsB d ≡ modelB d)
+steps-of d p =
+    let a = allPlain (d .callsA) in
+    let b = allPlain (d .callsB) in
+    (steps-are (d .mode) (d .callsA) (and-left a b p), steps-are (d .mode) (d .callsB) (and-right a b p))
+
 abbrev Passes : Example → ℕ → Type 0
-Passes e k = allTrue (tests e k (didsOf (e .lists)) (modelB (e .lists))) ≡ true
+Passes e k = (plain (e .lists) ≡ true) × (allTrue (tests e k (didsOf (e .lists)) (modelB (e .lists))) ≡ true)
 
 module _ (e : Example) (k : ℕ) (c : Passes e k) where
   abbrev d : Lists
@@ -204,10 +214,9 @@ module _ (e : Example) (k : ℕ) (c : Passes e k) where
 
   fact : (n : ℕ) → getD (tests e k (didsA d) (stepsB d)) n true ≡ true
   fact n =
-      let a = steps-are (d .mode) (d .callsA) in
-      let b = steps-are (d .mode) (d .callsB) in
+      let are = steps-of d (c .0) in
       nth n (tests e k (didsA d) (stepsB d))
-      ((λ i. allTrue (tests e k (does (theMode d) freshModel (a i)) (b i))) ∙ c)
+      ((λ i. allTrue (tests e k (does (theMode d) freshModel (are .0 i)) (are .1 i))) ∙ c .1)
 
   dids-length : length (didsA d) ≡ msIn (stepsA d)
   dids-length =
@@ -258,52 +267,53 @@ module _ (e : Example) (k : ℕ) (c : Passes e k) where
 -- ---- the instances
 
 passes-45 : Passes baudot45 315
-unfolding allTrue tests premiseTests noBurst endsIdle same offersNone frontMs backMs accepts modelSteps
+unfolding allTrue tests premiseTests noBurst endsIdle same offersNone frontMs backMs isPlain allPlain accepts modelSteps
     baudot45 callsA45 line45 callsB45
     chars waiters heardIn offered mayBegin mayEnd begun codeBegins nextCode load levelOn oneGone ended closed did
     msAfter modelAfter does takenIn allAtMost sends signal signals synchronizes untilSynchronized
     wanted sendBaudot printedAt leftRows rightRows rows bits bitsFrom a2 digits held baudotSignal
-passes-45 = refl
+passes-45 = (refl, refl)
 
 passes-50 : Passes baudot50 300
-unfolding allTrue tests premiseTests noBurst endsIdle same offersNone frontMs backMs accepts modelSteps
+unfolding allTrue tests premiseTests noBurst endsIdle same offersNone frontMs backMs isPlain allPlain accepts modelSteps
     baudot50 callsA50 line50 laterLine50 lastLine50 callsB50
     chars waiters heardIn offered mayBegin mayEnd begun codeBegins nextCode load levelOn oneGone ended closed did
     msAfter modelAfter does takenIn allAtMost sends signal signals synchronizes untilSynchronized
     wanted sendBaudot printedAt leftRows rightRows rows bits bitsFrom a2 digits held baudotSignal
-passes-50 = refl
+passes-50 = (refl, refl)
 
 passes-dtmf : Passes dtmf 120
-unfolding allTrue tests premiseTests noBurst endsIdle same offersNone frontMs backMs accepts modelSteps
+unfolding allTrue tests premiseTests noBurst endsIdle same offersNone frontMs backMs isPlain allPlain accepts modelSteps
     dtmf callsAKeys callsBKeys
     chars waiters heardIn offered mayBegin mayEnd begun codeBegins nextCode load levelOn oneGone ended closed did
     msAfter modelAfter does takenIn allAtMost sends signal signals synchronizes untilSynchronized
     keys prefixes keysOf heldKeys withMark codeFrom marksThenDigit among notStruck remaining names firstSign named
     sendIn hasRow sendFrom sendDtmf leftRows rightRows rows b1 b2 printedAt
-passes-dtmf = refl
+passes-dtmf = (refl, refl)
 
 passes-edt : Passes edt 0
-unfolding allTrue tests premiseTests noBurst endsIdle same offersNone frontMs backMs accepts modelSteps
+unfolding allTrue tests premiseTests noBurst endsIdle same offersNone frontMs backMs isPlain allPlain accepts modelSteps
     edt callsAEdt callsBEdt
     chars waiters heardIn offered mayBegin mayEnd begun codeBegins nextCode load levelOn oneGone ended closed did
     msAfter modelAfter does takenIn allAtMost sends signal signals synchronizes untilSynchronized
     edtSignal edtElements digits sum tabulate
-passes-edt = refl
+passes-edt = (refl, refl)
 
 -- ---- B's inhibition in the third
 
-inhibited-model : modelAfter Dtmf freshModel (modelSteps Dtmf freshModel (take 5 callsBKeys)) .inhibitedMs ≡ 20
-unfolding accepts modelSteps callsBKeys
+inhibited-model : (allPlain (take 5 callsBKeys) ≡ true)
+    × (modelAfter Dtmf freshModel (modelSteps Dtmf freshModel (take 5 callsBKeys)) .inhibitedMs ≡ 20)
+unfolding isPlain allPlain accepts modelSteps callsBKeys
     chars waiters offered mayBegin mayEnd begun codeBegins nextCode load levelOn oneGone ended closed did
     msAfter modelAfter allAtMost sends signal
     keys prefixes keysOf heldKeys withMark codeFrom marksThenDigit among notStruck remaining names firstSign named
     sendIn hasRow sendFrom sendDtmf leftRows rightRows rows b1 b2 printedAt
-inhibited-model = refl
+inhibited-model = (refl, refl)
 
 dtmf-inhibited : Inhibited
 dtmf-inhibited =
-    ap (λ (l : List Step). modelAfter Dtmf freshModel l .inhibitedMs) (steps-are 3 (take 5 callsBKeys))
-    ∙ inhibited-model
+    ap (λ (l : List Step). modelAfter Dtmf freshModel l .inhibitedMs)
+    (steps-are 3 (take 5 callsBKeys) (inhibited-model .0)) ∙ inhibited-model .1
 
 -- ---- the words of the longest instance: what B's reader makes of each ms beside B's model is computed
 
@@ -328,7 +338,8 @@ unfolding reads50 baudot50
 words-50 =
     let d = baudot50 .lists in
     let es = eventsIn50 (stepsB d) in
-    let c : reads50 es ≡ true = ap (λ (l : List Step). reads50 (eventsIn50 l)) (steps-are 2 callsB50) ∙ reads-50 in
+    let are = steps-of d (passes-50 .0) in
+    let c : reads50 es ≡ true = ap (λ (l : List Step). reads50 (eventsIn50 l)) (are .1) ∙ reads-50 in
     let earlier = same (wordsOf (take 850 es)) (baudot50 .earlier) in
     let all = same (wordsOf (take 11_951 es)) (baudot50 .earlier ++ baudot50 .words) in
     record {

@@ -35,16 +35,16 @@ use Rattle.demand3.specs.Model.{levelOn, oneGone, ended, closed, did, msAfter, 
 use Rattle.demand3.specs.Model.{heardIn}
 use Rattle.demand3.specs.Reading.{synchronizes, untilSynchronized, synchronizedAfter}
 use Rattle.demand3.specs.Calls.{OfferCall}
-use Rattle.demand3.specs.Accepts.{accepts}
+use Rattle.demand3.specs.Accepts.{accepts, isPlain}
 use Rattle.demand3.specs.Demand3.{Lists, theMode, theAlphabet, stepsB, didsA, between, followsA}
 use Rattle.demand3.specs.Demand3.{synchronized, Conclusion}
 use Rattle.demand3_claim.specs.Examples.{ms, run, key}
 use Rattle.demand3.proofs.Told.{inhibitedBy, msBy, toldEvents}
 use Rattle.demand3.proofs.OwnRules.{toldOf}
-use Rattle.demand3.proofs.Accepts.{modelSteps, steps-are}
+use Rattle.demand3.proofs.Accepts.{modelSteps, allPlain}
 use Rattle.demand3.proofs.Demand3.{same-words, words-are}
 use Rattle.demand3_claim.proofs.Examples.{noBurst, endsIdle, ends-by, same, offersNone, frontMs, backMs, pastOf}
-use Rattle.demand3_claim.proofs.Examples.{sinceOf, follows, premiseTests, modelB, didsOf}
+use Rattle.demand3_claim.proofs.Examples.{sinceOf, follows, premiseTests, modelB, didsOf, plain, steps-of}
 
 -- ---- what is computed of two lists: A does ds, and B has these steps
 
@@ -74,7 +74,7 @@ abbrev expected : ℕ → List Bool
 expected n = false ∷ true ∷ true ∷ set (replicate 11 true) n false
 
 abbrev Computes : Lists → ℕ → Weaker → Type 0
-Computes d n weaker = outcome d weaker (didsOf d) (modelB d) ≡ expected n
+Computes d n weaker = (plain d ≡ true) × (outcome d weaker (didsOf d) (modelB d) ≡ expected n)
 
 -- what these lists of calls show: all premises but the n-th, the weaker one, and not the conclusion
 pub record Fails (d : Lists) (n : ℕ) (weaker : Weaker) : Type 0 where
@@ -90,9 +90,8 @@ same-self (x ∷ xs) = rw (eq-eqb x x refl) (same-self xs)
 module _ (d : Lists) (n : ℕ) (weaker : Weaker) (c : Computes d n weaker) where
   are : outcome d weaker (didsA d) (stepsB d) ≡ expected n
   are =
-      let a = steps-are (d .mode) (d .callsA) in
-      let b = steps-are (d .mode) (d .callsB) in
-      (λ i. outcome d weaker (does (theMode d) freshModel (a i)) (b i)) ∙ c
+      let s = steps-of d (c .0) in
+      (λ i. outcome d weaker (does (theMode d) freshModel (s .0 i)) (s .1 i)) ∙ c .1
 
   refuted : Conclusion d → ⊥
   unfolding outcome asConcluded
@@ -175,13 +174,13 @@ opened d ds steps = leb (d .openB) (d .asked)
 dtmf-computed : Computes (missed 299) 0 idle299 × Computes (missed 300) 10 hears39 × Computes ownBurst 8 idle40
     × Computes openedLate 4 opened
 unfolding outcome asConcluded missed ownBurst openedLate idle299 hears39 idle40 opened
-    premiseTests noBurst endsIdle same offersNone frontMs backMs accepts modelSteps
+    premiseTests noBurst endsIdle same offersNone frontMs backMs isPlain allPlain accepts modelSteps
     chars waiters heardIn offered mayBegin mayEnd begun codeBegins nextCode load levelOn oneGone ended closed did
     msAfter modelAfter does takenIn allAtMost sends reads signal signals normalForm synchronizes untilSynchronized
     keys prefixes keysOf heldKeys withMark codeFrom marksThenDigit among notStruck remaining names firstSign named
     readIn readDtmf sendIn hasRow sendFrom sendDtmf leftRows rightRows rows b1 b2 printedAt
     toldOf toldEvents msBy inhibitedBy hear inhibited wordsOf keyStep keyEvent prefixAfter
-dtmf-computed = (refl, refl, refl, refl)
+dtmf-computed = ((refl, refl), (refl, refl), (refl, refl), (refl, refl))
 
 -- ---- in Baudot
 
@@ -223,13 +222,13 @@ later40 d ds steps = leb (d .start + 260) (d .asked)
 
 baudot-computed : Computes delOffered 9 noneWaits × Computes inFrame 1 later40
 unfolding outcome asConcluded delOffered inFrame noneWaits later40
-    premiseTests noBurst endsIdle same offersNone frontMs backMs accepts modelSteps
+    premiseTests noBurst endsIdle same offersNone frontMs backMs isPlain allPlain accepts modelSteps
     chars waiters hasDel heardIn offered mayBegin mayEnd begun codeBegins nextCode load levelOn oneGone ended closed did
     msAfter modelAfter does takenIn allAtMost sends reads signal signals normalForm synchronizes untilSynchronized
     wanted sendBaudot readBaudot printedAt leftRows rightRows rows bits bitsFrom a1 a2 digits held baudotSignal
     toldOf toldEvents msBy inhibitedBy hear inhibited wordsOf lastMs placed sampleAt samplesOf sampled frameStep
     baudotKinds
-baudot-computed = (refl, refl)
+baudot-computed = ((refl, refl), (refl, refl))
 
 -- ---- so each of these premises is needed
 

@@ -11,7 +11,7 @@ use Rattle.reader.specs.Words.{faultWord}
 use Rattle.line_theorems.specs.Examples.{chars}
 use Rattle.demand3.specs.Model.{freshModel, modelAfter, takenIn}
 use Rattle.demand3.specs.Reading.{EndsIdle}
-use Rattle.demand3.specs.Calls.{Call, OfferCall, RunCall, opened, stepsBy}
+use Rattle.demand3.specs.Calls.{Call, OfferCall, plainRun, opened, stepsBy}
 use Rattle.demand3.specs.Demand3.{Lists, Premises, followsA, synchronized, wordsBefore}
 
 -- The lists; the characters that A takes after the idle period up to the synchronizing code's last ms; the words that
@@ -29,12 +29,12 @@ pub record Holds (e : Example) : Type 0 where
   pub earlier-is : wordsBefore (e .lists) (e .lists .start + 300 + synchronized (e .lists)) ≡ e .earlier
   pub words-are : wordsBefore (e .lists) (e .lists .asked + 1) ≡ e .earlier ++ e .words
 
--- n ms, heard as x; a run on some ms, with slices that are just long enough
+-- n ms, heard as x; a run on some ms, without a report and with slices that are just long enough
 abbrev pub ms : ℕ → ℕ → List ℕ
 ms n x = replicate n x
 
 abbrev pub run : List ℕ → Call
-run heard = RunCall heard (ms (length heard) 0) (ms (length heard) 0)
+run heard = plainRun heard (ms (length heard) 0) (ms (length heard) 0)
 
 -- Baudot 45.45. A's burst of e ends with ms 1479. A byte above 127, a level that is none and a sent slice that is too
 -- short are refused. B is opened in the idle period and hears 11011, then space: it is in figures, and in a frame when
@@ -49,7 +49,7 @@ callsA45 =
     run (ms 280 0) ∷
     OfferCall (chars "too1a") ∷
     run (ms 600 2) ∷
-    RunCall (ms 600 0) (ms 599 0) (ms 600 0) ∷
+    plainRun (ms 600 0) (ms 599 0) (ms 600 0) ∷
     run (ms 600 1) ∷
     run (ms 271 2) ∷
     []
@@ -67,7 +67,7 @@ callsB45 =
     run (signals Baudot45 (0b11011 ∷ []) ++ ms 75 2) ∷
     OfferCall [] ∷
     run (take 500 line45) ∷
-    RunCall (ms 50 0) (ms 50 0) [] ∷
+    plainRun (ms 50 0) (ms 50 0) [] ∷
     run (drop 500 line45) ∷
     []
 
@@ -197,7 +197,7 @@ unfoldable pub callsBEdt : List Call
 callsBEdt =
     run (ms 100 1 ++ take 60 (signals Edt (chars "e")) ++ ms 300 2) ∷
     run (ms 40 0 ++ preamble Edt) ∷
-    RunCall (ms 10 0) [] [] ∷
+    plainRun (ms 10 0) [] [] ∷
     run (signals Edt (chars "Ab1") ++ 0 ∷ []) ∷
     []
 
