@@ -74,16 +74,7 @@ pub extern "C" fn cq_station_run(
     let c = station.core;
     let w = station.edges;
     let none = edges::no_edge();
-    let ran = station_entry::run(
-        c,
-        w,
-        &mut station.chars,
-        none,
-        false,
-        heard,
-        sent,
-        words,
-    );
+    let ran = station_entry::run(c, w, &mut station.chars, none, false, heard, sent, words);
     station.core = ran.core;
     station.edges = ran.edges;
     StationRan {
@@ -119,16 +110,7 @@ pub extern "C" fn cq_station_run_drift(
     let c = station.core;
     let w = station.edges;
     let r = *report;
-    let ran = station_entry::run(
-        c,
-        w,
-        &mut station.chars,
-        r,
-        true,
-        heard,
-        sent,
-        words,
-    );
+    let ran = station_entry::run(c, w, &mut station.chars, r, true, heard, sent, words);
     station.core = ran.core;
     station.edges = ran.edges;
     *report = ran.report;

@@ -120,10 +120,9 @@ module _ (mode : Mode) where
   ms-fine f w x h =
       by-test (isMeasured mode)
       (λ m.
-        let l = with-fine (elementOf mode) (f .place - 1) (element-some mode m) (element-few mode) w x h in
-        (
-          rw (counted-measured mode f w x m) (either Fine (found mode f w x) (with mode f w x .seen) noEdge l (none-of 0)),
-          rw (edges-measured mode f w x m)
-              (either (λ (v : Edges). Fine (v .seen)) (leb 2 (place mode f w x)) (with mode f w x) noEdges l (none-of 0)),
-        ))
+      let l = with-fine (elementOf mode) (f .place - 1) (element-some mode m) (element-few mode) w x h in (
+        rw (counted-measured mode f w x m) (either Fine (found mode f w x) (with mode f w x .seen) noEdge l (none-of 0)),
+        rw (edges-measured mode f w x m)
+            (either (λ (v : Edges). Fine (v .seen)) (leb 2 (place mode f w x)) (with mode f w x) noEdges l (none-of 0)),
+      ))
       (λ m. let n = none-counted mode f w x m in (rw (n .0) (none-of 0), rw (n .1) (none-of 0)))

@@ -4,6 +4,7 @@
 // be offered, each that many behind 0; n and a count offer the last one so many times more; o and any byte is the
 // offer; r and a sign is the run, with the slices that the sign says. A count is the byte less 32. The expected output
 // is what the reference prints.
+use edges::Edges;
 use half_duplex::Core;
 use libc::STDIN_FILENO;
 use station::Answered;
@@ -24,10 +25,11 @@ const PATTERN: u8 = 99;
 
 const WORD_PATTERN: u32 = 99_999_999;
 
-// A core; how many ms are to be heard and characters to be offered; 16 times the high digit of the next character; the
+// A core and its edges; how many ms are to be heard and characters to be offered; 16 times the high digit of the next character; the
 // last character; the first byte of a pair whose second is still to come, or LF.
 struct Play {
     core: Core,
+    edges: Edges,
     heard: usize,
     text: usize,
     high: u8,
@@ -85,6 +87,7 @@ fn fresh_words() -> [u32; 4100]
 fn opened(core: Core) -> Play {
     Play {
         core,
+        edges: edges::none(),
         heard: 0,
         text: 0,
         high: 0,
@@ -141,17 +144,18 @@ fn high_digit(b: u8) -> u8 {
 }
 
 // An offer of the first characters of a slice; of all, if there are fewer.
-fn offer_first(c: Core, chars: &mut [u8; 256], text: &[u8], n: usize) -> Answered {
+fn offer_first(c: Core, w: Edges, chars: &mut [u8; 256], text: &[u8], n: usize) -> Answered {
     if text.len() < n {
-        return station::offer(c, chars, text);
+        return station::offer(c, w, chars, text);
     }
-    station::offer(c, chars, &text[..n])
+    station::offer(c, w, chars, &text[..n])
 }
 
 fn offer(x: Play, chars: &mut [u8; 256], text: &[u8]) -> Play {
     let n = x.text;
     let c = x.core;
-    let r = offer_first(c, chars, text, n);
+    let w = x.edges;
+    let r = offer_first(c, w, chars, text, n);
     let core = r.core;
     print_call(b"offer", n as u64, r.answer as u64, core.waiting as u64);
     Play {
@@ -167,26 +171,31 @@ fn offer(x: Play, chars: &mut [u8; 256], text: &[u8]) -> Play {
 // A run of the first ms of a slice; of all, if there are fewer.
 fn run_first(
     c: Core,
+    w: Edges,
     chars: &mut [u8; 256],
     heard: &[u8],
     n: usize,
     sent: &mut [u8],
     words: &mut [u32],
 ) -> Ran {
+    let none = edges::no_edge();
     if heard.len() < n {
-        return station_entry::run(c, chars, heard, sent, words);
+        return station_entry::run(c, w, chars, none, false, heard, sent, words);
     }
-    station_entry::run(c, chars, &heard[..n], sent, words)
+    station_entry::run(c, w, chars, none, false, &heard[..n], sent, words)
 }
 
 fn run(x: Play, chars: &mut [u8; 256], heard: &[u8], sent: &mut [u8], words: &mut [u32]) -> Play {
     let n = x.heard;
     let c = x.core;
-    let r = run_first(c, chars, heard, n, sent, words);
+    let w = x.edges;
+    let r = run_first(c, w, chars, heard, n, sent, words);
     let core = r.core;
+    let edges = r.edges;
     print_call(b"run", n as u64, r.answer as u64, r.words as u64);
     Play {
         core,
+        edges,
         heard: 0,
         first: LF,
         ..x

@@ -45,9 +45,10 @@ latest-requires c κs =
     let s = start-of (k .before) in
     let mode = modeIn (s .args .c) in
     let e = element-is (k .before) in
-    let m = is-measured mode (λ z. k .if1 .left (e ∙ z)) in
-    (subst (λ (n : ℕ). 1 ≤ n) (sym e) (element-some mode m),
-    (subst (λ (n : ℕ). n ≤ 22) (sym e) (element-few mode), (s .pre .0, s .pre .1)))
+    let m = is-measured mode (λ z. k .if1 .left (e ∙ z)) in (
+      subst (λ (n : ℕ). 1 ≤ n) (sym e) (element-some mode m),
+      (subst (λ (n : ℕ). n ≤ 22) (sym e) (element-few mode), (s .pre .0, s .pre .1)),
+    )
 
 returns-2 : tie.Need-returns-2
 returns-2 c = λ chars i l a.
