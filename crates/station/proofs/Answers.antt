@@ -1,6 +1,6 @@
 -- The first no decides; a refusal gives back the station and the report as given and leaves the slices.
-use mathlib.Core.Path.{_≡_}
-use mathlib.Core.Bool.{true, false}
+use mathlib.Core.Path.{_≡_, refl}
+use mathlib.Core.Bool.{true, false, and-false}
 use mathlib.Core.List.{List}
 use Prim.Native.Nat.{ℕ, _<_, _≤_}
 use lib.ListN.{length}
@@ -60,11 +60,11 @@ module _ (x : Measured) (r : Report) (heard : List ℕ) (sentRoom wordRoom : ℕ
   unfolding runAnswer
   run-1 e = simp e
 
-  module _ (a : measuredIn x ≡ true) where
-    pub run-1-report : reportIn r ≡ false → answer ≡ 1
-    unfolding runAnswer
-    run-1-report e = simp (a, e)
+  pub run-1-report : reportIn r ≡ false → answer ≡ 1
+  unfolding runAnswer
+  run-1-report e = rw (e, and-false) refl
 
+  module _ (a : measuredIn x ≡ true) where
     module _ (q : reportIn r ≡ true) where
       pub run-5 : 4_096 < length heard → answer ≡ 5
       unfolding runAnswer

@@ -4,38 +4,36 @@ use edges::Edges;
 use edges::Report;
 use half_duplex::Core;
 ghost use mathlib.Core.Path.{_≡_};
-ghost use mathlib.Core.Bool.{true, false, cond};
+ghost use mathlib.Core.Bool.{true};
 ghost use mathlib.Core.List.{List};
 ghost use Prim.Native.Nat.{ℕ, _≤_};
 ghost use lib.ListN.{length};
 ghost use Rattle.lists.specs.Lists.{allAtMost};
 ghost use Rattle.alphabet.specs.Modes.{highestLevel};
 ghost use Rattle.edges.specs.Edges.{noEdge};
-ghost use Rattle.edges.specs.Range.{reportIn};
 ghost use Rattle.edges.specs.code.Bounds.{ReportOf};
 ghost use Rattle.half_duplex.specs.Core.{modeIn};
 ghost use Rattle.station.specs.Station.{station, stationAfter};
-ghost use Rattle.station.specs.Measured.{measured, measuredAfter, reportAfter};
+ghost use Rattle.station.specs.Measured.{measured, measuredAfter};
 ghost use Rattle.station.specs.Range.{measuredIn};
 ghost use Rattle.station.specs.Entries.{ranOf, sentAfter, wordsAfter};
+ghost use Rattle.station_entry.specs.code.Asking.{Yes, No};
 
-// A core, its edges and a report after a run, 0 or the number of the refusal, and how many words were written.
+// A core and its edges after a run, 0 or the number of the refusal, and how many words were written.
 pub struct Ran {
     pub core: Core,
     pub edges: Edges,
-    pub report: Report,
     pub answer: u8,
     pub words: usize,
 }
 
 // A run that is refused.
-fn refused(c: Core, w: Edges, r: Report, answer: u8) -> Ran
-    ensures { λ x. ⌜ x ≡ record { core = c; edges = w; report = r; answer = answer; words = 0 } ⌝ }
+fn refused(c: Core, w: Edges, answer: u8) -> Ran
+    ensures { λ x. ⌜ x ≡ record { core = c; edges = w; answer = answer; words = 0 } ⌝ }
 {
     Ran {
         core: c,
         edges: w,
-        report: r,
         answer,
         words: 0,
     }
@@ -60,19 +58,49 @@ fn in_range(c: Core, w: Edges, chars: &[u8; 256]) -> bool
     station::in_range(same, w, chars)
 }
 
-// A report with the edges that count in a run, where one is wanted.
-fn counted(wanted: bool, c: Core, w: Edges, chars: &[u8; 256], r: Report, heard: &[u8]) -> Report
-    requires { ⌜ measuredIn (measured (station c (now chars)) w) ≡ true ⌝ }
-    requires { ⌜ reportIn r ≡ true ⌝ }
-    requires { ⌜ length (now heard) ≤ 4_096 ⌝ }
-    requires { ⌜ allAtMost (highestLevel (modeIn c)) (now heard) ≡ true ⌝ }
-    ensures { λ q. ⌜ q ≡ cond wanted (reportAfter (measured (station c (now (chars .entry))) w) r
-        (now (heard .entry))) r ⌝ }
+// The answer to the questions of a run but the last, 0 or the number of the refusal, and the highest level heard.
+pub struct Asked {
+    pub answer: u8,
+    pub highest: u8,
+}
+
+// These questions, with slices of such lengths.
+fn ask(
+    c: Core,
+    w: Edges,
+    chars: &[u8; 256],
+    heard: &[u8],
+    sent: usize,
+    words: usize,
+) -> Asked
+    ensures { λ a. ⌜ (a .answer ≡ 0 → Yes (measured (station c (now (chars .entry))) w) (now (heard .entry)) sent
+        words (a .highest)) ⌝ }
+    ensures { λ a. ⌜ ((a .answer ≡ 0 → ⊥) → No (measured (station c (now (chars .entry))) w) (now (heard .entry))
+        sent words (a .answer)) ⌝ }
 {
-    if !wanted {
-        return r;
+    if !in_range(c, w, chars) {
+        return Asked {
+            answer: 1,
+            highest: 0,
+        };
     }
-    drift::report_after(c, w, chars, r, heard)
+    if lists::checks::MOST_MS < heard.len() {
+        return Asked {
+            answer: 5,
+            highest: 0,
+        };
+    }
+    let highest = lists::checks::largest(heard);
+    if Mode::of(c.mode).highest_level() < highest {
+        return Asked { answer: 6, highest };
+    }
+    if sent < heard.len() {
+        return Asked { answer: 7, highest };
+    }
+    if words < heard.len() {
+        return Asked { answer: 8, highest };
+    }
+    Asked { answer: 0, highest }
 }
 
 // The edges that wait after a run, told by the place of the frame before it and after it.
@@ -95,63 +123,82 @@ fn edges_after(c: Core, w: Edges, heard: &[u8], after: Core) -> Edges
     edges_runs::latest(e, from.place, w, heard, to.place)
 }
 
-// A run: the sent ms and the words of the ms that are heard, and a report where one is wanted.
+// A run without a report: the sent ms and the words of the ms that are heard.
 pub fn run(
     c: Core,
     w: Edges,
     chars: &mut [u8; 256],
-    r: Report,
-    wanted: bool,
     heard: &[u8],
     sent: &mut [u8],
     words: &mut [u32],
 ) -> Ran
-    requires { ⌜ (wanted ≡ false → r ≡ noEdge) ⌝ }
     ensures { λ x. ⌜ measured (station (x .core) (now (chars .exit))) (x .edges) ≡ ranOf (measured
-        (station c (now (chars .entry))) w) r (now (heard .entry)) (length (now (sent .entry)))
+        (station c (now (chars .entry))) w) noEdge (now (heard .entry)) (length (now (sent .entry)))
         (length (now (words .entry))) .station ⌝ }
-    ensures { λ x. ⌜ (wanted ≡ true → x .report ≡ ranOf (measured (station c (now (chars .entry))) w) r
-        (now (heard .entry)) (length (now (sent .entry))) (length (now (words .entry))) .report) ⌝ }
-    ensures { λ x. ⌜ x .answer ≡ ranOf (measured (station c (now (chars .entry))) w) r (now (heard .entry))
+    ensures { λ x. ⌜ x .answer ≡ ranOf (measured (station c (now (chars .entry))) w) noEdge (now (heard .entry))
         (length (now (sent .entry))) (length (now (words .entry))) .answer ⌝ }
-    ensures { λ x. ⌜ x .words ≡ ranOf (measured (station c (now (chars .entry))) w) r (now (heard .entry))
+    ensures { λ x. ⌜ x .words ≡ ranOf (measured (station c (now (chars .entry))) w) noEdge (now (heard .entry))
         (length (now (sent .entry))) (length (now (words .entry))) .words ⌝ }
-    ensures { λ x. ⌜ now (sent .exit) ≡ sentAfter (measured (station c (now (chars .entry))) w) r
+    ensures { λ x. ⌜ now (sent .exit) ≡ sentAfter (measured (station c (now (chars .entry))) w) noEdge
         (now (heard .entry)) (length (now (words .entry))) (now (sent .entry)) ⌝ }
-    ensures { λ x. ⌜ now (words .exit) ≡ wordsAfter (measured (station c (now (chars .entry))) w) r
+    ensures { λ x. ⌜ now (words .exit) ≡ wordsAfter (measured (station c (now (chars .entry))) w) noEdge
         (now (heard .entry)) (length (now (sent .entry))) (now (words .entry)) ⌝ }
 {
-    if !in_range(c, w, chars) {
-        return refused(c, w, r, 1);
+    let a = ask(c, w, chars, heard, sent.len(), words.len());
+    if a.answer != 0 {
+        return refused(c, w, a.answer);
     }
-    if !edges::report_in_range(r) {
-        return refused(c, w, r, 1);
-    }
-    if lists::checks::MOST_MS < heard.len() {
-        return refused(c, w, r, 5);
-    }
-    let highest = lists::checks::largest(heard);
-    if Mode::of(c.mode).highest_level() < highest {
-        return refused(c, w, r, 6);
-    }
-    if sent.len() < heard.len() {
-        return refused(c, w, r, 7);
-    }
-    if words.len() < heard.len() {
-        return refused(c, w, r, 8);
-    }
-    let report = counted(wanted, c, w, chars, r, heard);
-    if edges::MOST < report.edges {
-        return refused(c, w, r, 18);
-    }
-    let e = station_runs::run_all(c, chars, heard, highest, sent, words);
+    let e = station_runs::run_all(c, chars, heard, a.highest, sent, words);
     let core = e.core;
     let edges = edges_after(c, w, heard, core);
     Ran {
         core,
         edges,
-        report,
         answer: 0,
         words: e.words,
     }
+}
+
+// The answer to a run with a report, 0 or the number of the refusal, and the report after it.
+pub struct Counted {
+    pub answer: u8,
+    pub report: Report,
+}
+
+// They are told before anything is written, with slices of such lengths.
+pub fn count(
+    c: Core,
+    w: Edges,
+    chars: &[u8; 256],
+    r: Report,
+    heard: &[u8],
+    sent: usize,
+    words: usize,
+) -> Counted
+    ensures { λ x. ⌜ x .answer ≡ ranOf (measured (station c (now (chars .entry))) w) r (now (heard .entry)) sent
+        words .answer ⌝ }
+    ensures { λ x. ⌜ x .report ≡ ranOf (measured (station c (now (chars .entry))) w) r (now (heard .entry)) sent
+        words .report ⌝ }
+{
+    if !edges::report_in_range(r) {
+        return Counted {
+            answer: 1,
+            report: r,
+        };
+    }
+    let a = ask(c, w, chars, heard, sent, words);
+    if a.answer != 0 {
+        return Counted {
+            answer: a.answer,
+            report: r,
+        };
+    }
+    let report = drift::report_after(c, w, chars, r, heard);
+    if edges::MOST < report.edges {
+        return Counted {
+            answer: 18,
+            report: r,
+        };
+    }
+    Counted { answer: 0, report }
 }

@@ -1,0 +1,28 @@
+-- The questions of a run but the last.
+use Prim.Native.Nat.{ℕ, _≤_}
+use mathlib.Core.Path.{_≡_}
+use mathlib.Core.Bool.{true}
+use mathlib.Core.List.{List}
+use lib.ListN.{length}
+use Rattle.lists.specs.Lists.{allAtMost}
+use Rattle.alphabet.specs.Modes.{highestLevel}
+use Rattle.edges.specs.declared.Report.{Report}
+use Rattle.edges.specs.Range.{reportIn}
+use Rattle.half_duplex.specs.Core.{modeIn}
+use Rattle.station.specs.declared.Measured.{Measured}
+use Rattle.station.specs.Range.{measuredIn}
+use Rattle.station.specs.Entries.{runAnswer}
+
+-- The answer to each of them is yes, and no ms is above the highest level.
+pub record Yes (x : Measured) (heard : List ℕ) (sentRoom wordRoom highest : ℕ) : Type 0 where
+  pub in-range : measuredIn x ≡ true
+  pub few : length heard ≤ 4_096
+  pub levels : allAtMost highest heard ≡ true
+  pub low : highest ≤ highestLevel (modeIn (x .core))
+  pub sent-fits : length heard ≤ sentRoom
+  pub words-fit : length heard ≤ wordRoom
+
+-- A run is refused with this number, with whatever report in range.
+abbrev pub No : Measured → List ℕ → ℕ → ℕ → ℕ → Type 0
+No x heard sentRoom wordRoom answer =
+    (r : Report) → reportIn r ≡ true → runAnswer x r heard sentRoom wordRoom ≡ answer
