@@ -25,3 +25,5 @@ pub const CODE: u8 = 10;
 pub const TONE: u8 = 11;
 /// The state of a calling set is out of range.
 pub const CALLING_STATE: u8 = 12;
+/// The report would pass 65,536 edges (document 02, request 111).
+pub const EDGES: u8 = 18;

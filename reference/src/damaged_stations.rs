@@ -2,17 +2,18 @@
 //! beyond, and random ones that no list of calls leads to. What a number of the struct stands for is
 //! the header's; how far it goes is derived here from document 01. Part of `differential`.
 
-use crate::engine::{OnLine, Station};
+use crate::engine::{Core, OnLine, Station};
 use reference::annex::{FIGURES, LETTERS};
 use reference::answer::{STATE, SUCCESS};
 use reference::baudot::REPEAT;
 use reference::demand3::Entries;
+use reference::drift::{Drifts, Report, Waiting, MOST_DISPLACED, MOST_EDGES};
 use reference::fault::is_word;
 use reference::line::{Code, KEYS, PREFIXES, QUIET};
 use reference::mode::Mode;
 use reference::normal::Alphabet;
 use reference::random::Random;
-use reference::reader::IN_A_ROW;
+use reference::reader::{Place, IN_A_ROW};
 use reference::station::{Part, Ran, FREE, INHIBITED, MOST_MS, MOST_WAITING};
 use std::process::exit;
 use std::sync::LazyLock;
@@ -89,7 +90,42 @@ fn highest_codes(mode: Mode) -> (usize, usize) {
 fn last_place(mode: Mode) -> usize {
     match mode {
         Mode::Dtmf => 1,
-        _ => mode.sample_at(mode.elements() - 1) + 1,
+        _ => mode.last_sample() + 1,
+    }
+}
+
+/// The places of a reader ahead of the second ms of a frame and later: the header.
+pub const FIRST_IN_FRAME: u8 = 2;
+
+/// The ms so far of the frame whose edges are measured; none outside a Baudot frame.
+pub fn frame_ms(core: &Core) -> Option<usize> {
+    let place = core.reader.frame.place;
+    let baudot = [Mode::Baudot45, Mode::Baudot50].map(Mode::number).contains(&core.mode);
+    (baudot && place >= FIRST_IN_FRAME).then(|| usize::from(place) - 1)
+}
+
+/// A report as document 02 has it, request 111: no edge and all 0, or each number within its range.
+pub fn report_in_range(&Report { edges, sum, smallest, largest }: &Report) -> bool {
+    if edges == 0 {
+        return [sum, smallest, largest] == [0; 3];
+    }
+    let most = MOST_DISPLACED.unsigned_abs();
+    edges <= MOST_EDGES
+        && smallest.unsigned_abs() <= most
+        && largest.unsigned_abs() <= most
+        && sum.unsigned_abs() <= most * edges
+}
+
+/// The waiting edges, by the same request: in a frame a report in range with fewer edges than ms so far
+/// and a level, and else nothing.
+fn edges_in_range(Station { core, edges, .. }: &Station) -> bool {
+    match frame_ms(core) {
+        Some(ms) => {
+            report_in_range(&edges.report)
+                && (edges.report.edges as usize) < ms
+                && edges.level <= Mode::Baudot45.highest_level()
+        }
+        None => edges.waiting() == Waiting::default(),
     }
 }
 
@@ -133,19 +169,21 @@ pub fn in_range(station: &Station) -> bool {
         && reader.keys.needed <= IN_A_ROW
         && (LETTERS..=FIGURES).contains(&reader.shift)
         && usize::from(reader.prefix) <= PREFIX_TOO_LONG
+        && edges_in_range(station)
 }
 
 /// The numbers of a station.
-const FIELDS: usize = 17;
+const FIELDS: usize = 22;
 
 /// Sets one number of a station.
-fn set(station: &mut Station, field: usize, value: u16) {
-    let (core, byte) = (&mut station.core, value as u8);
+fn set(station: &mut Station, field: usize, value: i32) {
+    let (core, edges) = (&mut station.core, &mut station.edges);
+    let (byte, short) = (value as u8, value as u16);
     match field {
-        0 => core.waiting = value,
-        1 => core.silence = value,
-        2 => core.inhibited = value,
-        3 => core.line.at = value,
+        0 => core.waiting = short,
+        1 => core.silence = short,
+        2 => core.inhibited = short,
+        3 => core.line.at = short,
         4 => core.line.part = byte,
         5 => core.line.code = byte,
         6 => core.sender.shift = byte,
@@ -158,13 +196,21 @@ fn set(station: &mut Station, field: usize, value: u16) {
         13 => core.reader.shift = byte,
         14 => core.reader.prefix = byte,
         15 => core.mode = byte,
+        16 => edges.level = byte,
+        17 => edges.report.edges = value as u32,
+        18 => edges.report.sum = value,
+        19 => edges.report.smallest = value,
+        20 => edges.report.largest = value,
         _ => station.chars[0] = byte,
     }
 }
 
 /// The least and the most value of a number in a station that is in range but for it.
-fn range(station: &Station, mode: Mode, field: usize) -> (u16, u16) {
+fn range(station: &Station, mode: Mode, field: usize) -> (i32, i32) {
     let line = &station.core.line;
+    if (16..=20).contains(&field) {
+        return edges_range(station, field);
+    }
     let (line_code, frame_code) = highest_codes(mode);
     let most = match field {
         0 => MOST_WAITING,
@@ -189,7 +235,20 @@ fn range(station: &Station, mode: Mode, field: usize) -> (u16, u16) {
         15 => most,
         _ => 0,
     };
-    (least as u16, most as u16)
+    (least as i32, most as i32)
+}
+
+/// The same of a number of the waiting edges.
+fn edges_range(Station { core, edges, .. }: &Station, field: usize) -> (i32, i32) {
+    let Some(ms) = frame_ms(core) else { return (0, 0) };
+    let some = edges.report.edges.min(1) as i32;
+    let most = match field {
+        16 => i32::from(Mode::Baudot45.highest_level()),
+        17 => ms as i32 - 1,
+        18 => MOST_DISPLACED * edges.report.edges as i32,
+        _ => MOST_DISPLACED * some,
+    };
+    (if field <= 17 { 0 } else { -most }, most)
 }
 
 /// Puts one number of a station, or a waiting character, out of range.
@@ -204,7 +263,7 @@ pub fn damage(random: &mut Random, station: &mut Station) {
             damaged.chars[place] = random.pick(&[0, 1, 0x7F, 0x80, 0xFF]);
         } else {
             let (least, most) = range(station, mode, field);
-            let beyond = [most + 1, most + 2, 255, 256, 65_535, least.wrapping_sub(1)];
+            let beyond = [most + 1, most + 2, 255, 256, 65_535, least - 1];
             set(&mut damaged, field, random.pick(&beyond));
         }
         if !in_range(&damaged) {
@@ -217,22 +276,23 @@ pub fn damage(random: &mut Random, station: &mut Station) {
 /// A station of the mode in range, each number by itself at random, often at an end of its range.
 pub fn random_station(random: &mut Random, mode: Mode) -> Station {
     let mut station = Station::open(mode.number()).1;
-    for field in [4, 5, 3, 0, 1, 2, 6, 7, 8, 9, 10, 11, 12, 13, 14] {
+    for field in [4, 5, 3, 0, 1, 2, 6, 7, 8, 9, 10, 11, 12, 13, 14, 16, 17, 18, 19, 20] {
         let (least, most) = range(&station, mode, field);
         let value = match random.below(4) {
             0 => least,
             1 => most,
-            _ => least + random.below(usize::from(most - least) + 1) as u16,
+            _ => least + random.below((most - least) as usize + 1) as i32,
         };
         set(&mut station, field, value);
         while field == 5 && part_of(mode, station.core.line.part, station.core.line.code).is_none()
         {
-            set(&mut station, field, random.below(usize::from(most) + 1) as u16);
+            set(&mut station, field, random.below(most as usize + 1) as i32);
         }
     }
     if random.one_in(2) {
         station.core.waiting = station.core.waiting.min(3);
     }
+    station.edges.padding = [random.bits() as u8; 3];
     for (place, character) in station.chars.iter_mut().enumerate() {
         // Behind those that wait anything may stand.
         let waits = place < usize::from(station.core.waiting);
@@ -299,7 +359,7 @@ fn ends(random: &mut Random, mode: Mode, tried: &mut Tried) {
     for base in [Station::open(mode.number()).1, random_station(random, mode)] {
         for field in 0..FIELDS {
             let (least, most) = range(&base, mode, field);
-            for value in [least.wrapping_sub(1), least, most, most + 1, 255, 65_535] {
+            for value in [least - 1, least, most, most + 1, 255, 65_535, i32::MIN, i32::MAX] {
                 let mut station = base;
                 set(&mut station, field, value);
                 try_station(random, &station, tried);
@@ -346,12 +406,21 @@ fn refused(random: &mut Random, station: &Station) -> bool {
     let text = random.pick(&[&b""[..], b"E", b"\xFF", &[b'E'; 300]]);
     let heard = random.pick(&[&[][..], &[1; 64], &[200; 64], &[0; MOST_MS + 1]]);
     let (sent_length, word_length) = (random.pick(&[0, 64]), random.pick(&[0, 64]));
+    let before = Report { edges: random.pick(&[0, 1, MOST_EDGES, u32::MAX]), ..Report::default() };
+    let (mut report, refusal) = (before, Ran { answer: STATE, words: 0 });
+    let (sent_slice, word_slice) = (&mut sent[..sent_length], &mut words[..word_length]);
     after.offer(text) == STATE
-        && after.run(heard, &mut sent[..sent_length], &mut words[..word_length])
-            == Ran { answer: STATE, words: 0 }
-        && after == *station
+        && after.run(heard, sent_slice, word_slice) == refusal
+        && after.run_drift(heard, sent_slice, word_slice, &mut report) == refusal
+        && report == before
+        && same_bytes(&after, station)
         && sent == [0xA5; 64]
         && words == [0xA5A5_A5A5; 64]
+}
+
+/// Are all numbers the same, and the bytes of the padding, too?
+pub fn same_bytes(a: &Station, b: &Station) -> bool {
+    a == b && a.edges.padding == b.edges.padding
 }
 
 fn ran(random: &mut Random, station: &Station) -> bool {
@@ -390,8 +459,38 @@ fn ran(random: &mut Random, station: &Station) -> bool {
             || after.core.reader.shift == station.core.reader.shift)
 }
 
-/// The reference's station with the numbers of one that is in range, and with a fresh reader.
+/// Where a reader of frames is.
+fn place_of(place: u8) -> Place {
+    match place {
+        0 => Place::Hunting,
+        1 => Place::Waiting,
+        _ => Place::Frame(usize::from(place) - 1),
+    }
+}
+
+/// A Baudot reader's place, the bits sampled so far and its shift. The engine's digits come in from the
+/// top, so that those not sampled yet are its lowest ones.
+fn baudot_reader(core: &Core) -> Option<(Place, u8, u8)> {
+    let mode = Mode::from_number(core.mode)?;
+    let (frame, ms) = (core.reader.frame, frame_ms(core).unwrap_or(0));
+    let to_come = (1..=5).filter(|&element| mode.sample_at(element) >= ms).count();
+    let baudot = mode.alphabet() == Alphabet::Baudot;
+    let digits = || if to_come == 5 { 0 } else { frame.digits >> to_come };
+    baudot.then(|| (place_of(frame.place), digits(), core.reader.shift))
+}
+
+/// The reference's station with the numbers of one whose core is in range, and with its edges, whatever
+/// they are. In DTMF and EDT its reader is fresh.
 pub fn reference_of(station: &Station) -> reference::station::Station {
+    let forged = with_fresh_reader(station);
+    let forged = match baudot_reader(&station.core) {
+        Some((place, bits, shift)) => forged.with_reader(place, bits, shift),
+        None => forged,
+    };
+    forged.with_edges(station.edges.waiting())
+}
+
+fn with_fresh_reader(station: &Station) -> reference::station::Station {
     let (core, line) = (&station.core, &station.core.line);
     let mode = Mode::from_number(core.mode).expect("a mode");
     reference::station::Station::forged(
@@ -404,20 +503,25 @@ pub fn reference_of(station: &Station) -> reference::station::Station {
     )
 }
 
-/// Do both have as many waiting, and are both in a burst or have the same silence and inhibited ms,
-/// shift and count?
+/// Do the same wait and the same edges, is a Baudot reader the same, and are both in a burst or have the
+/// same silence and inhibited ms, shift and count?
 pub fn agree(engine: &Station, reference: &reference::station::Station) -> bool {
     let core = &engine.core;
     let between = (core.line.part == 0)
         .then_some(([core.silence, core.inhibited], [core.sender.shift, core.sender.count]));
-    usize::from(core.waiting) == reference.waiting() && between == reference.between_bursts()
+    engine.chars[..usize::from(core.waiting)] == reference.text()
+        && engine.edges.waiting() == reference.edges()
+        && baudot_reader(core) == reference.baudot_reader()
+        && between == reference.between_bursts()
 }
 
-/// Does the station, with a fresh reader, go as the reference does from the same numbers? On a quiet
-/// line with few waiting it must come to rest, too.
+/// Does the station, in DTMF and EDT with a fresh reader, go as the reference does from the same
+/// numbers? On a quiet line with few waiting it must come to rest, too.
 fn as_reference(station: &Station, heard: &[u8]) -> bool {
     let mut engine = *station;
-    engine.core.reader = Station::open(station.core.mode).1.core.reader;
+    if baudot_reader(&station.core).is_none() {
+        engine.core.reader = Station::open(station.core.mode).1.core.reader;
+    }
     let mut reference = reference_of(station);
     let mut alike = |heard: &[u8]| {
         let (mut sent, mut words) = ([[9; MOST_MS]; 2], [[9; MOST_MS]; 2]);

@@ -428,14 +428,14 @@ mod tests {
         }
 
         fn offer(&mut self, text: &[u8]) -> u8 {
-            let mut copy = self.station;
+            let mut copy = self.station.clone();
             let station =
                 if self.fault == Fault::NeverSends { &mut copy } else { &mut self.station };
             station.offer(text)
         }
 
         fn run(&mut self, heard: &[u8], sent: &mut [u8], words: &mut [u32]) -> Ran {
-            let before = self.station;
+            let before = self.station.clone();
             let mut ran = self.station.run(heard, sent, words);
             if self.fault == Fault::OpensOnce && ran.answer == SUCCESS {
                 self.station = before;

@@ -4,6 +4,7 @@
 use reference::baudot::{Sent, Text};
 use reference::calling::{Chosen, State};
 use reference::demand3::Entries;
+use reference::drift::{Drifts, Report, Waiting};
 use reference::mode::Mode;
 use reference::station::{Ran, MOST_WAITING};
 use std::mem::MaybeUninit;
@@ -62,16 +63,46 @@ pub struct Core {
     pub mode: u8,
 }
 
-/// A station as the engine holds it; `cuyrapaq.h` says what its numbers mean. It has no padding, so
-/// that two are equal if their bytes are.
+/// The edges that wait. Whatever stands in the padding, two are equal if their numbers are.
+#[repr(C)]
+#[derive(Clone, Copy, Debug)]
+pub struct Edges {
+    pub report: Report,
+    pub level: u8,
+    pub padding: [u8; 3],
+}
+
+impl Edges {
+    pub fn waiting(&self) -> Waiting {
+        Waiting { report: self.report, level: self.level }
+    }
+}
+
+impl From<Waiting> for Edges {
+    fn from(Waiting { report, level }: Waiting) -> Edges {
+        Edges { report, level, padding: [0; 3] }
+    }
+}
+
+impl PartialEq for Edges {
+    fn eq(&self, other: &Edges) -> bool {
+        self.waiting() == other.waiting()
+    }
+}
+
+impl Eq for Edges {}
+
+/// A station as the engine holds it; `cuyrapaq.h` says what its numbers mean.
 #[repr(C)]
 #[derive(Clone, Copy, Debug, PartialEq, Eq)]
 pub struct Station {
     pub core: Core,
+    pub edges: Edges,
     pub chars: [u8; MOST_WAITING],
 }
 
-const _: () = assert!(size_of::<Core>() == 20 && size_of::<Station>() == 276);
+const _: () = assert!(size_of::<Core>() == 20 && size_of::<Report>() == 16);
+const _: () = assert!(size_of::<Station>() == 296 && align_of::<Station>() == 4);
 
 #[repr(C)]
 struct StationRan {
@@ -100,6 +131,17 @@ extern "C" {
         sent_length: usize,
         words: *mut u32,
         words_length: usize,
+    ) -> StationRan;
+
+    fn cq_station_run_drift(
+        station: *mut Station,
+        heard: *const u8,
+        heard_length: usize,
+        sent: *mut u8,
+        sent_length: usize,
+        words: *mut u32,
+        words_length: usize,
+        report: *mut Report,
     ) -> StationRan;
 
     fn cq_station_preview(
@@ -167,7 +209,8 @@ pub fn calling_run(state: &mut State, tones: &[u8], sent: &mut [u8]) -> u8 {
 
 impl Station {
     pub fn open(mode: u8) -> (u8, Station) {
-        let mut station = MaybeUninit::uninit();
+        // The padding need not be filled.
+        let mut station = MaybeUninit::zeroed();
         // Safety: the pointer leads to space for a station, and every opening fills it.
         unsafe {
             let answer = cq_station_open(station.as_mut_ptr(), mode);
@@ -205,6 +248,32 @@ impl Entries for Station {
                 sent.len(),
                 words.as_mut_ptr(),
                 words.len(),
+            )
+        };
+        Ran { answer: ran.answer, words: ran.words }
+    }
+}
+
+impl Drifts for Station {
+    fn run_drift(
+        &mut self,
+        heard: &[u8],
+        sent: &mut [u8],
+        words: &mut [u32],
+        report: &mut Report,
+    ) -> Ran {
+        // Safety: the pointers lead to a station and a report, and each other goes with the length of
+        // its slice.
+        let ran = unsafe {
+            cq_station_run_drift(
+                self,
+                heard.as_ptr(),
+                heard.len(),
+                sent.as_mut_ptr(),
+                sent.len(),
+                words.as_mut_ptr(),
+                words.len(),
+                report,
             )
         };
         Ran { answer: ran.answer, words: ran.words }

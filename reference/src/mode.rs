@@ -51,7 +51,7 @@ impl Mode {
     }
 
     /// The ms of an element of Baudot.
-    const fn element(self) -> usize {
+    pub const fn element(self) -> usize {
         match self {
             Mode::Baudot45 => 22,
             _ => 20,
@@ -109,6 +109,14 @@ impl Mode {
             Mode::Baudot45 | Mode::Baudot50 => self.element() * element + self.element() / 2,
             Mode::Dtmf => 0,
             Mode::Edt => (100 * element + 50) / 11,
+        }
+    }
+
+    /// The ms of a frame's last sample; in Baudot that of its stop. Keys have none.
+    pub const fn last_sample(self) -> usize {
+        match self {
+            Mode::Dtmf => 0,
+            _ => self.sample_at(self.elements() - 1),
         }
     }
 }

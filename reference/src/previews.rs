@@ -161,7 +161,7 @@ fn summary(mode: Mode, met: &Met) -> String {
 }
 
 /// A station on both sides.
-#[derive(Clone, Copy)]
+#[derive(Clone)]
 pub struct Pair {
     pub engine: engine::Station,
     reference: Station,

@@ -1,6 +1,6 @@
 //! The readers: from the level of each heard ms to the output words (document 01: house words).
 
-use crate::annex::{dtmf_rows, BAUDOT_READS, FIGURES_CODE, LETTERS_CODE};
+use crate::annex::{dtmf_rows, BAUDOT_READS, FIGURES, FIGURES_CODE, LETTERS, LETTERS_CODE};
 use crate::fault::{Cause, Fault, LETTER_KEY, NO_ROW};
 use crate::line::{key_number, KEYS, MARK, QUIET, SPACE};
 use crate::mode::Mode;
@@ -37,6 +37,29 @@ impl Reader {
             Mode::Dtmf => Reader::Keys(KeyReader::fresh()),
             Mode::Edt => Reader::Frames(FrameReader::fresh(&EDT, Reads::Characters)),
         }
+    }
+
+    /// A Baudot reader at a place, with the bits sampled so far and in a shift.
+    pub fn baudot(mode: Mode, place: Place, bits: u8, shift: u8) -> Reader {
+        let frame = if mode == Mode::Baudot45 { &BAUDOT_45 } else { &BAUDOT_50 };
+        let reads = if shift == FIGURES { Reads::Figures } else { Reads::Letters };
+        let next = match place {
+            Place::Hunting => HUNTING,
+            Place::Waiting => WAITING,
+            Place::Frame(ms) => ms as u8,
+        };
+        Reader::Frames(FrameReader { frame, reads, next, bits })
+    }
+
+    /// Of a Baudot reader its place, the bits sampled so far and its shift; none of another reader.
+    pub fn baudot_parts(&self) -> Option<(Place, u8, u8)> {
+        let Reader::Frames(reader) = self else { return None };
+        let shift = match reader.reads {
+            Reads::Letters => LETTERS,
+            Reads::Figures => FIGURES,
+            Reads::Characters => return None,
+        };
+        Some((reader.place(), reader.sampled(), shift))
     }
 
     /// Puts a Baudot reader in letters.
@@ -142,6 +165,14 @@ const HUNTING: u8 = 0;
 /// `next` after a fault.
 const WAITING: u8 = 255;
 
+/// Where a reader of frames is: hunting, waiting after a fault, or in a frame with its ms so far.
+#[derive(Clone, Copy, Debug, PartialEq, Eq)]
+pub enum Place {
+    Hunting,
+    Waiting,
+    Frame(usize),
+}
+
 /// Reads Baudot and EDT.
 #[derive(Clone, Copy, Debug, PartialEq, Eq)]
 pub struct FrameReader {
@@ -156,6 +187,22 @@ pub struct FrameReader {
 impl FrameReader {
     fn fresh(frame: &'static Frame, reads: Reads) -> FrameReader {
         FrameReader { frame, reads, next: HUNTING, bits: 0 }
+    }
+
+    #[inline]
+    pub fn place(&self) -> Place {
+        match self.next {
+            HUNTING => Place::Hunting,
+            WAITING => Place::Waiting,
+            ms => Place::Frame(usize::from(ms)),
+        }
+    }
+
+    /// The bits of the samples so far; 0 outside a frame.
+    fn sampled(&self) -> u8 {
+        let Place::Frame(ms) = self.place() else { return 0 };
+        let bits = self.frame.roles[..ms].iter().filter(|role| matches!(role, Role::Bit(_)));
+        self.bits & ((1 << bits.count()) - 1)
     }
 
     /// A ms of a frame that is a sample.
@@ -339,7 +386,7 @@ impl Hear for KeyReader {
 #[cfg(test)]
 mod tests {
     use super::*;
-    use crate::annex::{dtmf_reads, FIGURES_CODE};
+    use crate::annex::dtmf_reads;
     use crate::line::{codes, preamble, sign_lists, signal, text_codes, Code, KEY_GAP};
 
     const FRAME_MODES: [Mode; 3] = [Mode::Baudot45, Mode::Baudot50, Mode::Edt];

@@ -1,18 +1,20 @@
 //! A station of document 01: characters wait to be sent, bursts go out when the line is free, and
 //! what the other end sends is read. By request 101 of document 02 a Baudot burst opens with a shift
 //! code. A run goes over its ms in stretches: a run of one level in a burst, the inhibited ms after
-//! it, or ms to listen to. A preview (request 106) sends with a copy, ms by ms, and counts.
+//! it, or ms to listen to. A preview (request 106) sends with a copy, ms by ms, and counts. A run may be
+//! given a report, which then gains the edges of its frames (request 111).
 
 use crate::annex::{dtmf_sends, Sending, BAUDOT_SENDS, EITHER, FIGURES, LETTERS};
 use crate::annex::{FIGURES_CODE, LETTERS_CODE};
 use crate::answer::{
-    CHARACTER, DURATION, LEVEL, MODE, SENT_SLICE, SPACE, STATE, SUCCESS, WORD_SLICE,
+    CHARACTER, DURATION, EDGES, LEVEL, MODE, SENT_SLICE, SPACE, STATE, SUCCESS, WORD_SLICE,
 };
 use crate::baudot::{FRESH, REPEAT};
+use crate::drift::{Frame, Report, Waiting, MOST_EDGES};
 use crate::line::{elements, key_number, Code, KEY_GAP, KEY_LENGTH, MARK, QUIET};
 use crate::mode::Mode;
 use crate::normal::Alphabet;
-use crate::reader::{Hear, Reader};
+use crate::reader::{FrameReader, Hear, Place, Reader};
 use std::sync::LazyLock;
 
 /// The most characters that wait.
@@ -239,7 +241,7 @@ impl Sender {
     }
 }
 
-#[derive(Clone, Copy, Debug, PartialEq, Eq)]
+#[derive(Clone, Debug, PartialEq, Eq)]
 pub struct Station {
     mode: Mode,
     in_burst: bool,
@@ -250,7 +252,48 @@ pub struct Station {
     sender: Sender,
     line: Line,
     reader: Reader,
+    frame: Frame,
     queue: Queue,
+}
+
+/// What a run gives beside the sent ms: its words from the front, and the edges that count.
+struct Given<'a> {
+    words: &'a mut [u32],
+    count: usize,
+    edges: Report,
+}
+
+impl Given<'_> {
+    /// Reads all ms.
+    fn read(&mut self, reader: &mut impl Hear, heard: &[u8]) {
+        for &level in heard {
+            self.word(reader.hear(level));
+        }
+    }
+
+    /// Reads all ms of Baudot, and keeps the frame.
+    fn read_baudot(
+        &mut self,
+        mode: Mode,
+        reader: &mut FrameReader,
+        frame: &mut Frame,
+        heard: &[u8],
+    ) {
+        for &level in heard {
+            self.word(reader.hear(level));
+            if let Some(edges) = frame.hear(mode, level, reader.place()) {
+                self.edges = self.edges.joined(edges);
+            }
+        }
+    }
+
+    #[inline]
+    fn word(&mut self, word: Option<u32>) {
+        if let Some(word) = word {
+            self.words[self.count] = word;
+            self.count += 1;
+        }
+    }
 }
 
 impl Station {
@@ -263,6 +306,7 @@ impl Station {
             sender: Sender { shift: FRESH, count: 0 },
             line: Line { level: QUIET, left: 0, rest: 0 },
             reader: Reader::fresh(mode),
+            frame: Frame::default(),
             queue: Queue { ring: [0; MOST_WAITING], front: 0, waiting: 0 },
         }
     }
@@ -297,6 +341,20 @@ impl Station {
         Station { in_burst, silence, inhibited, sender, line, ..station }
     }
 
+    /// The same with a Baudot reader at a place, with the bits sampled so far and in a shift.
+    pub fn with_reader(self, place: Place, bits: u8, shift: u8) -> Station {
+        Station { reader: Reader::baudot(self.mode, place, bits, shift), ..self }
+    }
+
+    /// The same with these edges waiting.
+    pub fn with_edges(self, waiting: Waiting) -> Station {
+        let ms = match self.reader.baudot_parts() {
+            Some((Place::Frame(ms), _, _)) => ms,
+            _ => 0,
+        };
+        Station { frame: Frame::forged(ms, waiting), ..self }
+    }
+
     /// A fresh station of a mode given by its number; of mode 1 if there is no such mode.
     pub fn open(mode: u8) -> (u8, Station) {
         match Mode::from_number(mode) {
@@ -316,9 +374,25 @@ impl Station {
         (!self.in_burst).then_some(([silence, inhibited], [sender.shift, sender.count]))
     }
 
+    /// Those waiting, the front one first.
+    pub fn text(&self) -> Vec<u8> {
+        let places = (0..self.waiting()).map(|place| usize::from(self.queue.front) + place);
+        places.map(|place| self.queue.ring[place % MOST_WAITING]).collect()
+    }
+
+    /// Of a Baudot station its reader's place, the bits sampled so far and the shift.
+    pub fn baudot_reader(&self) -> Option<(Place, u8, u8)> {
+        self.reader.baudot_parts()
+    }
+
+    /// The edges that wait.
+    pub fn edges(&self) -> Waiting {
+        self.frame.waiting(self.mode)
+    }
+
     /// Question 1.
     pub fn in_range(&self) -> bool {
-        let Station { mode, silence, inhibited, sender, line, reader, queue, .. } = self;
+        let Station { mode, silence, inhibited, sender, line, reader, frame, queue, .. } = self;
         usize::from(queue.waiting) <= MOST_WAITING
             && queue.all(sends(*mode))
             && *silence <= FREE
@@ -328,6 +402,7 @@ impl Station {
             && line.level <= mode.highest_level()
             && line.left <= mode.preamble().max(KEY_LENGTH as u16)
             && reader.in_range()
+            && frame.in_range(*mode)
     }
 
     /// Puts the characters of a text that send something behind those waiting.
@@ -353,29 +428,63 @@ impl Station {
     /// Hears some ms. Writes as many sent ms, and the words from the front.
     #[inline(never)] // `bench` counts its instructions by its name
     pub fn run(&mut self, heard: &[u8], sent: &mut [u8], words: &mut [u32]) -> Ran {
-        let refusal = |answer| Ran { answer, words: 0 };
-        if !self.in_range() {
-            return refusal(STATE);
+        match self.refuses(heard, sent.len(), words.len(), &Report::default()) {
+            Some(answer) => Ran { answer, words: 0 },
+            None => Ran { answer: SUCCESS, words: self.go(heard, sent, words).0 },
         }
-        if heard.len() > MOST_MS {
-            return refusal(DURATION);
-        }
-        let highest = self.mode.highest_level();
-        if heard.iter().fold(0, |most, &level| level.max(most)) > highest {
-            return refusal(LEVEL);
-        }
-        if sent.len() < heard.len() {
-            return refusal(SENT_SLICE);
-        }
-        if words.len() < heard.len() {
-            return refusal(WORD_SLICE);
-        }
-        Ran { answer: SUCCESS, words: self.go(heard, sent, words) }
     }
 
-    /// Goes over some ms, however many; gives back how many words there are.
-    fn go(&mut self, heard: &[u8], sent: &mut [u8], words: &mut [u32]) -> usize {
-        let mut count = 0;
+    /// A run whose edges go into a report. The last question is whether that has space for them.
+    #[inline(never)] // as `run`
+    pub fn run_drift(
+        &mut self,
+        heard: &[u8],
+        sent: &mut [u8],
+        words: &mut [u32],
+        report: &mut Report,
+    ) -> Ran {
+        let refusal = |answer| Ran { answer, words: 0 };
+        if let Some(answer) = self.refuses(heard, sent.len(), words.len(), report) {
+            return refusal(answer);
+        }
+        if self.passes(heard, report) {
+            return refusal(EDGES);
+        }
+        let (words, edges) = self.go(heard, sent, words);
+        *report = report.joined(edges);
+        Ran { answer: SUCCESS, words }
+    }
+
+    /// Questions 1 and 5 to 8 of a run.
+    fn refuses(&self, heard: &[u8], sent: usize, words: usize, report: &Report) -> Option<u8> {
+        let highest = self.mode.highest_level();
+        let too_high = || heard.iter().fold(0, |most, &level| level.max(most)) > highest;
+        if !self.in_range() || !report.in_range() {
+            Some(STATE)
+        } else if heard.len() > MOST_MS {
+            Some(DURATION)
+        } else if too_high() {
+            Some(LEVEL)
+        } else if sent < heard.len() {
+            Some(SENT_SLICE)
+        } else {
+            (words < heard.len()).then_some(WORD_SLICE)
+        }
+    }
+
+    /// Would a report pass the most edges? If it may, a copy goes over the ms first.
+    fn passes(&self, heard: &[u8], report: &Report) -> bool {
+        let space = (MOST_EDGES - report.edges) as usize;
+        if self.frame.most_edges() + heard.len() <= space {
+            return false;
+        }
+        let (mut sent, mut words) = (vec![QUIET; heard.len()], vec![0; heard.len()]);
+        self.clone().go(heard, &mut sent, &mut words).1.edges as usize > space
+    }
+
+    /// Goes over some ms, however many; gives back how many words there are, and the edges that count.
+    fn go(&mut self, heard: &[u8], sent: &mut [u8], words: &mut [u32]) -> (usize, Report) {
+        let mut given = Given { words, count: 0, edges: Report::default() };
         let (mut heard, mut sent) = (heard, &mut sent[..heard.len()]);
         while !heard.is_empty() {
             if !self.in_burst && self.queue.waiting > 0 && self.silence >= FREE {
@@ -387,12 +496,12 @@ impl Station {
             } else if self.inhibited > 0 {
                 self.stay_inhibited(sent)
             } else {
-                self.listen(heard, sent, words, &mut count)
+                self.listen(heard, sent, &mut given)
             };
             heard = &heard[ms..];
             sent = &mut sent[ms..];
         }
-        count
+        (given.count, given.edges)
     }
 
     /// Does nothing wait, and is it in no burst?
@@ -403,7 +512,7 @@ impl Station {
     /// The answer of an offer of the text, and after how many ms of quiet the station would be idle
     /// behind it; 0 ms if it is refused.
     pub fn preview(&self, text: &[u8]) -> (u8, u32) {
-        let mut copy = *self;
+        let mut copy = self.clone();
         let answer = copy.offer(text);
         if answer != SUCCESS {
             return (answer, 0);
@@ -440,7 +549,7 @@ impl Station {
             }
         }
         self.silence = FREE.min(self.silence.saturating_add(done as u16));
-        self.reader.inhibited_for(done);
+        self.do_not_read(done);
         done
     }
 
@@ -467,37 +576,30 @@ impl Station {
         sent[..ms].fill(QUIET);
         self.inhibited -= ms as u16;
         self.silence = FREE.min(self.silence + ms as u16);
-        self.reader.inhibited_for(ms);
+        self.do_not_read(ms);
         ms
     }
 
+    /// Some inhibited ms, at least one. They drop a frame.
+    fn do_not_read(&mut self, ms: usize) {
+        self.reader.inhibited_for(ms);
+        self.frame.end();
+    }
+
     /// Listens to all ms, or until a burst may begin; gives back how many.
-    fn listen(
-        &mut self,
-        heard: &[u8],
-        sent: &mut [u8],
-        words: &mut [u32],
-        count: &mut usize,
-    ) -> usize {
+    fn listen(&mut self, heard: &[u8], sent: &mut [u8], given: &mut Given) -> usize {
         let ms = if self.queue.waiting > 0 { free_after(self.silence, heard) } else { heard.len() };
         let heard = &heard[..ms];
         match &mut self.reader {
-            Reader::Frames(reader) => read(reader, heard, words, count),
-            Reader::Keys(reader) => read(reader, heard, words, count),
+            Reader::Frames(reader) if self.mode.alphabet() == Alphabet::Baudot => {
+                given.read_baudot(self.mode, reader, &mut self.frame, heard)
+            }
+            Reader::Frames(reader) => given.read(reader, heard),
+            Reader::Keys(reader) => given.read(reader, heard),
         }
         sent[..ms].fill(QUIET);
         self.silence = silence_after(self.silence, heard);
         ms
-    }
-}
-
-/// Reads all ms with a reader and writes the words behind the first `count`.
-fn read(reader: &mut impl Hear, heard: &[u8], words: &mut [u32], count: &mut usize) {
-    for &level in heard {
-        if let Some(word) = reader.hear(level) {
-            words[*count] = word;
-            *count += 1;
-        }
     }
 }
 
@@ -585,7 +687,7 @@ mod tests {
             let mut fresh = Station::fresh(mode);
             assert_eq!(fresh.offer(&[b'e'; 257]), SPACE);
             assert_eq!(fresh, Station::fresh(mode));
-            let mut station = full;
+            let mut station = full.clone();
             assert_eq!(station.offer(b"e"), SPACE);
             assert_eq!(station, full);
             assert_eq!(station.offer(b""), SUCCESS);
@@ -976,7 +1078,7 @@ mod tests {
     fn a_preview_is_refused_as_the_offer() {
         for mode in Mode::ALL {
             let station = offered(mode, b"E");
-            let mut bad = station;
+            let mut bad = station.clone();
             bad.silence = FREE + 1;
             let (above, many) = ([b'E', 0x80].repeat(300), [b'E'; 256]);
             for (station, text, answer) in [
@@ -1000,25 +1102,25 @@ mod tests {
         for mode in Mode::ALL {
             let above = mode.highest_level() + 1;
             let station = offered(mode, b"E");
-            let mut bad = station;
+            let mut bad = station.clone();
             bad.silence = FREE + 1;
             let (mut sent, mut words) = ([9; MOST_MS + 1], [9; MOST_MS + 1]);
             for (station, ms, level, sent_length, word_length, answer) in [
-                (bad, MOST_MS + 1, above, 0, 0, STATE),
-                (station, MOST_MS + 1, above, 0, 0, DURATION),
-                (station, MOST_MS, above, 0, 0, LEVEL),
-                (station, MOST_MS, above - 1, MOST_MS - 1, 0, SENT_SLICE),
-                (station, MOST_MS, above - 1, MOST_MS, MOST_MS - 1, WORD_SLICE),
+                (&bad, MOST_MS + 1, above, 0, 0, STATE),
+                (&station, MOST_MS + 1, above, 0, 0, DURATION),
+                (&station, MOST_MS, above, 0, 0, LEVEL),
+                (&station, MOST_MS, above - 1, MOST_MS - 1, 0, SENT_SLICE),
+                (&station, MOST_MS, above - 1, MOST_MS, MOST_MS - 1, WORD_SLICE),
             ] {
-                let mut after = station;
+                let mut after = station.clone();
                 let heard = vec![level; ms];
                 let (sent, words) = (&mut sent[..sent_length], &mut words[..word_length]);
                 assert_eq!(after.run(&heard, sent, words), Ran { answer, words: 0 });
-                assert_eq!(after, station);
+                assert_eq!(&after, station);
             }
             assert_eq!((sent, words), ([9; MOST_MS + 1], [9; MOST_MS + 1]));
             assert_eq!(bad.offer(&[0x80; 300]), STATE);
-            let mut after = station;
+            let mut after = station.clone();
             assert_eq!(after.offer(&[b'E', 0x80].repeat(300)), CHARACTER);
             assert_eq!(after.offer(&[b'E'; 256]), SPACE);
             assert_eq!(after.run(&[], &mut [], &mut []), Ran { answer: SUCCESS, words: 0 });
@@ -1064,10 +1166,10 @@ mod tests {
             let mut whole = Station::fresh(mode);
             hears(&mut whole, &[1]);
             whole.offer(b"E9 ");
-            let before = whole;
+            let before = whole.clone();
             let wanted = hears(&mut whole, &heard);
             for cut in (0..heard.len()).step_by(7) {
-                let mut station = before;
+                let mut station = before.clone();
                 let (mut sent, mut words) = hears(&mut station, &heard[..cut]);
                 let (more_sent, more_words) = hears(&mut station, &heard[cut..]);
                 sent.extend(more_sent);
@@ -1075,6 +1177,116 @@ mod tests {
                 assert_eq!((sent, words), wanted);
                 assert_eq!(station, whole);
             }
+        }
+    }
+
+    /// A run with a report, which must be answered so.
+    fn drifts(station: &mut Station, heard: &[u8], report: &mut Report, answer: u8) {
+        let (mut sent, mut words) = ([9; MOST_MS], [9; MOST_MS]);
+        assert_eq!(station.run_drift(heard, &mut sent, &mut words, report).answer, answer);
+        assert_eq!(answer == SUCCESS && !heard.is_empty(), sent[0] != 9);
+    }
+
+    /// The code E whose first edge is 3 ms early and whose second 5 ms late, up to the stop sample.
+    fn moved_e(mode: Mode) -> Vec<u8> {
+        let (e, mut heard) = (mode.element(), signal(mode, &Code::FiveBits(0b00001)));
+        heard[e - 3..e].fill(MARK);
+        heard[2 * e..2 * e + 5].fill(MARK);
+        heard.truncate(mode.last_sample() + 1);
+        heard
+    }
+
+    const MOVED: Report = Report { edges: 3, sum: 2, smallest: -3, largest: 5 };
+
+    #[test]
+    fn edges_wait_and_count_in_the_call_of_the_stop_sample() {
+        for mode in [Mode::Baudot45, Mode::Baudot50] {
+            let heard = moved_e(mode);
+            for cut in 0..=heard.len() {
+                let (mut station, mut report) = (Station::fresh(mode), Report::default());
+                drifts(&mut station, &heard[..cut], &mut report, SUCCESS);
+                let whole = cut == heard.len();
+                assert_eq!(report, if whole { MOVED } else { Report::default() });
+                let level = if whole || cut == 0 { 0 } else { heard[cut - 1] };
+                assert_eq!(station.edges().level, level);
+                assert!(station.edges().report.edges as usize <= cut.saturating_sub(1));
+                drifts(&mut station, &heard[cut..], &mut report, SUCCESS);
+                assert_eq!((station.edges(), report), (Waiting::default(), MOVED));
+            }
+        }
+    }
+
+    #[test]
+    fn edges_of_frames_that_break_are_dropped() {
+        for mode in [Mode::Baudot45, Mode::Baudot50] {
+            let (first, last) = (mode.sample_at(0), mode.last_sample());
+            for (at, level) in [(last, SPACE_LEVEL), (last, QUIET), (first, MARK), (first, QUIET)] {
+                let mut heard = moved_e(mode);
+                heard[at] = level;
+                heard.truncate(at + 1);
+                let (mut station, mut report) = (Station::fresh(mode), Report::default());
+                drifts(&mut station, &heard, &mut report, SUCCESS);
+                assert_eq!((station.edges(), report), Default::default());
+            }
+            // An inhibited ms drops the frame.
+            let (mut station, mut report) = (Station::fresh(mode), Report::default());
+            drifts(&mut station, &moved_e(mode)[..100], &mut report, SUCCESS);
+            assert_ne!(station.edges(), Waiting::default());
+            station.inhibited = 1;
+            drifts(&mut station, &[MARK; 200], &mut report, SUCCESS);
+            assert_eq!((station.edges(), report), Default::default());
+        }
+        // EDT and DTMF have none.
+        for mode in [Mode::Dtmf, Mode::Edt] {
+            let (mut station, mut report) = (Station::fresh(mode), Report::default());
+            drifts(&mut station, &burst(mode, b"EE"), &mut report, SUCCESS);
+            assert_eq!((station.edges(), report), Default::default());
+        }
+    }
+
+    #[test]
+    fn a_full_report_is_refused_and_nothing_is_written() {
+        let mode = Mode::Baudot45;
+        for (edges, answer) in
+            [(65_533, SUCCESS), (65_534, EDGES), (65_536, EDGES), (65_537, STATE)]
+        {
+            let mut station = Station::fresh(mode);
+            let before = Report { edges, ..Report::default() };
+            let mut report = before;
+            drifts(&mut station, &moved_e(mode), &mut report, answer);
+            if answer == SUCCESS {
+                assert_eq!(report, before.joined(MOVED));
+            } else {
+                assert_eq!((station, report), (Station::fresh(mode), before));
+            }
+        }
+        let mut full = Report { edges: 65_536, ..Report::default() };
+        drifts(&mut Station::fresh(mode), &moved_e(mode)[..143], &mut full, SUCCESS);
+    }
+
+    #[test]
+    fn waiting_edges_out_of_range() {
+        let forged = |place, edges, sum, level| {
+            let report = Report { edges, sum, ..Report::default() };
+            let station = Station::fresh(Mode::Baudot50).with_reader(place, 0, LETTERS);
+            station.with_edges(Waiting { report, level })
+        };
+        for (place, edges, sum, level, good) in [
+            (Place::Frame(5), 4, 44, 0, true),
+            (Place::Frame(5), 5, 0, 0, false),
+            (Place::Frame(5), 4, -45, 0, false),
+            (Place::Frame(1), 0, 0, 2, true),
+            (Place::Frame(1), 0, 0, 3, false),
+            (Place::Hunting, 0, 0, 0, true),
+            (Place::Hunting, 0, 0, 2, false),
+            (Place::Waiting, 1, 0, 0, false),
+        ] {
+            let mut station = forged(place, edges, sum, level);
+            let answer = if good { SUCCESS } else { STATE };
+            assert_eq!(station.in_range(), good);
+            assert_eq!(station.preview(b"").0, answer);
+            assert_eq!(station.clone().offer(b""), answer);
+            assert_eq!(station.run(&[], &mut [], &mut []).answer, answer);
         }
     }
 }

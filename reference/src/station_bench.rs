@@ -1,12 +1,14 @@
-//! Stations of the engine and of the reference, side by side: ns a ms, where valgrind is there also
-//! instructions a ms, and the first and the millionth call. Then the engine's previews beside its
-//! offers. Part of `bench`.
+//! Stations of the engine and of the reference, side by side: ns a ms, in Baudot also with a report of
+//! the edges, where valgrind is there also instructions a ms, and the first and the millionth call. Then
+//! the engine's previews beside its offers. Part of `bench`.
 
 use crate::engine;
 use reference::answer::SUCCESS;
 use reference::demand3::Entries;
+use reference::drift::{Drifts, Report};
 use reference::line::{preamble, signal, text_codes, QUIET};
 use reference::mode::Mode;
+use reference::normal::Alphabet;
 use reference::random::Random;
 use reference::station::{Station, MOST_MS, MOST_WAITING};
 use std::hint::black_box;
@@ -25,18 +27,24 @@ const SHORT: usize = 20;
 const TURN: usize = 20;
 
 /// What a station has to do: the text it was offered, the text it is offered ahead of each `MOST_MS`
-/// ms, and what it hears.
+/// ms, and what it hears; and whether it is given a report.
 struct Work {
     name: &'static str,
     mode: Mode,
     text: Vec<u8>,
     turns: Vec<u8>,
     heard: Vec<u8>,
+    report: bool,
 }
 
-fn works(mode: Mode) -> [Work; 5] {
+/// The places of two works.
+const SENDING: usize = 1;
+const READING: usize = 2;
+
+fn works(mode: Mode) -> Vec<Work> {
     let random = &mut Random::new(18);
-    let work = |name, text, heard| Work { name, mode, text, turns: Vec::new(), heard };
+    let work =
+        |name, text, heard| Work { name, mode, text, turns: Vec::new(), heard, report: false };
     let mut reading = preamble(mode);
     while reading.len() < LENGTH {
         for code in text_codes(mode, &random.english(100)) {
@@ -52,13 +60,15 @@ fn works(mode: Mode) -> [Work; 5] {
     let none = Vec::new;
     let turns = text[..TURN].to_vec();
     let bursts = Work { turns, ..work("bursts of 20", none(), vec![QUIET; LENGTH]) };
-    [
+    let drift = Work { report: true, ..work("reading, report", none(), reading.clone()) };
+    let mut works = vec![
         work("idle", none(), vec![QUIET; LENGTH]),
         work("sending", text, vec![QUIET; LENGTH]),
         work("reading", none(), reading),
-        work("noise", none(), noise),
-        bursts,
-    ]
+    ];
+    works.extend((mode.alphabet() == Alphabet::Baudot).then_some(drift));
+    works.extend([work("noise", none(), noise), bursts]);
+    works
 }
 
 /// A row for each mode, work and length of a call.
@@ -73,7 +83,8 @@ pub fn rows() {
                 let name = format!("mode {}, {}, calls of {call} ms", mode.number(), work.name);
                 print!("{name:<42} {engine:>8.2} {reference:>10.2} {:>6.2}", reference / engine);
                 if counting {
-                    for (side, entry) in SIDES {
+                    for (side, entries) in SIDES {
+                        let entry = entries[usize::from(work.report)];
                         let count = instructions(side, entry, mode, number, call);
                         print!(" {:>9}", count.map_or("-".into(), |count| format!("{count:.1}")));
                     }
@@ -84,9 +95,11 @@ pub fn rows() {
     }
 }
 
-/// The two sides, and the function of each that callgrind is to count.
-const SIDES: [(&str, &str); 2] =
-    [("engine", "cq_station_run"), ("reference", "reference::station::Station::run*")];
+/// The two sides, and the functions of each that callgrind is to count, without a report and with one.
+const SIDES: [(&str, [&str; 2]); 2] = [
+    ("engine", ["cq_station_run", "cq_station_run_drift"]),
+    ("reference", ["reference::station::Station::run*"; 2]),
+];
 
 /// The instructions a ms of one pass, which another process of this program makes.
 fn instructions(side: &str, entry: &str, mode: Mode, work: usize, call: usize) -> Option<f64> {
@@ -124,8 +137,8 @@ fn ns(work: &Work, call: usize) -> [f64; 2] {
         best[0] = best[0].min(engine.time(work, call));
         best[1] = best[1].min(reference.time(work, call));
     }
-    let same = (engine.sent, engine.words, engine.count)
-        == (reference.sent, reference.words, reference.count);
+    let same = (engine.sent, engine.words, engine.count, engine.report)
+        == (reference.sent, reference.words, reference.count, reference.report);
     assert!(same, "the two differ");
     best
 }
@@ -136,13 +149,15 @@ struct Pass<S> {
     sent: Vec<u8>,
     words: Vec<u32>,
     count: usize,
+    report: Report,
 }
 
-impl<S: Entries> Pass<S> {
+impl<S: Drifts> Pass<S> {
     fn new(work: &Work) -> Pass<S> {
         let mut station = S::open(work.mode);
         assert_eq!(station.offer(&work.text), SUCCESS);
-        Pass { station, sent: vec![0; LENGTH], words: vec![0; LENGTH], count: 0 }
+        let (sent, words) = (vec![0; LENGTH], vec![0; LENGTH]);
+        Pass { station, sent, words, count: 0, report: Report::default() }
     }
 
     /// The ns a ms of some passes.
@@ -156,13 +171,17 @@ impl<S: Entries> Pass<S> {
 
     fn play(&mut self, work: &Work, call: usize) {
         let mut station = black_box(&self.station).clone();
-        self.count = 0;
+        (self.count, self.report) = (0, Report::default());
         let calls = black_box(&work.heard).chunks(call).zip(self.sent.chunks_mut(call));
         for (number, (heard, sent)) in calls.enumerate() {
             if !work.turns.is_empty() && number * call % MOST_MS < call {
                 assert_eq!(station.offer(&work.turns), SUCCESS);
             }
-            let ran = station.run(heard, sent, &mut self.words[self.count..]);
+            let words = &mut self.words[self.count..];
+            let ran = match work.report {
+                true => station.run_drift(heard, sent, words, &mut self.report),
+                false => station.run(heard, sent, words),
+            };
             assert_eq!(ran.answer, SUCCESS);
             self.count += ran.words;
         }
@@ -176,7 +195,7 @@ pub fn calls() {
     const CALLS: usize = 1_000_000;
     let name = format!("station, ns a call of {SHORT} ms");
     println!("\n{name:<42} {:>8} {:>10}", "engine", "reference");
-    let work = &works(Mode::Baudot45)[2];
+    let work = &works(Mode::Baudot45)[READING];
     let (engine, reference) =
         (call_times::<engine::Station>(work, CALLS), call_times::<Station>(work, CALLS));
     let mean = |ns: &[u32]| ns.iter().sum::<u32>() / ns.len() as u32;
@@ -195,7 +214,7 @@ pub fn calls() {
 pub fn previews() {
     println!("\n{:<42} {:>8} {:>10} {:>6}", "station, ns a call", "offer", "preview", "ratio");
     for mode in Mode::ALL {
-        let [_, Work { text: english, .. }, ..] = works(mode);
+        let english = works(mode)[SENDING].text.clone();
         let mut texts = vec![("English", english)];
         if matches!(mode, Mode::Baudot45 | Mode::Baudot50) {
             texts.push(("1A1A..", b"1A".repeat(MOST_WAITING / 2)));

@@ -293,7 +293,7 @@ impl Session<'_> {
     fn echo(&mut self) {
         let (mut sent, mut words) = ([0; MOST_MS], [0; MOST_MS]);
         let ms = self.random.below(MOST_MS);
-        let mut copy = self.reference;
+        let mut copy = self.reference.clone();
         copy.run(&[QUIET; MOST_MS][..ms], &mut sent, &mut words);
         let late = self.random.below(300);
         let heard = [&[QUIET; 300][..late], &sent[..ms]].concat();

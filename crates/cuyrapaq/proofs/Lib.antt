@@ -1,3 +1,5 @@
 pub mod Steps
 pub mod Operands
+pub mod Inner
 pub mod Lent
+pub mod Running

@@ -110,12 +110,12 @@ pub extern "C" fn cq_station_run_drift(
     let c = station.core;
     let w = station.edges;
     let r = *report;
-    let ran = station_entry::run(c, w, &mut station.chars, r, true, heard, sent, words);
-    station.core = ran.core;
-    station.edges = ran.edges;
-    *report = ran.report;
+    let counted = station_entry::run(c, w, &mut station.chars, r, true, heard, sent, words);
+    station.core = counted.core;
+    station.edges = counted.edges;
+    *report = counted.report;
     StationRan {
-        answer: ran.answer,
-        words: ran.words,
+        answer: counted.answer,
+        words: counted.words,
     }
 }

@@ -1,13 +1,13 @@
 -- How many edges a report has after some ms: each ms adds at most one. And reports stay in range.
-use mathlib.Core.Path.{_≡_, _∙_, refl, sym, ap, subst}
+use mathlib.Core.Path.{_≡_, refl, sym, subst}
 use mathlib.Core.Bool.{Bool, true, false, cond}
 use mathlib.Core.List.{List, [], _∷_}
-use Prim.Native.Nat.{ℕ, suc, _+_, _-_, _≤_, _<_}
+use Prim.Native.Nat.{ℕ, _+_, _-_, _≤_, _<_}
 use native.Mathlib.Omega.{arith}
 use lib.Dec.{T, eqb, leb}
 use lib.ListN.{length}
 use borrow.Author.Tests.{lt-leb}
-use Rattle.lists.proofs.Lists.{either, either-by, by-test}
+use Rattle.lists.proofs.Lists.{either, by-test}
 use Rattle.alphabet.specs.declared.Mode.{Mode}
 use Rattle.alphabet.specs.Modes.{elementOf}
 use Rattle.signal.specs.Signal.{parityOf}
@@ -22,8 +22,8 @@ use Rattle.edges.specs.declared.Report.{Report}
 use Rattle.edges.specs.declared.Edges.{Edges}
 use Rattle.edges.specs.Edges.{noEdge, noEdges, oneEdge, joined, isEdge, displacement, withMs, isMeasured, isCode, edgesMs, countedMs}
 use Rattle.edges.specs.code.Bounds.{ReportOf}
-use Rattle.edges.specs.code.Measuring.{edgesOver, reportOver, withAll}
-use Rattle.edges.proofs.Range.{more-of, none-of, one-of, joined-of, joined-edges, element-few, element-some, edges-measured, counted-measured, none-counted}
+use Rattle.edges.specs.code.Measuring.{edgesOver, reportOver}
+use Rattle.edges.proofs.Range.{none-of, one-of, joined-of, joined-edges, element-few, element-some, edges-measured, counted-measured, none-counted}
 
 -- ---- a code ends its frame
 

@@ -6,7 +6,7 @@ use native.Mathlib.Omega.{arith}
 use lib.ListN.{length, take, drop, length-drop}
 use lib.Seq.{take-all}
 use Rattle.edges.specs.declared.Edges.{Edges}
-use Rattle.edges.specs.Edges.{noEdges, withMs}
+use Rattle.edges.specs.Edges.{noEdges}
 use Rattle.edges.specs.code.Measuring.{withAll}
 use Rattle.edges_runs.specs.code.Latest.{OneMs, Falls, Begins, On, Goes}
 

@@ -4,17 +4,16 @@ use mathlib.Core.Bool.{Bool, true, false, cond}
 use mathlib.Core.List.{List, [], _∷_, _++_}
 use Prim.Native.Nat.{ℕ, zero, suc, _+_, _-_, _≤_, _<_}
 use native.Mathlib.Omega.{arith}
-use lib.Dec.{T, eqb, leb, ltb}
-use lib.ListN.{length, getD, take, drop, length-take}
+use lib.Dec.{T, ltb}
+use lib.ListN.{length, getD, take, length-take}
 use lib.Seq.{take-add, take-all}
 use borrow.Author.Tests.{ltb-true, ltb-false}
 use Rattle.lists.specs.Steps.{stateAfter}
 use Rattle.lists.proofs.Steps.{after-append}
 use Rattle.alphabet.specs.declared.Mode.{Mode}
 use Rattle.alphabet.specs.declared.Mode.the-variants.{Baudot45, Baudot50, Dtmf, Edt}
-use Rattle.alphabet.specs.Modes.{elementOf, frameCodes}
+use Rattle.alphabet.specs.Modes.{elementOf}
 use Rattle.frames.specs.declared.Frame.{Frame}
-use Rattle.frames.specs.declared.Found.{Found}
 use Rattle.frames.specs.declared.FrameRead.{FrameRead}
 use Rattle.frames.specs.Samples.{Placed, samplesOf}
 use Rattle.frames.specs.Frames.{frameStep, frameNext, frameFound, frameAfter}
@@ -25,7 +24,7 @@ use Rattle.frames_runs.specs.code.Passing.{frameAt}
 use Rattle.frames_runs.proofs.Walking.{part}
 use Rattle.edges.specs.declared.Report.{Report}
 use Rattle.edges.specs.declared.Edges.{Edges}
-use Rattle.edges.specs.Edges.{noEdge, noEdges, joined, withMs, isMeasured, isCode, goingOn, ending, edgesMs, countedMs}
+use Rattle.edges.specs.Edges.{noEdge, noEdges, joined, withMs, isMeasured, goingOn, ending, edgesMs, countedMs}
 use Rattle.edges.specs.code.Bounds.{ReportOf, EdgesOf}
 use Rattle.edges.specs.code.Measuring.{edgesOver, reportOver}
 use Rattle.edges.proofs.Range.{more-of, waiting-few, counted-measured, element-few, element-some}
@@ -33,7 +32,7 @@ use Rattle.edges_runs.specs.declared.Sampled.{Sampled}
 use Rattle.edges_runs.specs.code.Latest.{Goes}
 use Rattle.edges_runs.specs.code.Counting.{Clean, cleanDigits, frameOf, Reached, CountOf, SampledAs}
 use Rattle.edges_runs.proofs.Reading.{report-append, goes-over, walks-after, walks-report}
-use Rattle.edges_runs.proofs.Bound.{Fine, fine-of, report-most, report-fine}
+use Rattle.edges_runs.proofs.Bound.{fine-of, report-most, report-fine}
 use Rattle.edges_runs.proofs.Sampling.{clean-next, reached-clean, take-next}
 
 -- ---- a reader whose digits are as they are to be

@@ -1,26 +1,27 @@
 -- A reader of frames: its edges over many ms, and a report of those that count.
-use mathlib.Core.Path.{_≡_, _∙_, refl, sym, ap, subst}
+use mathlib.Core.Path.{_≡_, _∙_, refl, ap}
 use mathlib.Core.Bool.{Bool, true, false, cond}
 use mathlib.Core.List.{List, [], _∷_, _++_}
 use mathlib.Core.Logic.{_⊎_, inl, inr}
-use Prim.Native.Nat.{ℕ, zero, suc, _+_, _-_, _≤_, _<_}
+use Prim.Native.Nat.{ℕ, _+_, _-_, _≤_, _<_}
 use native.Mathlib.Omega.{arith}
-use lib.Dec.{eqb, leb}
-use borrow.Author.Tests.{eqb-true, leb-false, lt-leb}
+use lib.Dec.{leb}
+use borrow.Author.Tests.{leb-false, lt-leb}
 use Rattle.lists.specs.Steps.{stateAfter}
-use Rattle.lists.proofs.Lists.{either-by, by-test}
+use Rattle.lists.proofs.Lists.{by-test}
 use Rattle.alphabet.specs.declared.Mode.{Mode}
 use Rattle.alphabet.specs.Modes.{elementOf}
 use Rattle.frames.specs.declared.Frame.{Frame}
 use Rattle.frames.specs.declared.Found.{Found}
 use Rattle.frames.specs.declared.Found.the-variants.{Nothing}
 use Rattle.frames.specs.Samples.{samplesOf}
-use Rattle.frames.specs.Frames.{frameStep, frameNext, frameFound, frameAfter}
-use Rattle.frames_runs.specs.code.Passing.{frameAt, Walks}
+use Rattle.frames.specs.Frames.{frameNext, frameFound, frameAfter}
+use Rattle.frames_runs.specs.code.Passing.{Walks}
 use Rattle.edges.specs.declared.Report.{Report}
 use Rattle.edges.specs.declared.Edges.{Edges}
 use Rattle.edges.specs.Edges.{noEdge, noEdges, joined, withMs, isMeasured, isCode, edgesMs, countedMs}
 use Rattle.edges.specs.code.Measuring.{edgesOver, reportOver}
+use Rattle.edges.proofs.Joining.{joined-none}
 use Rattle.edges.proofs.Places.{next-place}
 use Rattle.edges.proofs.Range.{edges-measured, counted-measured, none-counted}
 use Rattle.edges_runs.specs.code.Latest.{OneMs, Falls, Begins, On, Goes}
@@ -32,11 +33,6 @@ Outside f w = f .place < 2 → w ≡ noEdges
 -- of a report of no edge all is 0
 abbrev pub Plain : Report → Type 0
 Plain r = r .edges ≡ 0 → r ≡ noEdge
-
-pub joined-none : (r : Report) → Plain r → joined r noEdge ≡ r
-unfolding joined
-joined-none r h =
-    either-by (λ (q : Report). q ≡ r) (eqb (r .edges) 0) (λ e. sym (h (eqb-true (r .edges) 0 e))) (λ e. refl)
 
 module _ (mode : Mode) where
   abbrev e : ℕ

@@ -1,18 +1,17 @@
 -- The edges of one frame: over ms behind others, and over ms of one level.
 use mathlib.Core.Path.{_≡_, _∙_, refl, sym, ap}
-use mathlib.Core.Bool.{Bool, true, false, cond, _&&_, _||_}
+use mathlib.Core.Bool.{false}
 use mathlib.Core.List.{List, [], _∷_, _++_}
 use Prim.Native.Nat.{ℕ, zero, suc, _+_, _-_, _≤_, _<_}
 use native.Mathlib.Nat.{add-zero}
 use native.Mathlib.Omega.{arith}
-use lib.Dec.{eqb}
 use lib.ListN.{length, getD, take, drop, length-take, length-drop}
 use lib.Seq.{getD-take, getD-drop}
 use borrow.Author.Tests.{ne-eqb}
 use Rattle.lists.specs.code.Places.{Through}
 use Rattle.frames_runs.proofs.Walking.{part, part-cons, part-chain}
 use Rattle.edges.specs.declared.Edges.{Edges}
-use Rattle.edges.specs.Edges.{isEdge, edges, withMs}
+use Rattle.edges.specs.Edges.{isEdge, withMs}
 use Rattle.edges.specs.code.Measuring.{withAll}
 
 pub with-append : (e m : ℕ) (w : Edges) (xs ys : List ℕ)

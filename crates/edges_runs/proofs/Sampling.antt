@@ -27,10 +27,10 @@ use Rattle.edges.specs.declared.Report.{Report}
 use Rattle.edges.specs.declared.Edges.{Edges}
 use Rattle.edges.specs.Edges.{noEdge, joined, withMs, isCode}
 use Rattle.edges.specs.code.Bounds.{ReportOf}
+use Rattle.edges.proofs.Joining.{joined-none}
 use Rattle.edges_runs.specs.code.Latest.{On, Goes}
 use Rattle.edges_runs.specs.code.Counting.{Clean, frameOf, Reached, withFound, SampledAs}
 use Rattle.edges_runs.proofs.Going.{goes-append, goes-one}
-use Rattle.edges_runs.proofs.Reading.{joined-none}
 
 -- ---- a reader outside a frame has no digits
 
@@ -97,9 +97,6 @@ code-in samples (suc (suc place)) digits heard t = omega arith
 -- ---- the loop from place to place
 
 module _ (mode : Mode) (heard : List ℕ) (f : Frame) (i : ℕ) where
-  abbrev passed : ℕ → ℕ → ℕ → Bool → Passed
-  passed place digits to on = record { place = place; digits = digits; to = to; on = on }
-
   pub reached-start : (on : Bool) → FrameOf mode f → i ≤ length heard
       → Reached mode heard f i (record { place = f .place; digits = f .digits; to = i; on = on })
   reached-start on h l = record {
@@ -152,8 +149,8 @@ module _ (e before : ℕ) (w : Edges) (heard : List ℕ) (to at : ℕ) (found : 
   x = getD heard to 0
 
   pub count-code : to < length heard → (isCode found ≡ true → 2 ≤ at) → Goes e before w (take to heard) at v
-      → (u : Edges) → ((w' : Edges) → Goes e before w (take (to + 1 - 0) heard) (at + 1) w' → u ≡ w') → isCode found ≡ true
-      → joined r (u .seen) ≡ withFound e at v x found r
+      → (u : Edges) → ((w' : Edges) → Goes e before w (take (to + 1 - 0) heard) (at + 1) w' → u ≡ w')
+      → isCode found ≡ true → joined r (u .seen) ≡ withFound e at v x found r
   count-code l h g u all t =
       let z : to + 1 - 0 ≡ to + 1 = omega arith in
       let a = withMs e (at - 1) v x in

@@ -7,7 +7,7 @@ use frames::Frame;
 use frames_runs::Passed;
 ghost use mathlib.Core.Path.{_≡_};
 ghost use mathlib.Core.Bool.{true};
-ghost use Prim.Native.Nat.{ℕ, _-_, _≤_, _<_};
+ghost use Prim.Native.Nat.{_-_, _≤_, _<_};
 ghost use lib.ListN.{length, getD, take, drop};
 ghost use Rattle.frames.specs.code.Bounds.{Framed, FrameOf};
 ghost use Rattle.frames_runs.specs.code.Passing.{frameAt};
@@ -36,7 +36,7 @@ pub fn with_slice(e: usize, m: usize, w: Edges, heard: &[u8], from: usize, to: u
     while i < to {
         let x = heard[i];
         along = edges::with_ms(e, m + (i - from), along, x);
-        i = lists::places::through(heard, i + 1, to, x);
+        i = lists::places::through_run(heard, i + 1, to, x);
     }
     along
 }

@@ -13,6 +13,7 @@ use reference::annex::LETTERS;
 use reference::answer::SUCCESS;
 use reference::baudot::{self, FRESH};
 use reference::calling::{Set, State, MOST};
+use reference::drift::Report;
 use reference::random::Random;
 use reference::station::Station;
 use std::collections::BTreeSet;
@@ -62,6 +63,7 @@ fn sizes() {
         println!("{name:<42} {engine:>8} {reference:>10}");
     };
     row("station", size_of::<engine::Station>(), size_of::<Station>());
+    row("report of edges", size_of::<Report>(), size_of::<Report>());
     row("calling set", size_of::<State>(), size_of::<Set>());
     println!("\n{:<42} {:>8} {:>10}  called", "bytes of a library", "code", "constants");
     for name in ["cuyrapaq"] {

@@ -1,9 +1,9 @@
 //! Compares the engine with the reference on random conversions, on a calling set's random ms, on
 //! every head of a Baudot burst, on every spoiled frame, on stations' random calls, refused and
-//! damaged ones among them, and on previews, and checks the ceiling of sending time, what a fitter is
-//! told of wrong settings, and demand 3 with the engine as both stations. Arguments: number of cases
-//! (one sending, one reading, four ms of the calling set, and in each mode 35 ms of stations and 200 ms
-//! that previews tell), seed. Exit 1 on a difference.
+//! damaged ones among them, on previews and on reports of edges, and checks the ceiling of sending time,
+//! how far edges may be moved, what a fitter is told of wrong settings, and demand 3 with the engine as
+//! both stations. Arguments: number of cases (one sending, one reading, four ms of the calling set, and
+//! in each mode 35 ms of stations and 200 ms that previews tell), seed. Exit 1 on a difference.
 
 #[path = "../burst_heads.rs"]
 mod burst_heads;
@@ -13,6 +13,14 @@ mod calling_sessions;
 mod ceilings;
 #[path = "../damaged_stations.rs"]
 mod damaged_stations;
+#[path = "../drift_lines.rs"]
+mod drift_lines;
+#[path = "../drift_ranges.rs"]
+mod drift_ranges;
+#[path = "../drift_tolerance.rs"]
+mod drift_tolerance;
+#[path = "../drifts.rs"]
+mod drifts;
 #[path = "../engine.rs"]
 mod engine;
 #[path = "../fault_words.rs"]
@@ -88,6 +96,9 @@ fn main() {
     println!("{}", damaged_stations::check(&mut random, 10_000));
     println!("{}", previews::compare(&mut random, (200 * cases).max(50_000_000)));
     println!("{}", ceilings::compare(&mut random));
+    println!("{}", drifts::compare(&mut random));
+    println!("{}", drift_ranges::check(&mut random));
+    println!("{}", drift_tolerance::check(&mut random));
     for mode in Mode::ALL {
         println!("{}", demand_3(mode, seed, (5 * cases as usize).max(500_000)));
     }

@@ -1,6 +1,5 @@
 -- `at_sample` meets its contract.
-use mathlib.Core.Path.{_≡_, _∙_, sym, ap, subst}
-use native.Mathlib.Omega.{arith}
+use mathlib.Core.Path.{_∙_, sym, ap}
 use borrow.Author.Needs.{needs}
 use Rattle.frames.specs.declared.FrameRead.{FrameRead}
 use Rattle.frames.specs.Samples.{samplesOf}

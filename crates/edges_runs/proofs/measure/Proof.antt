@@ -1,5 +1,5 @@
 -- `measure` meets its contract. The invariant: the reader and the report are those of the ms so far.
-use mathlib.Core.Path.{_≡_, _∙_, sym, ap, subst}
+use mathlib.Core.Path.{_∙_, sym, subst}
 use Prim.Native.Nat.{ℕ, _+_, _-_, _<_}
 use native.Mathlib.Omega.{arith}
 use lib.ListN.{length}
@@ -63,7 +63,8 @@ returns : tie.Need-returns Inv-loop μ-loop
 returns c =
     let s = c .before .before .before in
     let none = is-unmeasured (s .args .mode) (sym (c .before .element .ensures) ∙ c .if1 .taken) in
-    sym (unmeasured-report (s .args .mode) none (s .args .f) (s .args .w) (s .args .r) (s .args .heard .now) (s .pre .1 .1 .0 .none))
+    sym (unmeasured-report (s .args .mode) none (s .args .f) (s .args .w) (s .args .r) (s .args .heard .now)
+    (s .pre .1 .1 .0 .none))
 
 cast-place : tie.Need-cast-place Inv-loop μ-loop
 cast-place c = search needs

@@ -1,5 +1,4 @@
 -- `with_slice` meets its contract. The invariant: what is left gives what the whole slice gives.
-use mathlib.Core.Path.{_≡_}
 use Prim.Native.Nat.{_-_}
 use native.Mathlib.Omega.{arith}
 use borrow.Author.Needs.{needs}
@@ -41,16 +40,16 @@ with-ms-requires c κs =
     let s = start-of (t .before) .pre in
     (s .some, (s .few, along-few _ _ _ _ _ _ s _ _ (t .before .loop .inv)))
 
-add-through : tie.Need-add-through Inv-loop μ-loop
-add-through c = search needs
+add-through-run : tie.Need-add-through-run Inv-loop μ-loop
+add-through-run c = search needs
 
-through-requires : tie.Need-through-requires Inv-loop μ-loop
-through-requires c κs = search needs
+through-run-requires : tie.Need-through-run-requires Inv-loop μ-loop
+through-run-requires c κs = search needs
 
 loop-less : tie.Need-loop-less Inv-loop μ-loop
 loop-less c =
     let l = turn-of (c .before) .loop-test .taken in
-    let low = c .through .ensures .low in
+    let low = c .through-run .ensures .low in
     omega arith
 
 loop-again : tie.Need-loop-again Inv-loop μ-loop
@@ -58,7 +57,7 @@ loop-again c =
     let t = turn-of (c .before) in
     let s = start-of (t .before) .pre in
     along-turn _ _ _ _ _ _ s _ _ (t .before .loop .inv) (t .loop-test .taken) _ (c .before .with-ms .ensures) _
-    (c .through .ensures)
+    (c .through-run .ensures)
 
 returns : tie.Need-returns Inv-loop μ-loop
 returns c =
@@ -77,8 +76,8 @@ with-slice-spec =
     sub-with-ms
     add-with-ms
     with-ms-requires
-    add-through
-    through-requires
+    add-through-run
+    through-run-requires
     loop-less
     loop-again
     returns)

@@ -1,5 +1,5 @@
 -- Places of a list.
-use Prim.Native.Nat.{ℕ, _+_, _≤_, _<_}
+use Prim.Native.Nat.{ℕ, _+_, _*_, _≤_, _<_}
 use mathlib.Core.Path.{_≡_}
 use mathlib.Core.List.{List}
 use lib.ListN.{length, getD}
@@ -33,3 +33,13 @@ pub record Back (xs : List ℕ) (from end x to : ℕ) : Type 0 where
   pub high : to ≤ end
   pub same : (k : ℕ) → to ≤ k → k < end → getD xs k 0 ≡ x
   pub other : (k : ℕ) → from ≤ k → k + 1 ≡ to → getD xs k 0 ≡ x → ⊥
+
+-- Two, four and eight bytes of a list as one number, the first lowest.
+abbrev pub twoAt : List ℕ → ℕ → ℕ
+twoAt xs i = getD xs i 0 + getD xs (i + 1) 0 * 256
+
+abbrev pub fourAt : List ℕ → ℕ → ℕ
+fourAt xs i = twoAt xs i + twoAt xs (i + 2) * 65_536
+
+abbrev pub eightAt : List ℕ → ℕ → ℕ
+eightAt xs i = fourAt xs i + fourAt xs (i + 4) * 4_294_967_296

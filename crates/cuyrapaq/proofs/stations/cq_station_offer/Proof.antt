@@ -1,5 +1,6 @@
--- `cq_station_offer` meets its contract: a walk of its MIR, by hand. The core of the station that the host lends is
--- loaded, its characters are lent on to `offer` with the text, and the core that it gives is stored beside them.
+-- `cq_station_offer` meets its contract: a walk of its MIR, by hand. The core and the edges of the station that the
+-- host lends are loaded, its characters are lent on to `offer` with the text, and the core that it gives is stored
+-- beside them.
 use mathlib.Core.Path.{_≡_, refl}
 use Prim.Native.Nat.{ℕ, _<_, _^_, _+_}
 use mathlib.Core.List.{[], _∷_, List}
@@ -42,18 +43,21 @@ use denote.Triple.Clauses.{ensured, lasts}
 use Rattle.half_duplex.specs.declared.Core.{Core}
 use Rattle.half_duplex.proofs.Core as K
 use Rattle.half_duplex.proofs.Core.Laws as K′
-use Rattle.station.specs.declared.Station.{Station}
+use Rattle.edges.specs.declared.Edges.{Edges}
+use Rattle.edges.proofs.Edges as D
+use Rattle.edges.proofs.Edges.Laws as D′
+use Rattle.station.specs.declared.Measured.{Measured}
 use Rattle.station.specs.declared.Answered.{Answered}
-use Rattle.station.specs.Station.{station}
 use Rattle.station.specs.Entries.{offerOf}
 use Rattle.station.proofs.Answered as R
 use Rattle.station.proofs.Answered.Laws as R′
-use Rattle.station.proofs.Station as T
+use Rattle.station.proofs.Measured as T
 use Rattle.station.proofs.offer as g
 use Rattle.station.proofs.offer.Symbol as g-def
 use Rattle.station.proofs.offer.Symbol.{name as #station·offer}
 use Rattle.station.proofs.offer.Met as g-thm
-use Rattle.cuyrapaq.proofs.Lent.{Chars, core-vals, past, lent-ref, lends-on, takes-back, loads-core, points-chars, stores-core}
+use Rattle.cuyrapaq.proofs.Lent.{Chars, core-vals, core-val, edges-vals, edges-val, past, past-core, lent, lent-ref, lends-on, takes-back, points-chars}
+use Rattle.cuyrapaq.proofs.Inner.{loads-field, stores-field}
 use Rattle.cuyrapaq.proofs.Operands.{reads}
 use Rattle.cuyrapaq.proofs.Steps.{lands-struct, frees-at}
 use Rattle.cuyrapaq.proofs.stations.cq_station_offer.Key.{name as #cuyrapaq·stations·cq-station-offer}
@@ -67,7 +71,7 @@ stayed = (stay-ref (0 ∷ []) tt (plain (λ _. T.the-row)), (stay-none-slice (1 
 
 -- what the callee leaves of its parameters: the characters' last list
 abbrev Last : Type 0
-Last = Unit {0} × (List ℕ × (Unit {0} × Unit {0}))
+Last = Unit {0} × (Unit {0} × (List ℕ × (Unit {0} × Unit {0})))
 
 module _ {M : Type 1} (𝓤 : URA M) (H : Heap 𝓤) (A : Atoms 𝓤) (at-mem : Memory → SProp 𝓤) (run : Routine → Fun 𝓤) where
   -- the callee's contract
@@ -76,8 +80,8 @@ module _ {M : Type 1} (𝓤 : URA M) (H : Heap 𝓤) (A : Atoms 𝓤) (at-mem : 
 
 module _ {M : Type 1} (𝓤 : URA M) (H : Heap 𝓤) (A : Atoms 𝓤) (W : Given 𝓤 H A) (at-mem : Memory → SProp 𝓤)
     (run : Routine → Fun 𝓤)
-    (κ κ₁ : Lft) (q q₁ : Share) (b o : ℕ) (γ : GName) (h : Station) (t : RefT (List ℕ)) where
-  abbrev x : RefT Station × (RefT (List ℕ) × Unit {0})
+    (κ κ₁ : Lft) (q q₁ : Share) (b o : ℕ) (γ : GName) (h : Measured) (t : RefT (List ℕ)) where
+  abbrev x : RefT Measured × (RefT (List ℕ) × Unit {0})
   x = (record { ptr = (b, o); name = γ; now = h }, (t, tt))
 
   abbrev tv : Val
@@ -88,7 +92,7 @@ module _ {M : Type 1} (𝓤 : URA M) (H : Heap 𝓤) (A : Atoms 𝓤) (W : Given
 
   -- what the locals hold, v being what the callee gives; before it is called, and after it has given r
   abbrev locals : Val → List Val
-  locals v = vunit ∷ vptr b o ∷ tv ∷ LL.val K.the-type K′.the-laws (h .core) ∷ v ∷ vptr b (o + past) ∷ []
+  locals v = vunit ∷ vptr b o ∷ tv ∷ core-val (h .core) ∷ edges-val (h .edges) ∷ v ∷ vptr b (o + past) ∷ []
 
   abbrev before : List Val
   before = locals vunit
@@ -101,7 +105,7 @@ module _ {M : Type 1} (𝓤 : URA M) (H : Heap 𝓤) (A : Atoms 𝓤) (W : Given
 
   -- what the callee ensures of its result and of the characters' last list
   abbrev SaysStation : Answered → List ℕ → Type 0
-  SaysStation r cs = station (r .core) cs ≡ offerOf h (t .now) .station
+  SaysStation r cs = lent (r .core) (h .edges) cs ≡ offerOf h (t .now) .station
 
   abbrev SaysAnswer : Answered → Type 0
   SaysAnswer r = r .answer ≡ offerOf h (t .now) .answer
@@ -116,7 +120,7 @@ module _ {M : Type 1} (𝓤 : URA M) (H : Heap 𝓤) (A : Atoms 𝓤) (W : Given
   -- what the walk has at its end, with the result r and the last list cs
   abbrev Held : Answered → List ℕ → List (Item 𝓤)
   Held r cs =
-      ‵ (fobs γ (T.the-row .coded .code (station (r .core) cs))) ∷ ‵ (fbor κ (Body (mem T.the-row) b o γ))
+      ‵ (fobs γ (T.the-row .coded .code (lent (r .core) (h .edges) cs))) ∷ ‵ (fbor κ (Body (mem T.the-row) b o γ))
       ∷ ‵ (flft κ q)
       ∷ text-token ∷ text ∷ []
 
@@ -126,7 +130,7 @@ module _ {M : Type 1} (𝓤 : URA M) (H : Heap 𝓤) (A : Atoms 𝓤) (W : Given
       qed W (Held r cs) ∵
       suffices ! _ (ends-at 𝓤 H A f.ended stayed (f.clauses 𝓤 H A at-mem run) W
       (((κ, (κ₁, tt)), (q, (q₁, tt)), tt, x, at), tt)
-      (vint w8 (r .answer)) (r .answer) (station (r .core) cs, (tt, tt)) (tt, (tt, tt))) $
+      (vint w8 (r .answer)) (r .answer) (lent (r .core) (h .edges) cs, (tt, tt)) (tt, (tt, tt))) $
       says ! (ea, es) $
       move ! (2 ∷ 3 ∷ []) $ join ! $ frame ! $ feqI ! (List Val) (vptr b o ∷ []) (vptr b o ∷ []) refl $ fjoin3 ! $
       nothing ! $ move ! (2 ∷ 0 ∷ []) $ fjoin ! $ move ! (1 ∷ 0 ∷ []) $ fjoin ! $
@@ -134,11 +138,11 @@ module _ {M : Type 1} (𝓤 : URA M) (H : Heap 𝓤) (A : Atoms 𝓤) (W : Given
 
   module _ (α : ℕ) (γ₁ : GName) where
     -- what the callee is passed, the characters for a lifetime of their own
-    abbrev args : Core × (RefT (List ℕ) × (RefT (List ℕ) × Unit {0}))
-    args = (h .core, (lent-ref b o γ₁ (h .chars), (t, tt)))
+    abbrev args : Core × (Edges × (RefT (List ℕ) × (RefT (List ℕ) × Unit {0})))
+    args = (h .core, (h .edges, (lent-ref b o γ₁ (h .chars), (t, tt))))
 
-    abbrev arg-vals : List Val × (List Val × (List Val × Unit {0}))
-    arg-vals = (core-vals (h .core), (vptr b (o + past) ∷ [], (tv ∷ [], tt)))
+    abbrev arg-vals : List Val × (List Val × (List Val × (List Val × Unit {0})))
+    arg-vals = (core-vals (h .core), (edges-vals (h .edges), (vptr b (o + past) ∷ [], (tv ∷ [], tt))))
 
     abbrev to : G 𝓤 H A at-mem run .Ghost
     to = (((α ∷ [], (κ₁, tt)), (fullShare, (q₁, tt)), tt, args, arg-vals), tt)
@@ -149,8 +153,8 @@ module _ {M : Type 1} (𝓤 : URA M) (H : Heap 𝓤) (A : Atoms 𝓤) (W : Given
     asked : ent 𝓤 (onEntry 𝓤 H A g.signature (α ∷ [], (κ₁, tt)) (fullShare, (q₁, tt)) args arg-vals)
         (G 𝓤 H A at-mem run .pre to)
     asked =
-        qed W (tokens ∷ ‵ (owns (K.the-row ∷ MutRef (named 0) (α ∷ []) Chars ∷ ShrSlice (named 1) κ₁ u8 ∷ []) args
-        arg-vals) ∷ []) ∵
+        qed W (tokens ∷ ‵ (owns (K.the-row ∷ D.the-row ∷ MutRef (named 0) (α ∷ []) Chars ∷ ShrSlice (named 1) κ₁ u8
+        ∷ []) args arg-vals) ∷ []) ∵
         join ! $ frame ! $ done !
 
   module _ (C : Calls 𝓤 H) (Λ : Loops 𝓤 H) (fm : FmC 𝓤 H (W .laws) C)
@@ -167,25 +171,23 @@ module _ {M : Type 1} (𝓤 : URA M) (H : Heap 𝓤) (A : Atoms 𝓤) (W : Given
         move ! (3 ∷ []) $ fsplit3 ! $ drop ! $ move ! (0 ∷ 1 ∷ 5 ∷ []) $
         -- [obs; the borrow; the token; what text owns, twice; true; the text's token]
         enter ! C Λ code.function (vptr b o ∷ tv ∷ []) _ $
-        alloc1 ! (λ l₀. alloc1 ! (λ l₁. alloc1 ! (λ l₂. alloc1 ! (λ l₃. alloc1 ! (λ l₄. alloc1 ! (λ l₅. alloc0 ! $
-        params1 ! $ pass1 ! (init ! 8 refl (tt, tt)) $
-        pass1 ! (init ! 6 refl (shr-slice-lawful 𝓤 H A W (named 1) κ₁ u8 .typed t _ gt .0)) $ pass0 ! $
+        alloc1 ! (λ l₀. alloc1 ! (λ l₁. alloc1 ! (λ l₂. alloc1 ! (λ l₃. alloc1 ! (λ l₄. alloc1 ! (λ l₅. alloc1 ! (λ l₆.
+        alloc0 ! $ params1 ! $ pass1 ! (init ! 10 refl (tt, tt)) $
+        pass1 ! (init ! 8 refl (shr-slice-lawful 𝓤 H A W (named 1) κ₁ u8 .typed t _ gt .0)) $ pass0 ! $
         -- the station is opened, and its characters are lent on
-        lft-new ! tt (λ α. move ! (13 ∷ 14 ∷ 15 ∷ []) $ lends-on ! tt (named 0) (α ∷ []) b o h (λ γ₁.
-        move ! (1 ∷ []) $
-        peeks ! K.the-row (Is K.the-row) (shows 𝓤 H A K.the-row) (h .core) (core-vals (h .core)) (λ was.
-        move ! (1 ∷ 0 ∷ []) $
-        -- [the core's cell; what it owns; the reference to the characters; what is kept; their token; _5; …; _4; …; and
-        -- so on; _1; …; room for _0; …; text, twice; true; its token]
-        loads-core ! 13 0 9 (h .core) was refl refl refl refl refl $
-        points-chars ! 13 5 refl refl refl (tt, tt) $
+        lft-new ! tt (λ α. move ! (15 ∷ 16 ∷ 17 ∷ []) $ lends-on ! tt (named 0) (α ∷ []) b o h (λ γ₁ was waited.
+        -- [the core's cell; the edges'; what each owns; the reference to the characters; what is kept; their token; _6;
+        -- …; _5; …; and so on; _1; …; room for _0; …; text, twice; true; its token]
+        loads-field ! 17 0 13 0 K.the-type K′.the-laws (h .core) was refl refl refl refl refl $
+        loads-field ! 17 1 11 past-core D.the-type D′.the-laws (h .edges) waited refl refl refl refl refl $
+        points-chars ! 17 7 refl refl refl (tt, tt) $
         -- what the callee asks
-        nothing ! $ move ! (18 ∷ 0 ∷ []) $ fjoin ! $ move ! (3 ∷ 0 ∷ []) $ fjoin ! $ move ! (2 ∷ 0 ∷ []) $ fjoin ! $
-        move ! (3 ∷ 18 ∷ []) $ join ! $
+        nothing ! $ move ! (22 ∷ 0 ∷ []) $ fjoin ! $ move ! (5 ∷ 0 ∷ []) $ fjoin ! $ move ! (4 ∷ 0 ∷ []) $ fjoin ! $
+        move ! (3 ∷ 0 ∷ []) $ fjoin ! $ move ! (4 ∷ 21 ∷ []) $ join ! $
         use2 W (raw (G 𝓤 H A at-mem run .pre (to α γ₁))) (asked α γ₁) $
         calls-at ! fm (G 𝓤 H A at-mem run) known (to α γ₁)
-        (and-then ! (reads ! 13 before refl tt refl) (and-then ! (reads ! 13 before refl tt refl)
-        (and-then ! (reads ! 13 before refl tt refl) (no-more !))))
+        (and-then ! (reads ! 16 before refl tt refl) (and-then ! (reads ! 16 before refl tt refl)
+        (and-then ! (reads ! 16 before refl tt refl) (and-then ! (reads ! 16 before refl tt refl) (no-more !)))))
         (λ v.
         -- what it gives
         use1 W (later (some (λ (r : Answered). (tokens α γ₁ ⊛ ‵ (R.the-row .own r (v ∷ [])))
@@ -193,25 +195,26 @@ module _ {M : Type 1} (𝓤 : URA M) (H : Heap 𝓤) (A : Atoms 𝓤) (W : Given
         await ! tt $ pick ! (λ r.
         split ! $ move ! (1 ∷ []) $
         use1 W (some (λ (zs : Last). ‵ (lasts g.ended (α ∷ [], (κ₁, tt)) (args α γ₁) zs)
-        ⊛ raw (fact 𝓤 (SaysStation r (zs .1 .0))) ⊛ raw (fact 𝓤 (SaysAnswer r)))) (id⊢ 𝓤 _) $ pick ! (λ zs.
-        split ! $ move ! (1 ∷ []) $ split ! $ heard ! (SaysStation r (zs .1 .0)) (λ es. heard ! (SaysAnswer r) (λ ea.
-        fsplit ! $ drop ! $ fsplit ! $ move ! (2 ∷ []) $ split ! $ split ! $ lft-end ! tt $
-        -- [the end of their lifetime; the text's token; the result; the last list; …; the core's cell; what is kept;
-        -- _5; …]
+        ⊛ raw (fact 𝓤 (SaysStation r (zs .1 .1 .0))) ⊛ raw (fact 𝓤 (SaysAnswer r)))) (id⊢ 𝓤 _) $ pick ! (λ zs.
+        split ! $ move ! (1 ∷ []) $ split ! $ heard ! (SaysStation r (zs .1 .1 .0)) (λ es. heard ! (SaysAnswer r) (λ ea.
+        fsplit ! $ drop ! $ fsplit ! $ drop ! $ fsplit ! $ move ! (2 ∷ []) $ split ! $ split ! $ lft-end ! tt $
+        -- [the end of their lifetime; the text's token; the result; the last list; …; the core's cell; the edges'; what
+        -- is kept; _6; …]
         move ! (2 ∷ []) $ peeks ! R.the-row (Is R.the-row) (shows 𝓤 H A R.the-row) r (v ∷ []) (λ is.
         let parts = LL.owed R.the-type R′.the-laws r (v ∷ []) is in
-        lands-struct ! 9 R.the-type R′.the-laws r is refl refl $
+        lands-struct ! 10 R.the-type R′.the-laws r is refl refl $
         -- the core is stored, the answer is the result, and the station is shut
-        stores-core ! 15 5 (r .core) (parts .0)
-        (reads ! 17 (after r) refl tt refl) refl refl refl $
-        assigns ! (of-opd ! (reads ! 17 (after r) {v = vint w8 (r .answer)} refl tt refl))
-        (from ! (stop !)) (init ! 17 refl (tt, record { fits = parts .1 .0 .1 })) $
-        move ! (1 ∷ 3 ∷ 5 ∷ 6 ∷ []) $ takes-back ! tt b o h (r .core) (zs .1 .0) (parts .0) $
-        -- [obs; the borrow; the token; the result; the text's token; …; _5; …; room for _0; …; text; true]
-        returns ! (look ! 16 refl) $
-        frees-at ! 16 refl refl $ frees-at ! 14 refl refl $ frees-at ! 12 refl refl $ frees-at ! 10 refl refl $
-        frees-at ! 8 refl refl $ frees-at ! 6 refl refl $ free0 ! $
-        keep ! (0 ∷ 1 ∷ 2 ∷ 4 ∷ 6 ∷ []) $ by ! (exits r (zs .1 .0) es ea (parts .1 .0 .1)))))))))))))))))
+        stores-field ! 18 5 0 K.the-type K′.the-laws (r .core) (parts .0)
+        (reads ! 20 (after r) refl tt refl) refl refl refl $
+        assigns ! (of-opd ! (reads ! 20 (after r) {v = vint w8 (r .answer)} refl tt refl))
+        (from ! (stop !)) (init ! 20 refl (tt, record { fits = parts .1 .0 .1 })) $
+        move ! (1 ∷ 3 ∷ 5 ∷ 6 ∷ 7 ∷ []) $
+        takes-back ! tt b o h (r .core) (h .edges) (zs .1 .1 .0) (parts .0) waited $
+        -- [obs; the borrow; the token; the result; the text's token; …; _6; …; room for _0; …; text; true]
+        returns ! (look ! 18 refl) $
+        frees-at ! 18 refl refl $ frees-at ! 16 refl refl $ frees-at ! 14 refl refl $ frees-at ! 12 refl refl $
+        frees-at ! 10 refl refl $ frees-at ! 8 refl refl $ frees-at ! 6 refl refl $ free0 ! $
+        keep ! (0 ∷ 1 ∷ 2 ∷ 4 ∷ 6 ∷ []) $ by ! (exits r (zs .1 .1 .0) es ea (parts .1 .0 .1)))))))))))))))))
 
 module _ {M : Type 1} (𝓤 : URA M) (H : Heap 𝓤) (A : Atoms 𝓤) (W : Given 𝓤 H A) (at-mem : Memory → SProp 𝓤)
     (run : Routine → Fun 𝓤) where

@@ -25,8 +25,7 @@ use denote.Builtin.{u8}
 use denote.Ref.{RefT, ShrRef, ptr-vals, shr-tells}
 use denote.Signature.{plain}
 use denote.Slice.{sliceVal, ShrSlice, slice-vals, shr-slice-tells, shr-slice-lawful, shr-slice-copy}
-use denote.Steps.{looks, shuts, owned, peeks, heard, nothing}
-use denote.Struct.Steps.{spelt}
+use denote.Steps.{owned, peeks, heard, nothing}
 use denote.Struct.Laws as LL
 use denote.Triple.Statement.{Contract, Triple}
 use denote.Triple.Call.{calls-at}
@@ -39,8 +38,11 @@ use denote.Triple.Clauses.{ensured, lasts}
 use Rattle.half_duplex.specs.declared.Core.{Core}
 use Rattle.half_duplex.proofs.Core as K
 use Rattle.half_duplex.proofs.Core.Laws as K′
-use Rattle.station.specs.declared.Station.{Station}
-use Rattle.station.proofs.Station as T
+use Rattle.edges.specs.declared.Edges.{Edges}
+use Rattle.edges.proofs.Edges as D
+use Rattle.edges.proofs.Edges.Laws as D′
+use Rattle.station.specs.declared.Measured.{Measured}
+use Rattle.station.proofs.Measured as T
 use Rattle.preview.specs.declared.Previewed.{Previewed}
 use Rattle.preview.specs.Preview.{Previews}
 use Rattle.preview.proofs.Previewed as R
@@ -49,7 +51,8 @@ use Rattle.preview.proofs.preview as g
 use Rattle.preview.proofs.preview.Symbol as g-def
 use Rattle.preview.proofs.preview.Symbol.{name as #preview·preview}
 use Rattle.preview.proofs.preview.Met as g-thm
-use Rattle.cuyrapaq.proofs.Lent.{Chars, core-vals, past, lent-ref, shares-on, loads-core, points-chars}
+use Rattle.cuyrapaq.proofs.Lent.{Chars, core-vals, core-val, edges-vals, edges-val, past, past-core, lent-ref, shares-on, points-chars}
+use Rattle.cuyrapaq.proofs.Inner.{loads-shared}
 use Rattle.cuyrapaq.proofs.Operands.{reads}
 use Rattle.cuyrapaq.proofs.Steps.{lands-struct, frees-at}
 use Rattle.cuyrapaq.proofs.stations.cq_station_preview.Key.{name as #cuyrapaq·stations·cq-station-preview}
@@ -66,7 +69,7 @@ stayed = (
 
 -- what the callee leaves of its parameters: nothing
 abbrev Last : Type 0
-Last = Unit {0} × (Unit {0} × (Unit {0} × Unit {0}))
+Last = Unit {0} × (Unit {0} × (Unit {0} × (Unit {0} × Unit {0})))
 
 -- the machine value of what the callee gives
 abbrev given-val : Previewed → Val
@@ -79,8 +82,8 @@ module _ {M : Type 1} (𝓤 : URA M) (H : Heap 𝓤) (A : Atoms 𝓤) (at-mem : 
 
 module _ {M : Type 1} (𝓤 : URA M) (H : Heap 𝓤) (A : Atoms 𝓤) (W : Given 𝓤 H A) (at-mem : Memory → SProp 𝓤)
     (run : Routine → Fun 𝓤)
-    (κ κ₁ : Lft) (q q₁ : Share) (b o : ℕ) (γ : GName) (h : Station) (t : RefT (List ℕ)) where
-  abbrev x : RefT Station × (RefT (List ℕ) × Unit {0})
+    (κ κ₁ : Lft) (q q₁ : Share) (b o : ℕ) (γ : GName) (h : Measured) (t : RefT (List ℕ)) where
+  abbrev x : RefT Measured × (RefT (List ℕ) × Unit {0})
   x = (record { ptr = (b, o); name = γ; now = h }, (t, tt))
 
   abbrev tv : Val
@@ -91,7 +94,7 @@ module _ {M : Type 1} (𝓤 : URA M) (H : Heap 𝓤) (A : Atoms 𝓤) (W : Given
 
   -- what the locals hold when the callee is called
   abbrev locals : List Val
-  locals = vunit ∷ vptr b o ∷ tv ∷ LL.val K.the-type K′.the-laws (h .core) ∷ vptr b (o + past) ∷ []
+  locals = vunit ∷ vptr b o ∷ tv ∷ core-val (h .core) ∷ edges-val (h .edges) ∷ vptr b (o + past) ∷ []
 
   abbrev Post : Val → SProp 𝓤
   Post = walkOf 𝓤 H A f.ended stayed (f.clauses 𝓤 H A at-mem run) .post (((κ, (κ₁, tt)), (q, (q₁, tt)), tt, x, at), tt)
@@ -126,19 +129,19 @@ module _ {M : Type 1} (𝓤 : URA M) (H : Heap 𝓤) (A : Atoms 𝓤) (W : Given
 
   module _ (γ₁ : GName) where
     -- what the callee is passed, the characters for the station's lifetime
-    abbrev args : Core × (RefT (List ℕ) × (RefT (List ℕ) × Unit {0}))
-    args = (h .core, (lent-ref b o γ₁ (h .chars), (t, tt)))
+    abbrev args : Core × (Edges × (RefT (List ℕ) × (RefT (List ℕ) × Unit {0})))
+    args = (h .core, (h .edges, (lent-ref b o γ₁ (h .chars), (t, tt))))
 
-    abbrev arg-vals : List Val × (List Val × (List Val × Unit {0}))
-    arg-vals = (core-vals (h .core), (vptr b (o + past) ∷ [], (tv ∷ [], tt)))
+    abbrev arg-vals : List Val × (List Val × (List Val × (List Val × Unit {0})))
+    arg-vals = (core-vals (h .core), (edges-vals (h .edges), (vptr b (o + past) ∷ [], (tv ∷ [], tt))))
 
     abbrev to : G 𝓤 H A at-mem run .Ghost
     to = (((κ, (κ₁, tt)), (q, (q₁, tt)), tt, args, arg-vals), tt)
 
     asked : ent 𝓤 (onEntry 𝓤 H A g.signature (κ, (κ₁, tt)) (q, (q₁, tt)) args arg-vals) (G 𝓤 H A at-mem run .pre to)
     asked =
-        qed W (tokens ∷ ‵ (owns (K.the-row ∷ ShrRef (named 0) κ Chars ∷ ShrSlice (named 1) κ₁ u8 ∷ []) args
-        arg-vals) ∷ []) ∵
+        qed W (tokens ∷ ‵ (owns (K.the-row ∷ D.the-row ∷ ShrRef (named 0) κ Chars ∷ ShrSlice (named 1) κ₁ u8 ∷ [])
+        args arg-vals) ∷ []) ∵
         join ! $ frame ! $ done !
 
   module _ (C : Calls 𝓤 H) (Λ : Loops 𝓤 H) (fm : FmC 𝓤 H (W .laws) C)
@@ -154,31 +157,30 @@ module _ {M : Type 1} (𝓤 : URA M) (H : Heap 𝓤) (A : Atoms 𝓤) (W : Given
         move ! (3 ∷ []) $ fsplit3 ! $ drop ! $ move ! (1 ∷ 5 ∷ []) $
         -- [the station's fractured borrow; the token; res; what text owns, twice; true; the text's token]
         enter ! C Λ code.function (vptr b o ∷ tv ∷ []) _ $
-        alloc1 ! (λ l₀. alloc1 ! (λ l₁. alloc1 ! (λ l₂. alloc1 ! (λ l₃. alloc1 ! (λ l₄. alloc0 ! $
-        params1 ! $ pass1 ! (init ! 6 refl (tt, tt)) $
-        pass1 ! (init ! 4 refl (shr-slice-lawful 𝓤 H A W (named 1) κ₁ u8 .typed t _ gt .0)) $ pass0 ! $
-        -- the core and the characters are shared on, and the core is looked at
-        move ! (10 ∷ 11 ∷ []) $ shares-on ! tt (named 0) b o h (λ γ₁.
-        looks ! tt K.the-row (Is K.the-row) (shows 𝓤 H A K.the-row) core-vals (LL.tells K.the-type K′.the-laws)
-        ((LL.copy K.the-type K′.the-copy) 𝓤 H A W) (h .core) b (o + 0) (λ q′ vs.
-        spelt ! K.the-row (Is K.the-row) (shows 𝓤 H A K.the-row) core-vals (LL.tells K.the-type K′.the-laws) q′
-        (h .core) vs b (o + 0) $ move ! (1 ∷ []) $
-        peeks ! K.the-row (Is K.the-row) (shows 𝓤 H A K.the-row) (h .core) (core-vals (h .core)) (λ was.
-        move ! (1 ∷ 0 ∷ []) $
-        -- [a share of the core's cell; what it owns; what shuts it; the core's fractured borrow; the reference to the
-        -- characters; the station's fractured borrow; room for _4; …; room for _3; …; _2; …; _1; …; room for _0; …;
-        -- res; text, twice; true; its token]
-        loads-core ! 12 0 8 (h .core) was refl refl refl refl refl $
-        shuts ! tt K.the-row q′ (h .core) (core-vals (h .core)) b (o + 0) $
-        points-chars ! 10 4 refl refl refl (tt, tt) $
+        alloc1 ! (λ l₀. alloc1 ! (λ l₁. alloc1 ! (λ l₂. alloc1 ! (λ l₃. alloc1 ! (λ l₄. alloc1 ! (λ l₅. alloc0 ! $
+        params1 ! $ pass1 ! (init ! 8 refl (tt, tt)) $
+        pass1 ! (init ! 6 refl (shr-slice-lawful 𝓤 H A W (named 1) κ₁ u8 .typed t _ gt .0)) $ pass0 ! $
+        -- the core, the edges and the characters are shared on, and the first two are loaded
+        move ! (12 ∷ 13 ∷ []) $ shares-on ! tt (named 0) b o h (λ γ₁.
+        -- [the core's fractured borrow; the token; the edges' fractured borrow; the reference to the characters; the
+        -- station's fractured borrow; room for _5; …; and so on; _1; …; room for _0; …; res; text, twice; true; its
+        -- token]
+        loads-shared ! 11 7 0 K.the-type K′.the-laws K′.the-copy (h .core) refl refl refl refl (λ was.
+        move ! (2 ∷ 0 ∷ []) $
+        loads-shared ! 11 5 past-core D.the-type D′.the-laws D′.the-copy (h .edges) refl refl refl refl (λ waited.
+        -- [the token; the edges' fractured borrow; the core's; the reference to the characters; the station's fractured
+        -- borrow; room for _5; …]
+        points-chars ! 13 5 refl refl refl (tt, tt) $
         -- what the callee asks
-        nothing ! $ move ! (16 ∷ 0 ∷ []) $ fjoin ! $ move ! (3 ∷ 0 ∷ []) $ fjoin ! $
+        nothing ! $ move ! (19 ∷ 0 ∷ []) $ fjoin ! $ move ! (4 ∷ 0 ∷ []) $ fjoin ! $
+        owned ! D.the-row (Is D.the-row) (LL.makes D.the-type D′.the-plain 𝓤 H A) (h .edges) (edges-vals (h .edges))
+        waited $ fjoin ! $
         owned ! K.the-row (Is K.the-row) (LL.makes K.the-type K′.the-plain 𝓤 H A) (h .core) (core-vals (h .core)) was $
-        fjoin ! $ move ! (1 ∷ 17 ∷ []) $ join ! $
+        fjoin ! $ move ! (1 ∷ 20 ∷ []) $ join ! $
         use2 W (raw (G 𝓤 H A at-mem run .pre (to γ₁))) (asked γ₁) $
         calls-at ! fm (G 𝓤 H A at-mem run) known (to γ₁)
-        (and-then ! (reads ! 11 locals refl tt refl) (and-then ! (reads ! 11 locals refl tt refl)
-        (and-then ! (reads ! 11 locals refl tt refl) (no-more !))))
+        (and-then ! (reads ! 14 locals refl tt refl) (and-then ! (reads ! 14 locals refl tt refl)
+        (and-then ! (reads ! 14 locals refl tt refl) (and-then ! (reads ! 14 locals refl tt refl) (no-more !)))))
         (λ v.
         -- what it gives
         use1 W (later (some (λ (r : Previewed). (tokens ⊛ ‵ (R.the-row .own r (v ∷ [])))
@@ -190,14 +192,14 @@ module _ {M : Type 1} (𝓤 : URA M) (H : Heap 𝓤) (A : Atoms 𝓤) (W : Given
         split ! $ drop ! $ heard ! (Says r) (λ e.
         split ! $ move ! (1 ∷ []) $
         peeks ! R.the-row (Is R.the-row) (shows 𝓤 H A R.the-row) r (v ∷ []) (λ is.
-        -- [the result; the tokens; the core's fractured borrow; the station's; _4; …; _3; …; _2; …; _1; …; room for _0;
-        -- …; res; text; true]
-        lands-struct ! 12 R.the-type R′.the-laws r is refl refl $
+        -- [the result; the tokens; the edges' fractured borrow; the core's; the station's; _5; …; and so on; _1; …;
+        -- room for _0; …; res; text; true]
+        lands-struct ! 15 R.the-type R′.the-laws r is refl refl $
         -- the locals are freed
-        returns ! (look ! 12 refl) $
-        frees-at ! 12 refl refl $ frees-at ! 10 refl refl $ frees-at ! 8 refl refl $ frees-at ! 6 refl refl $
-        frees-at ! 4 refl refl $ free0 ! $ keep ! (1 ∷ 4 ∷ 3 ∷ 5 ∷ []) $
-        by ! (exits r e (LL.owes R.the-type R′.the-laws r (LL.owed R.the-type R′.the-laws r (v ∷ []) is))))))))))))))))
+        returns ! (look ! 15 refl) $
+        frees-at ! 15 refl refl $ frees-at ! 13 refl refl $ frees-at ! 11 refl refl $ frees-at ! 9 refl refl $
+        frees-at ! 7 refl refl $ frees-at ! 5 refl refl $ free0 ! $ keep ! (1 ∷ 5 ∷ 4 ∷ 6 ∷ []) $
+        by ! (exits r e (LL.owes R.the-type R′.the-laws r (LL.owed R.the-type R′.the-laws r (v ∷ []) is)))))))))))))))))
 
 module _ {M : Type 1} (𝓤 : URA M) (H : Heap 𝓤) (A : Atoms 𝓤) (W : Given 𝓤 H A) (at-mem : Memory → SProp 𝓤)
     (run : Routine → Fun 𝓤) where
