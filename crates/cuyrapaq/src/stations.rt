@@ -73,8 +73,7 @@ pub extern "C" fn cq_station_run(
 {
     let c = station.core;
     let w = station.edges;
-    let none = edges::no_edge();
-    let ran = station_entry::run(c, w, &mut station.chars, none, false, heard, sent, words);
+    let ran = station_entry::run(c, w, &mut station.chars, heard, sent, words);
     station.core = ran.core;
     station.edges = ran.edges;
     StationRan {
@@ -110,12 +109,13 @@ pub extern "C" fn cq_station_run_drift(
     let c = station.core;
     let w = station.edges;
     let r = *report;
-    let counted = station_entry::run(c, w, &mut station.chars, r, true, heard, sent, words);
-    station.core = counted.core;
-    station.edges = counted.edges;
+    let counted = station_entry::count(c, w, &station.chars, r, heard, sent.len(), words.len());
     *report = counted.report;
-    StationRan {
-        answer: counted.answer,
-        words: counted.words,
+    if counted.answer != 0 {
+        return StationRan {
+            answer: counted.answer,
+            words: 0,
+        };
     }
+    cq_station_run(station, heard, sent, words)
 }
