@@ -51,7 +51,8 @@ hears-all x r [] l m = refl
 hears-all x r (h ∷ hs) l m =
     let mode = modeIn (x .core) in
     let free = not-inhibited (stationOf x) l in
-    let frame = ap (λ (q : Reader). q .frame) (ms-reader (stationOf x) h free) ∙ hear-frame mode m (x .core .reader) h in
+    let frame = ap (λ (q : Reader). q .frame) (ms-reader (stationOf x) h free)
+    ∙ hear-frame mode m (x .core .reader) h in
     let c = counted-free x h free in
     let w = waiting-free x h free in
     hears-all (measuredMs x h) (joined r (countedIn x h)) hs (still-listens (stationOf x) l h) m

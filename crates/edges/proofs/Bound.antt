@@ -121,7 +121,8 @@ module _ (mode : Mode) where
       by-test (isMeasured mode)
       (λ m.
       let l = with-fine (elementOf mode) (f .place - 1) (element-some mode m) (element-few mode) w x h in (
-        rw (counted-measured mode f w x m) (either Fine (found mode f w x) (with mode f w x .seen) noEdge l (none-of 0)),
+        rw (counted-measured mode f w x m)
+            (either Fine (found mode f w x) (with mode f w x .seen) noEdge l (none-of 0)),
         rw (edges-measured mode f w x m)
             (either (λ (v : Edges). Fine (v .seen)) (leb 2 (place mode f w x)) (with mode f w x) noEdges l (none-of 0)),
       ))

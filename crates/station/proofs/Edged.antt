@@ -41,7 +41,8 @@ pub station-ms : (x : Measured) (heard : ℕ) → stationOf (measuredMs x heard)
 unfolding measuredMs stationMs
 station-ms x heard = refl
 
-pub station-after : (x : Measured) (heard : List ℕ) → stationOf (measuredAfter x heard) ≡ stationAfter (stationOf x) heard
+pub station-after : (x : Measured) (heard : List ℕ)
+    → stationOf (measuredAfter x heard) ≡ stationAfter (stationOf x) heard
 unfolding stateAfter
 station-after x [] = refl
 station-after x (h ∷ hs) =
@@ -59,7 +60,8 @@ pub frame-after : (s : Station) (heard : ℕ)
     ≡ cond (inhibitedIn (s .core) (front s)) hunting (hear (modeIn (s .core)) (s .core .reader) heard .reader .frame)
 unfolding stationMs coreFrom
 frame-after s heard =
-    frame-with (inhibitedIn (s .core) (front s)) (s .core .reader) (hear (modeIn (s .core)) (s .core .reader) heard .reader)
+    frame-with (inhibitedIn (s .core) (front s)) (s .core .reader)
+    (hear (modeIn (s .core)) (s .core .reader) heard .reader)
 
 -- ---- their range, in facts
 
@@ -92,7 +94,8 @@ heard-of Edt r w heard h l = kept Edt (r .frame) w heard h l
 abbrev pub Edged : Measured → Type 0
 Edged x = EdgesOf (modeIn (x .core)) (x .core .reader .frame) (x .edges)
 
-pub ms-edged : (x : Measured) (heard : ℕ) → Edged x → heard ≤ highestLevel (modeIn (x .core)) → Edged (measuredMs x heard)
+pub ms-edged : (x : Measured) (heard : ℕ) → Edged x → heard ≤ highestLevel (modeIn (x .core))
+    → Edged (measuredMs x heard)
 unfolding measuredMs waitingMs stationMs coreFrom
 ms-edged x heard h l =
     let s = stationOf x in

@@ -149,5 +149,6 @@ module _ (x : Measured) (r : Report) (xs ys : List ℕ) (sentRoom wordRoom : ℕ
       let same = ap modeOfStation (station-after x xs) ∙ mode-after (stationOf x) xs in
       let levels =
       subst (λ (d : Mode). allAtMost (highestLevel d) ys ≡ true) (sym same) (at-most-behind most xs ys (k .levels)) in
-      run-0 (measuredAfter x xs) (reportAfter x r xs) ys m n i (report-kept x r xs (k .in-range) (k .report-in) first-few)
+      let kept = report-kept x r xs (k .in-range) (k .report-in) first-few in
+      run-0 (measuredAfter x xs) (reportAfter x r xs) ys m n i kept
       (omega arith) levels p q all-few

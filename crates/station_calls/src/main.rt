@@ -25,8 +25,8 @@ const PATTERN: u8 = 99;
 
 const WORD_PATTERN: u32 = 99_999_999;
 
-// A core and its edges; how many ms are to be heard and characters to be offered; 16 times the high digit of the next character; the
-// last character; the first byte of a pair whose second is still to come, or LF.
+// A core and its edges; how many ms are to be heard and characters to be offered; 16 times the high digit of the next
+// character; the last character; the first byte of a pair whose second is still to come, or LF.
 struct Play {
     core: Core,
     edges: Edges,
@@ -178,11 +178,10 @@ fn run_first(
     sent: &mut [u8],
     words: &mut [u32],
 ) -> Ran {
-    let none = edges::no_edge();
     if heard.len() < n {
-        return station_entry::run(c, w, chars, none, false, heard, sent, words);
+        return station_entry::run(c, w, chars, heard, sent, words);
     }
-    station_entry::run(c, w, chars, none, false, &heard[..n], sent, words)
+    station_entry::run(c, w, chars, &heard[..n], sent, words)
 }
 
 fn run(x: Play, chars: &mut [u8; 256], heard: &[u8], sent: &mut [u8], words: &mut [u32]) -> Play {

@@ -89,7 +89,8 @@ module _ (x : Measured) (heard sent words : List ℕ) where
 
 module _ (x : Measured) (r : Report) (heard : List ℕ) (sentRoom wordRoom : ℕ) where
   abbrev pub Counts : ℕ → Report → Type 0
-  Counts answer q = (answer ≡ ranOf x r heard sentRoom wordRoom .answer) × (q ≡ ranOf x r heard sentRoom wordRoom .report)
+  Counts answer q =
+      (answer ≡ ranOf x r heard sentRoom wordRoom .answer) × (q ≡ ranOf x r heard sentRoom wordRoom .report)
 
   pub counts-none : (n : ℕ) → (n ≡ 0 → ⊥) → runAnswer x r heard sentRoom wordRoom ≡ n → Counts n r
   counts-none n z e =

@@ -76,7 +76,8 @@ goes x (y ∷ ys) m h l =
       goes (measuredMs x y) ys m (ms-edged x y h (at-most-head most y ys l)) (at-most-tail most y ys l),
     )
 
-module _ (x : Measured) (heard : List ℕ) (h : Edged x) (l : allAtMost (highestLevel (modeIn (x .core))) heard ≡ true) where
+module _ (x : Measured) (heard : List ℕ) (h : Edged x)
+    (l : allAtMost (highestLevel (modeIn (x .core))) heard ≡ true) where
   pub goes-to : isMeasured (modeIn (x .core)) ≡ true → (d : Core) → d ≡ stationAfter (stationOf x) heard .core
       → Goes (elementOf (modeIn (x .core))) (placeOf x) (x .edges) heard (d .reader .frame .place)
       (measuredAfter x heard .edges)

@@ -65,14 +65,7 @@ pub struct Asked {
 }
 
 // These questions, with slices of such lengths.
-fn ask(
-    c: Core,
-    w: Edges,
-    chars: &[u8; 256],
-    heard: &[u8],
-    sent: usize,
-    words: usize,
-) -> Asked
+fn ask(c: Core, w: Edges, chars: &[u8; 256], heard: &[u8], sent: usize, words: usize) -> Asked
     ensures { λ a. ⌜ (a .answer ≡ 0 → Yes (measured (station c (now (chars .entry))) w) (now (heard .entry)) sent
         words (a .highest)) ⌝ }
     ensures { λ a. ⌜ ((a .answer ≡ 0 → ⊥) → No (measured (station c (now (chars .entry))) w) (now (heard .entry))

@@ -119,7 +119,8 @@ part-measure-end c = search needs
 measure-requires : tie.Need-measure-requires Inv-loop μ-loop
 measure-requires c κs =
     let l = hears-of c .before .before in
-    let f = subst (λ (m : Mode). FrameOf m (l .loop .core .reader .frame)) (sym (mode-is l)) (core-of l .reader-in .frame-in) in
+    let f = subst (λ (m : Mode). FrameOf m (l .loop .core .reader .frame)) (sym (mode-is l))
+    (core-of l .reader-in .frame-in) in
     let heard = start-of (else-of l) .args .heard .now in
     let p = start-of (else-of l) .pre .1 .1 .1 .0 in
     let n = length-take (length heard - l .loop .i) (drop (l .loop .i) heard) in

@@ -6,9 +6,6 @@ use Rattle.station_calls.proofs.run_first.Statement.{statement}
 use Rattle.station_calls.proofs.run_first.Tie as tie
 use Rattle.station_entry.proofs.run.Reads as run-reads
 
-no-edge-requires : tie.Need-no-edge-requires
-no-edge-requires c κs = search needs
-
 run-requires : tie.Need-run-requires
 run-requires c κs = search needs
 
@@ -40,7 +37,6 @@ pub run-first-spec : {M : Type 1} → statement M
 run-first-spec =
     tie.close
     (tie.spec
-    no-edge-requires
     run-requires
     same-length
     same-length-2

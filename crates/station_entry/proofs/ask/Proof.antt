@@ -87,17 +87,19 @@ returns-3 c =
 returns-4 : tie.Need-returns-4
 returns-4 c =
     let l = c .before in
-    let f = few-of (l .before) in
-    (λ z. absurd (omega arith),
-    λ n q y. run-7 _ q _ _ _ (in-range (f .before)) y (f .if2 .left) (low l) (c .if4 .taken))
+    let f = few-of (l .before) in (
+      λ z. absurd (omega arith),
+      λ n q y. run-7 _ q _ _ _ (in-range (f .before)) y (f .if2 .left) (low l) (c .if4 .taken),
+    )
 
 returns-5 : tie.Need-returns-5
 returns-5 c =
     let g = c .before in
     let l = g .before in
-    let f = few-of (l .before) in
-    (λ z. absurd (omega arith),
-    λ n q y. run-8 _ q _ _ _ (in-range (f .before)) y (f .if2 .left) (low l) (g .if4 .left) (c .if5 .taken))
+    let f = few-of (l .before) in (
+      λ z. absurd (omega arith),
+      λ n q y. run-8 _ q _ _ _ (in-range (f .before)) y (f .if2 .left) (low l) (g .if4 .left) (c .if5 .taken),
+    )
 
 returns-6 : tie.Need-returns-6
 returns-6 c =

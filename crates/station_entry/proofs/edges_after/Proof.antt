@@ -60,9 +60,9 @@ returns-2 c = λ chars i l a.
     let m = is-measured (modeIn (s .args .c)) (λ z. k .if1 .left (e ∙ z)) in
     let w = measuredAfter x heard .edges in
     let g = goes-to x heard (measured-in x i .1) l m (s .args .after) a in
-    c .latest .ensures .0 w
-    (subst (λ (n : ℕ). Goes n (s .args .c .reader .frame .place) (s .args .w) heard (s .args .after .reader .frame .place) w)
-    (sym e) g)
+    let from = s .args .c .reader .frame .place in
+    let to = s .args .after .reader .frame .place in
+    c .latest .ensures .0 w (subst (λ (n : ℕ). Goes n from (s .args .w) heard to w) (sym e) g)
 
 pub edges-after-spec : {M : Type 1} → statement M
 edges-after-spec = tie.close (tie.spec of-requires element-requires returns latest-requires returns-2)

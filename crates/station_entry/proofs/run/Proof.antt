@@ -42,7 +42,8 @@ held c = let s = start-of c in measured (station (s .args .c) (s .args .chars .n
 yes : (c : tie.Else1)
     → let a = asked-of c in
     let s = start-of a in
-    Yes (held a) (s .args .heard .now) (length (s .args .sent .now)) (length (s .args .words .now)) (a .ask .result .highest)
+    Yes (held a) (s .args .heard .now) (length (s .args .sent .now)) (length (s .args .words .now))
+    (a .ask .result .highest)
 yes c = asked-of c .ask .ensures .0 (c .if1 .left)
 
 -- ---- the needs
