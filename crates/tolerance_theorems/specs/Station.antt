@@ -8,10 +8,10 @@ use Rattle.baudot.specs.Reading.{textOf, shiftAfter, allCodes}
 use Rattle.frames.specs.Frames.{hunting}
 use Rattle.reader.specs.declared.Reader.{Reader}
 use Rattle.reader.specs.Reader.{withShift}
-use Rattle.burst.specs.Line.{inBurst}
 use Rattle.half_duplex.specs.Core.{inhibitedIn}
 use Rattle.station.specs.declared.Station.{Station}
 use Rattle.station.specs.Station.{modeOfStation, alphabetOfStation, freshStation, front, stationMs, stationAfter, wordsBy}
+use Rattle.station.specs.Listening.{Listens}
 use Rattle.tolerance_theorems.specs.Edges.{Moved}
 use Rattle.tolerance_theorems.specs.Bursts.{onQuiet, burst}
 
@@ -46,13 +46,7 @@ StationBears =
     (s : Station) (ks ys : List ℕ) → Arrives s ks ys → NeverInhibited s ys
     → HandsOut s ks (wordsBy s ys) (stationAfter s ys)
 
--- A station that only listens: in no burst, with none waiting and no inhibited ms to come.
-pub record Listens (s : Station) : Type 0 where
-  pub no-burst : inBurst (s .core .line) ≡ false
-  pub none-waiting : s .core .waiting ≡ 0
-  pub none-to-come : s .core .inhibited ≡ 0
-
--- It is inhibited in no ms, whatever it hears.
+-- A station that only listens is inhibited in no ms, whatever it hears.
 abbrev pub ListenersHear : Type 0
 ListenersHear = (s : Station) (ys : List ℕ) → Listens s → NeverInhibited s ys
 

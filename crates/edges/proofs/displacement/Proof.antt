@@ -51,7 +51,7 @@ cast-result-2 : tie.Need-cast-result-2
 cast-result-2 c = record { sfits = omega (arith, below (c .before)) }
 
 cast-result-3 : tie.Need-cast-result-3
-cast-result-3 c = search needs
+cast-result-3 c = record { sfits = omega (arith, below (c .before)) }
 
 sub-result : tie.Need-sub-result
 sub-result c = less-fits (c .before)
