@@ -1,7 +1,7 @@
 -- The station that a host lends. Behind a `&mut`, its core and its edges are taken out beside its characters, which are
 -- lent on for the time of a call; and the characters come back with their last list, and the station is shut at that
--- list and at the core and the edges that lie there then. Behind a `&`, each of the three is shared on for the same
--- lifetime.
+-- list and at the core and the edges that lie there then; or they are lent to be read, and the station is shut as it
+-- was. Behind a `&`, each of the three is shared on for the same lifetime.
 use Prim.Native.Nat.{ℕ, zero, _+_}
 use mathlib.Core.Path.{_≡_, refl, sym}
 use mathlib.Core.Option.{some as just}
@@ -19,7 +19,7 @@ use ghost.Atoms.{Atoms, sem}
 use types.Kit.{Goal, Soaks, Seq, Step, step, Given, Item, ‵, raw, _⊛_, some, later, mean, _$_, _∵_, !, qed, move, keep, drop, use1, use2, use3, rewrite, split, join, pick, fsplit, fjoin, fjoin3, feqI, await, updating, now as at-once, show, done, nth, put, Post, runs}
 use types.Run.{from, hop, fld, stop, look, init, addr, assigns}
 use types.SemTy.{Body}
-use types.Tokens.{name-new, shr-bor-dup}
+use types.Tokens.{name-new, lent-back, shr-bor-dup}
 use types.Mut.{open-ref, close-ref}
 use denote.RattleType.{RattleType, Denots}
 use denote.Laws.{Is, shows, Lawfuls}
@@ -27,7 +27,7 @@ use denote.Memory.{partAt, partOf, mem}
 use denote.Builtin.{u8}
 use denote.Array.{Array}
 use denote.Ref.{RefT, MutRef, ShrRef}
-use denote.Lend.{lends-ref, ref-back}
+use denote.Lend.{lends-ref, ref-back, lends-shr}
 use denote.Steps.{nothing, peeks}
 use denote.Struct.Struct.{Struct}
 use denote.Struct.Declared.{shape}
@@ -206,6 +206,63 @@ module _ {M : Type 1} (𝓤 : URA M) (H : Heap 𝓤) (A : Atoms 𝓤) (W : Given
           move ! (1 ∷ []) $ split ! $ move ! (1 ∷ []) $ split ! $ move ! (3 ∷ 2 ∷ 0 ∷ 1 ∷ []) $
           close-ref ! tt (mem T.the-row) (lent c w cs) {b = b} {o = o} $ at-once ! $ done !
 
+      -- the same where they are lent to be read
+      abbrev chars-read : Lifetime → GName → Item 𝓤
+      chars-read ℓ γ₁ = ‵ (ShrRef ℓ κ′ Chars .own (lent-ref b o γ₁ (h .chars)) (vptr b (o + past) ∷ []))
+
+      abbrev reader : Item 𝓤
+      reader = ‵ (flent κ′ (partAt Chars fullShare (h .chars) b (o + past)))
+
+      abbrev kept-read : Item 𝓤
+      kept-read =
+          reader ⊛ raw (Back b o) ⊛ ‵ (fobor κ q (Body (mem T.the-row) b o γ))
+          ⊛ ‵ (fobs γ (T.the-row .coded .code h)) ⊛ ‵ (fauth γ (T.the-row .coded .code h))
+
+      abbrev opened-read : Lifetime → GName → Item 𝓤
+      opened-read ℓ γ₁ =
+          core-own (h .core) ⊛ core-cell (h .core) b o ⊛ edges-own (h .edges) ⊛ edges-cell (h .edges) b o
+          ⊛ chars-read ℓ γ₁ ⊛ kept-read
+
+      lends-read : (ℓ : Lifetime)
+          → ent 𝓤 (mean 𝓤 H A (held h)) (H .⇛ (ex 𝓤 (λ (γ₁ : GName). mean 𝓤 H A (opened-read ℓ γ₁))))
+      lends-read ℓ =
+          qed W (held h ∷ []) ∵ updating ! $ split ! $ move ! (1 ∷ []) $ split ! $ move ! (2 ∷ 0 ∷ 1 ∷ []) $
+          open-ref ! tt (mem T.the-row) {b = b} {o = o} $
+          use1 W (‵ (partsAt fullShare members zero (T.the-type .to h) b o) ⊛ raw (Back b o)) (apart h b o) $ split ! $
+          fsplit ! $
+          use1 W (core-cell (h .core) b o ⊛ core-own (h .core))
+          (part-out 𝓤 H A K.the-type K′.the-laws W (h .core) b (o + 0)) $ split ! $
+          move ! (2 ∷ []) $ fsplit ! $
+          use1 W (edges-cell (h .edges) b o ⊛ edges-own (h .edges))
+          (part-out 𝓤 H A D.the-type D′.the-laws W (h .edges) b (o + past-core)) $ split ! $
+          move ! (2 ∷ []) $ fsplit ! $ rewrite ! 0 chars-part (map-id (h .chars)) refl $
+          use1 W (later (some (λ (γ₁ : GName). chars-read ℓ γ₁ ⊛ reader)))
+          (lends-shr 𝓤 H A W Chars ℓ κ′ fullShare (h .chars) b (o + past)) $
+          await ! tt $ pick ! (λ γ₁. split ! $
+          at-once ! $ show ! (λ (δ : GName). mean 𝓤 H A (opened-read ℓ δ)) γ₁ $
+          keep ! (6 ∷ 5 ∷ 4 ∷ 3 ∷ 0 ∷ 1 ∷ 7 ∷ 8 ∷ 9 ∷ 10 ∷ []) $ done !)
+
+      takes-read : IsCore (h .core) → IsEdges (h .edges)
+          → ent 𝓤 (sep 𝓤 (A .dead κ′)
+          (mean 𝓤 H A (core-cell (h .core) b o ⊛ edges-cell (h .edges) b o ⊛ kept-read)))
+          (H .⇛ (mean 𝓤 H A (held h)))
+      takes-read isc isw =
+          qed W (‵ (fdead κ′) ∷ core-cell (h .core) b o ∷ edges-cell (h .edges) b o ∷ kept-read ∷ []) ∵ updating ! $
+          move ! (3 ∷ []) $ split ! $ move ! (2 ∷ 0 ∷ []) $ lent-back ! tt $
+          -- [the characters; the way back and the rest; the core's cell; the edges']
+          rewrite ! 0 chars-part (sym (map-id (h .chars))) refl $ nothing ! $ move ! (1 ∷ 0 ∷ []) $ fjoin ! $
+          move ! (3 ∷ []) $
+          use1 W (edges-part (h .edges) b o)
+          (part-in 𝓤 H A D.the-type D′.the-laws W D′.the-plain (h .edges) b (o + past-core) isw) $
+          fjoin ! $ move ! (2 ∷ []) $
+          use1 W (core-part (h .core) b o)
+          (part-in 𝓤 H A K.the-type K′.the-laws W K′.the-plain (h .core) b (o + 0) isc) $ fjoin ! $
+          move ! (1 ∷ []) $ split ! $
+          -- [the way back; the open borrow, obs and auth; the parts]
+          move ! (0 ∷ 2 ∷ []) $ use2 W (‵ (mem T.the-row .lies h b o)) (together h b o) $
+          move ! (1 ∷ []) $ split ! $ move ! (1 ∷ []) $ split ! $ move ! (3 ∷ 2 ∷ 0 ∷ 1 ∷ []) $
+          close-ref ! tt (mem T.the-row) h {b = b} {o = o} $ at-once ! $ done !
+
   -- the values of a station's fields
   abbrev values : Measured → Values (T.the-type .parts)
   values s = (s .core, (s .edges, (s .chars, tt)))
@@ -275,6 +332,33 @@ module _ {M : Type 1} {𝓤 : URA M} {H : Heap 𝓤} {A : Atoms 𝓤} {X : Type 
   takes-back t z {κ} {κ′} {q} {γ} {γ₁} b o h c w cs isc isw =
       step (λ s. move t (3 ∷ 4 ∷ []) $ join t $ move t (3 ∷ 0 ∷ []) $ join t $ move t (1 ∷ 2 ∷ 0 ∷ []) $
       use3 W (later (held 𝓤 H A W κ κ′ q γ b o (lent c w cs))) (takes 𝓤 H A W κ κ′ q γ b o h γ₁ c w cs isc isw) $
+      await t z $ split t $ move t (1 ∷ []) $ split t $ move t (2 ∷ 0 ∷ 1 ∷ []) $ s)
+
+  -- the same two, where the characters are lent to be read
+  pub reads-on : X → Soaks G → (ℓ : Lifetime) (κ′ : Lft) {κ : Lft} {q : Share} {γ : GName} (b o : ℕ) (h : Measured)
+      → ((γ₁ : GName) → IsCore (h .core) → IsEdges (h .edges)
+      → Seq X W (core-cell 𝓤 H A W (h .core) b o ∷ edges-cell 𝓤 H A W (h .edges) b o
+      ∷ core-own 𝓤 H A W (h .core) ∷ edges-own 𝓤 H A W (h .edges)
+      ∷ chars-read 𝓤 H A W κ κ′ q γ b o h ℓ γ₁ ∷ kept-read 𝓤 H A W κ κ′ q γ b o h ∷ Γ) G)
+      → Seq X W (‵ (fobs γ (T.the-row .coded .code h)) ∷ ‵ (fbor κ (Body (mem T.the-row) b o γ)) ∷ ‵ (flft κ q) ∷ Γ) G
+  reads-on t z ℓ κ′ {κ} {q} {γ} b o h k =
+      use3 W (later (some (λ (γ₁ : GName). opened-read 𝓤 H A W κ κ′ q γ b o h ℓ γ₁)))
+      (lends-read 𝓤 H A W κ κ′ q γ b o h ℓ) $ await t z $ pick t (λ γ₁.
+      split t $ peeks t K.the-row (Is K.the-row) (shows 𝓤 H A K.the-row) (h .core) (core-vals (h .core)) (λ isc.
+      move t (1 ∷ []) $ split t $ move t (1 ∷ []) $ split t $
+      peeks t D.the-row (Is D.the-row) (shows 𝓤 H A D.the-row) (h .edges) (edges-vals (h .edges)) (λ isw.
+      move t (1 ∷ []) $ split t $ move t (1 ∷ []) $ split t $
+      move t (4 ∷ 2 ∷ 5 ∷ 3 ∷ 0 ∷ 1 ∷ []) $ k γ₁ isc isw)))
+
+  pub read-back : X → Soaks G → {κ κ′ : Lft} {q : Share} {γ : GName} (b o : ℕ) (h : Measured)
+      → IsCore (h .core) → IsEdges (h .edges)
+      → Step X W (‵ (fobs γ (T.the-row .coded .code h)) ∷ ‵ (fbor κ (Body (mem T.the-row) b o γ))
+      ∷ ‵ (flft κ q) ∷ Γ) G
+      (‵ (fdead κ′) ∷ core-cell 𝓤 H A W (h .core) b o ∷ edges-cell 𝓤 H A W (h .edges) b o
+      ∷ kept-read 𝓤 H A W κ κ′ q γ b o h ∷ Γ) G
+  read-back t z {κ} {κ′} {q} {γ} b o h isc isw =
+      step (λ s. move t (2 ∷ 3 ∷ []) $ join t $ move t (2 ∷ 0 ∷ []) $ join t $ move t (1 ∷ 0 ∷ []) $
+      use2 W (later (held 𝓤 H A W κ κ′ q γ b o h)) (takes-read 𝓤 H A W κ κ′ q γ b o h isc isw) $
       await t z $ split t $ move t (1 ∷ []) $ split t $ move t (2 ∷ 0 ∷ 1 ∷ []) $ s)
 
   -- of the station h behind a `&`, the core and the edges are shared on, and the characters, by a reference of their

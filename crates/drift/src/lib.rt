@@ -8,14 +8,16 @@ use edges::Report;
 use frames::Frame;
 use half_duplex::Core;
 ghost use mathlib.Core.Path.{_≡_};
-ghost use mathlib.Core.Bool.{true, cond};
+ghost use mathlib.Core.Bool.{true, false, cond};
 ghost use mathlib.Core.List.{List};
 ghost use Prim.Native.Nat.{ℕ, _≤_, _<_};
 ghost use lib.ListN.{length};
 ghost use Rattle.lists.specs.Lists.{allAtMost};
 ghost use Rattle.alphabet.specs.Modes.{highestLevel};
-ghost use Rattle.edges.specs.Edges.{noEdge, noEdges, joined, edgesMs, countedMs};
+ghost use Rattle.edges.specs.Edges.{noEdge, noEdges, joined, isMeasured, edgesMs, countedMs};
 ghost use Rattle.edges.specs.code.Bounds.{ReportOf, EdgesOf};
+ghost use Rattle.frames.specs.Samples.{samplesOf};
+ghost use Rattle.frames.specs.Frames.{frameNext};
 ghost use Rattle.frames.specs.code.Bounds.{FrameOf};
 ghost use Rattle.half_duplex.specs.Core.{modeIn, inhibitedIn, coreAfter};
 ghost use Rattle.half_duplex.specs.code.Bounds.{CoreIn};
@@ -31,10 +33,11 @@ pub struct Counted {
     pub report: Report,
 }
 
-// The edges of one ms, which is inhibited or heard.
-fn hear(inhibited: bool, mode: Mode, f: Frame, w: Edges, heard: u8) -> EdgesRead
+// The edges of one ms, which is inhibited or heard, by the frame before it and after it.
+fn hear(inhibited: bool, mode: Mode, f: Frame, after: Frame, w: Edges, heard: u8) -> EdgesRead
     requires { ⌜ FrameOf mode f ⌝ }
     requires { ⌜ EdgesOf mode f w ⌝ }
+    requires { ⌜ (inhibited ≡ false → isMeasured mode ≡ true → after ≡ frameNext (samplesOf mode) f heard) ⌝ }
     ensures { λ r. ⌜ r .edges ≡ cond inhibited noEdges (edgesMs mode f w heard) ⌝ }
     ensures { λ r. ⌜ r .counted ≡ cond inhibited noEdge (countedMs mode f w heard) ⌝ }
 {
@@ -43,7 +46,7 @@ fn hear(inhibited: bool, mode: Mode, f: Frame, w: Edges, heard: u8) -> EdgesRead
         let counted = edges::no_edge();
         return EdgesRead { edges, counted };
     }
-    edges::hear(mode, f, w, heard)
+    edges::hear(mode, f, after, w, heard)
 }
 
 // One ms.
@@ -60,15 +63,16 @@ fn step(mode: Mode, c: Core, w: Edges, r: Report, front: Char, heard: u8) -> Cou
 {
     let l = half_duplex::settle(c, front);
     let line = l.line;
-    let reader = c.reader;
-    let f = reader.frame;
+    let before = c.reader;
+    let f = before.frame;
     let inhibited = rules::is_inhibited(line.part != burst::IDLE, c.inhibited);
-    let e = hear(inhibited, mode, f, w, heard);
+    let x = half_duplex::step(c, l, heard);
+    let core = x.core;
+    let reader = core.reader;
+    let e = hear(inhibited, mode, f, reader.frame, w, heard);
     let edges = e.edges;
     let counted = e.counted;
     let report = edges::joined(r, counted);
-    let x = half_duplex::step(c, l, heard);
-    let core = x.core;
     Counted {
         core,
         edges,

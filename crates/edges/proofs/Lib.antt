@@ -3,3 +3,4 @@ pub mod Places
 pub mod Range
 pub mod Joining
 pub mod Bound
+pub mod Ends

@@ -1,16 +1,18 @@
 // Edges of Baudot frames: which are early and which late, and reports of them.
 use alphabet::Mode;
-use frames::Found;
 use frames::Frame;
 ghost use mathlib.Core.Path.{_≡_};
-ghost use mathlib.Core.Bool.{cond, _&&_};
+ghost use mathlib.Core.Bool.{true, cond, _&&_};
 ghost use Prim.Native.Nat.{_+_, _-_, _≤_, _<_};
 ghost use lib.Dec.{eqb, leb, ltb};
 ghost use lib.IntN.{natAbs};
 ghost use Rattle.alphabet.specs.Modes.{elementOf};
+ghost use Rattle.frames.specs.Samples.{samplesOf};
+ghost use Rattle.frames.specs.Range.{lastMs};
+ghost use Rattle.frames.specs.Frames.{frameNext};
 ghost use Rattle.frames.specs.code.Bounds.{FrameOf};
 ghost use Rattle.signal.specs.Signal.{quiet};
-ghost use Rattle.edges.specs.Edges.{noEdge, oneEdge, noEdges, smaller, larger, joined, isEdge, displacement, withMs, isCode, edgesMs, countedMs};
+ghost use Rattle.edges.specs.Edges.{noEdge, oneEdge, noEdges, smaller, larger, joined, isEdge, displacement, withMs, isMeasured, edgesMs, countedMs};
 ghost use Rattle.edges.specs.Range.{mostEdges, isEmpty, isDisplaced, reportIn, edgesIn};
 ghost use Rattle.edges.specs.code.Bounds.{ReportOf, EdgesOf};
 
@@ -175,17 +177,6 @@ pub fn with_ms(e: usize, m: usize, w: Edges, heard: u8) -> Edges
     Edges { seen, level: heard }
 }
 
-// Was a code found?
-pub fn is_code(found: Found) -> bool
-    ensures { λ r. ⌜ r ≡ isCode found ⌝ }
-{
-    match found {
-        Found::Nothing => false,
-        Found::Fault(cause, ms) => false,
-        Found::Code(k) => true,
-    }
-}
-
 // The ms of a frame at a place of its reader; 0 where it begins.
 pub fn ms_at(place: u8) -> usize
     ensures { λ r. ⌜ r ≡ place - 1 ⌝ }
@@ -216,10 +207,22 @@ fn ending(code: bool, w: Edges) -> Report
     no_edge()
 }
 
-// The edges that wait after a ms that was heard, and those that count in it.
-pub fn hear(mode: Mode, f: Frame, w: Edges, heard: u8) -> EdgesRead
+// Does a ms find a code? It does if the reader stood before its frame's last sample, and hunts after it.
+fn finds_code(mode: Mode, before: u8, after: u8) -> bool
+    ensures { λ r. ⌜ r ≡ (eqb before (lastMs (samplesOf mode) + 1) && eqb after 0) ⌝ }
+{
+    if before != mode.last_sample() + 1 {
+        return false;
+    }
+    after == 0
+}
+
+// The edges that wait after a ms that was heard, and those that count in it, by the frame before the ms and after it.
+// `frames::frame_step` is not called for the latter: the reader has it inlined as long as it is its only caller.
+pub fn hear(mode: Mode, f: Frame, after: Frame, w: Edges, heard: u8) -> EdgesRead
     requires { ⌜ FrameOf mode f ⌝ }
     requires { ⌜ EdgesOf mode f w ⌝ }
+    requires { ⌜ (isMeasured mode ≡ true → after ≡ frameNext (samplesOf mode) f heard) ⌝ }
     ensures { λ r. ⌜ r .edges ≡ edgesMs mode f w heard ⌝ }
     ensures { λ r. ⌜ r .counted ≡ countedMs mode f w heard ⌝ }
 {
@@ -230,12 +233,9 @@ pub fn hear(mode: Mode, f: Frame, w: Edges, heard: u8) -> EdgesRead
             counted: no_edge(),
         };
     }
-    let q = frames::frame_step(mode, f, heard);
     let w = with_ms(e, ms_at(f.place), w, heard);
-    let after = q.frame;
-    let found = q.found;
     let edges = going_on(after.place, w);
-    let counted = ending(is_code(found), w);
+    let counted = ending(finds_code(mode, f.place, after.place), w);
     EdgesRead { edges, counted }
 }
 

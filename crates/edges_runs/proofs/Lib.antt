@@ -4,4 +4,5 @@ pub mod Reading
 pub mod Bound
 pub mod Slicing
 pub mod Sampling
+pub mod Ending
 pub mod Measuring

@@ -1,4 +1,4 @@
--- The loop over the samples: the reader and the report so far.
+-- The loop over the frames: the reader and the report so far.
 use mathlib.Core.Path.{_≡_, _∙_, refl, sym, ap, subst}
 use mathlib.Core.Bool.{Bool, true, false, cond}
 use mathlib.Core.List.{List, [], _∷_, _++_}
@@ -18,8 +18,7 @@ use Rattle.frames.specs.declared.FrameRead.{FrameRead}
 use Rattle.frames.specs.Samples.{Placed, samplesOf}
 use Rattle.frames.specs.Frames.{frameStep, frameNext, frameFound, frameAfter}
 use Rattle.frames.specs.code.Bounds.{Framed, FrameOf}
-use Rattle.frames.proofs.Range.{next-in}
-use Rattle.frames_runs.specs.declared.Passed.{Passed}
+use Rattle.frames.proofs.Range.{next-in, place-255}
 use Rattle.frames_runs.specs.code.Passing.{frameAt}
 use Rattle.frames_runs.proofs.Walking.{part}
 use Rattle.edges.specs.declared.Report.{Report}
@@ -28,12 +27,12 @@ use Rattle.edges.specs.Edges.{noEdge, noEdges, joined, withMs, isMeasured, goin
 use Rattle.edges.specs.code.Bounds.{ReportOf, EdgesOf}
 use Rattle.edges.specs.code.Measuring.{edgesOver, reportOver}
 use Rattle.edges.proofs.Range.{more-of, waiting-few, counted-measured, element-few, element-some}
-use Rattle.edges_runs.specs.declared.Sampled.{Sampled}
+use Rattle.edges_runs.specs.declared.Ended.{Ended}
 use Rattle.edges_runs.specs.code.Latest.{Goes}
-use Rattle.edges_runs.specs.code.Counting.{Clean, cleanDigits, frameOf, Reached, CountOf, SampledAs}
+use Rattle.edges_runs.specs.code.Counting.{Clean, cleanDigits, Reached, EndsSo, withCode, CountOf}
 use Rattle.edges_runs.proofs.Reading.{report-append, goes-over, walks-after, walks-report}
 use Rattle.edges_runs.proofs.Bound.{fine-of, report-most, report-fine}
-use Rattle.edges_runs.proofs.Sampling.{clean-next, reached-clean, take-next}
+use Rattle.edges_runs.proofs.Sampling.{clean-next, reached-clean, code-in, take-next}
 
 -- ---- a reader whose digits are as they are to be
 
@@ -155,27 +154,27 @@ module _ (mode : Mode) (f : Frame) (w : Edges) (r : Report) (heard : List ℕ) (
     report-in : ReportOf 1_000_000 report
     report-in = subst (ReportOf 1_000_000) (a .report-is) (so-far i (a .within))
 
-    -- up to the next sample
-    module _ (p : Passed) (h : Reached mode heard (frameAt place digits) i p) where
-      pub at-reached : At mode f w r heard (p .place) (p .digits) (p .to) report
+    -- up to the ms that ends a frame
+    module _ (k : Frame) (to : ℕ) (h : Reached mode heard (frameAt place digits) i k to) where
+      pub at-reached : At mode f w r heard (k .place) (k .digits) to report
       at-reached =
-          let ps = part heard i (p .to) in
-          let c = take-on heard i (p .to) (h .low) in
+          let ps = part heard i to in
+          let c = take-on heard i to (h .low) in
           let at = edgesOver mode (cleaned f) w (take i heard) in
           record {
             within = h .high;
             in-range = h .in-range;
-            clean = reached-clean mode heard (frameAt place digits) i p (a .clean) h;
+            clean = reached-clean mode heard (frameAt place digits) i k to (a .clean) h;
             frame =
                 ap (frameAfter ss (cleaned f)) c
                 ∙ after-append (frameNext ss) (frameFound ss) (cleaned f) (take i heard) ps
-                ∙ ap (λ (k : Frame). frameAfter ss k ps) (a .frame)
-                ∙ walks-after mode (frameAt place digits) (frameOf p) ps (h .walks);
+                ∙ ap (λ (g : Frame). frameAfter ss g ps) (a .frame)
+                ∙ walks-after mode (frameAt place digits) k ps (h .walks);
             report-is =
                 ap (reportOver mode (cleaned f) w r) c
                 ∙ report-append mode (cleaned f) w r (take i heard) ps
                 ∙ (λ t. reportOver mode (a .frame t) at (a .report-is t) ps)
-                ∙ walks-report mode (frameAt place digits) (frameOf p) at report ps (report-in .none) (h .walks);
+                ∙ walks-report mode (frameAt place digits) k at report ps (report-in .none) (h .walks);
           }
 
     pub at-end : i ≡ length heard → report ≡ reportOver mode f w r heard
@@ -194,8 +193,8 @@ module _ (mode : Mode) (f : Frame) (w : Edges) (r : Report) (heard : List ℕ) (
       report = report-in;
     }
 
-  -- a sample, with whatever edges wait before it
-  module _ (p : Passed) (report : Report) (a : At mode f w r heard (p .place) (p .digits) (p .to) report)
+  -- the ms that ends a frame, with whatever edges wait before it
+  module _ (k : Frame) (p : Ended) (report : Report) (a : At mode f w r heard (k .place) (k .digits) (p .to) report)
       (l : p .to < length heard) where
     abbrev before : List ℕ
     before = take (p .to) heard
@@ -206,35 +205,46 @@ module _ (mode : Mode) (f : Frame) (w : Edges) (r : Report) (heard : List ℕ) (
     abbrev v : Edges
     v = edgesOver mode (cleaned f) w before
 
-    goes-here : Goes e (f .place) w before (p .place) v
-    goes-here =
-        subst (λ (k : Frame). Goes e (f .place) w before (k .place) v) (a .frame)
-        (goes-over mode (g .measured) (cleaned f) w before (g .edges .outside))
+    module _ (h : EndsSo mode k x p) where
+      pub place-few : p .place < 255
+      place-few = subst (λ (n : ℕ). n < 255) (h .place) (place-255 mode k (a .in-range))
 
-    module _ (s : Sampled) (h : SampledAs mode e (f .place) w heard p report s) where
-      counted-here : joined report (countedMs mode (frameOf p) v x) ≡ s .report
-      counted-here =
-          ap (joined report) (counted-measured mode (frameOf p) v x (g .measured)) ∙ sym (h .report v goes-here)
+      pub code-inside : p .code ≡ true → 2 ≤ p .place
+      code-inside t = subst (λ (n : ℕ). 2 ≤ n) (h .place) (code-in ss (k .place) (k .digits) x (h .code ∙ t))
 
-      pub at-sampled : At mode f w r heard (s .frame .place) (s .frame .digits) (p .to + 1) (s .report)
-      unfolding stateAfter reportOver
-      at-sampled =
-          let n = sym (h .frame) in
-          let c = take-next heard (p .to) l in
-          record {
-            within = omega arith;
-            in-range =
-                subst (FrameOf mode) n
-                (next-in mode (measured-framed mode (g .measured)) (frameOf p) x (a .in-range));
-            clean = subst Clean n (clean-next ss (frameOf p) x);
-            frame =
-                ap (frameAfter ss (cleaned f)) c
-                ∙ after-append (frameNext ss) (frameFound ss) (cleaned f) before (x ∷ [])
-                ∙ ap (λ (k : Frame). frameNext ss k x) (a .frame)
-                ∙ n;
-            report-is =
-                ap (reportOver mode (cleaned f) w r) c
-                ∙ report-append mode (cleaned f) w r before (x ∷ [])
-                ∙ (λ t. joined (a .report-is t) (countedMs mode (a .frame t) v x))
-                ∙ counted-here;
-          }
+      goes-here : Goes e (f .place) w before (p .place) v
+      goes-here =
+          subst (λ (n : ℕ). Goes e (f .place) w before n v) (ap (λ (g : Frame). g .place) (a .frame) ∙ h .place)
+          (goes-over mode (g .measured) (cleaned f) w before (g .edges .outside))
+
+      module _ (q : Report)
+          (all : (u : Edges) → Goes e (f .place) w before (p .place) u
+          → q ≡ withCode e (p .place) u x (p .code) report) where
+        counted-here : joined report (countedMs mode k v x) ≡ q
+        counted-here =
+            ap (joined report) (counted-measured mode k v x (g .measured))
+            ∙ (λ t. withCode e (h .place t) v x (h .code t) report)
+            ∙ sym (all v goes-here)
+
+        pub at-ended : At mode f w r heard (p .next) 0 (p .to + 1) q
+        unfolding stateAfter reportOver
+        at-ended =
+            let n = h .next in
+            let c = take-next heard (p .to) l in
+            record {
+              within = omega arith;
+              in-range =
+                  subst (FrameOf mode) n
+                  (next-in mode (measured-framed mode (g .measured)) k x (a .in-range));
+              clean = subst Clean n (clean-next ss k x);
+              frame =
+                  ap (frameAfter ss (cleaned f)) c
+                  ∙ after-append (frameNext ss) (frameFound ss) (cleaned f) before (x ∷ [])
+                  ∙ ap (λ (y : Frame). frameNext ss y x) (a .frame)
+                  ∙ n;
+              report-is =
+                  ap (reportOver mode (cleaned f) w r) c
+                  ∙ report-append mode (cleaned f) w r before (x ∷ [])
+                  ∙ (λ t. joined (a .report-is t) (countedMs mode (a .frame t) v x))
+                  ∙ counted-here;
+            }

@@ -1,4 +1,4 @@
--- From sample to sample: the reader that is reached, and the edges that count there.
+-- From frame to frame: the reader that is reached, and the edges that count there.
 use mathlib.Core.Path.{_≡_, _∙_, refl, sym, ap, subst}
 use mathlib.Core.Bool.{Bool, true, false, cond}
 use mathlib.Core.List.{List, [], _∷_, _++_}
@@ -13,23 +13,19 @@ use Rattle.alphabet.specs.declared.Mode.{Mode}
 use Rattle.signal.specs.Signal.{parityOf}
 use Rattle.frames.specs.declared.Cause.the-variants.{Quiet, StopNotMark, OddParity}
 use Rattle.frames.specs.declared.Frame.{Frame}
-use Rattle.frames.specs.declared.Found.{Found}
 use Rattle.frames.specs.declared.Found.the-variants.{Nothing, Code}
 use Rattle.frames.specs.declared.FrameRead.{FrameRead}
 use Rattle.frames.specs.Samples.{Sample, None, Start, Digit, Parity, Stop, Last, Placed, sampleAt, samplesOf}
 use Rattle.frames.specs.Frames.{inFrame, hunting, waiting, gives, goesOn, faulty, withDigit, parityHeard, sampled, frameStep, frameNext, frameFound}
-use Rattle.frames.specs.code.Bounds.{FrameOf}
 use Rattle.frames.proofs.Range.{tested}
-use Rattle.frames_runs.specs.declared.Passed.{Passed}
-use Rattle.frames_runs.specs.code.Passing.{frameAt, Walks, FramePasses, FrameWalks}
-use Rattle.frames_runs.proofs.Walking.{walks-none, walks-chain}
+use Rattle.frames_runs.specs.code.Passing.{frameAt, Walks}
 use Rattle.edges.specs.declared.Report.{Report}
 use Rattle.edges.specs.declared.Edges.{Edges}
 use Rattle.edges.specs.Edges.{noEdge, joined, withMs, isCode}
 use Rattle.edges.specs.code.Bounds.{ReportOf}
 use Rattle.edges.proofs.Joining.{joined-none}
 use Rattle.edges_runs.specs.code.Latest.{On, Goes}
-use Rattle.edges_runs.specs.code.Counting.{Clean, frameOf, Reached, withFound, SampledAs}
+use Rattle.edges_runs.specs.code.Counting.{Clean, Reached, withCode}
 use Rattle.edges_runs.proofs.Going.{goes-append, goes-one}
 
 -- ---- a reader outside a frame has no digits
@@ -81,9 +77,9 @@ clean-walks samples f g [] h w = subst Clean w h
 clean-walks samples f g (x ∷ xs) h w =
     clean-walks samples (frameNext samples f x) g xs (clean-next samples f x) (w .1)
 
-pub reached-clean : (mode : Mode) (heard : List ℕ) (f : Frame) (i : ℕ) (p : Passed) → Clean f → Reached mode heard f i p
-    → Clean (frameOf p)
-reached-clean mode heard f i p h r = clean-walks (samplesOf mode) f (frameOf p) _ h (r .walks)
+pub reached-clean : (mode : Mode) (heard : List ℕ) (f : Frame) (i : ℕ) (g : Frame) (to : ℕ) → Clean f
+    → Reached mode heard f i g to → Clean g
+reached-clean mode heard f i g to h r = clean-walks (samplesOf mode) f g _ h (r .walks)
 
 -- ---- a code is found in a frame
 
@@ -93,34 +89,6 @@ unfolding frameStep
 code-in samples zero digits heard t = absurd (subst T (sym t) tt)
 code-in samples (suc zero) digits heard t = absurd (subst T (sym t) tt)
 code-in samples (suc (suc place)) digits heard t = omega arith
-
--- ---- the loop from place to place
-
-module _ (mode : Mode) (heard : List ℕ) (f : Frame) (i : ℕ) where
-  pub reached-start : (on : Bool) → FrameOf mode f → i ≤ length heard
-      → Reached mode heard f i (record { place = f .place; digits = f .digits; to = i; on = on })
-  reached-start on h l = record {
-    low = omega arith;
-    high = l;
-    in-range = h;
-    walks = walks-none (samplesOf mode) heard f i;
-  }
-
-  pub reached-turn : (p q : Passed) → Clean f → Reached mode heard f i p
-      → FramePasses mode heard (frameOf p) (p .to) (frameOf q) (q .to)
-      → (Clean (frameOf p) → FrameWalks mode heard (frameOf p) (p .to) (frameOf q) (q .to))
-      → Reached mode heard f i q
-  reached-turn p q h r a b =
-      let l = r .low in
-      let m = a .low in
-      record {
-        low = omega arith;
-        high = a .high;
-        in-range = a .in-range;
-        walks =
-            walks-chain (samplesOf mode) heard f (frameOf p) (frameOf q) i (p .to) (q .to) l m (r .walks)
-            (b (reached-clean mode heard f i p h r));
-      }
 
 -- ---- one ms more of a frame
 
@@ -139,31 +107,20 @@ goes-next e before w heard to at v l h g =
 
 -- ---- the edges that count
 
-pub count-none : {n : ℕ} (e at : ℕ) (v : Edges) (x : ℕ) (found : Found) (r : Report) → ReportOf n r
-    → isCode found ≡ false → r ≡ withFound e at v x found r
-count-none e at v x found r h n =
+pub count-none : {n : ℕ} (e at : ℕ) (v : Edges) (x : ℕ) (code : Bool) (r : Report) → ReportOf n r → code ≡ false
+    → r ≡ withCode e at v x code r
+count-none e at v x code r h n =
     sym (ap (λ (b : Bool). joined r (cond b (withMs e (at - 1) v x .seen) noEdge)) n ∙ joined-none r (h .none))
 
-module _ (e before : ℕ) (w : Edges) (heard : List ℕ) (to at : ℕ) (found : Found) (r : Report) (v : Edges) where
+module _ (e before : ℕ) (w : Edges) (heard : List ℕ) (to at : ℕ) (code : Bool) (r : Report) (v : Edges) where
   abbrev x : ℕ
   x = getD heard to 0
 
-  pub count-code : to < length heard → (isCode found ≡ true → 2 ≤ at) → Goes e before w (take to heard) at v
+  pub count-code : to < length heard → (code ≡ true → 2 ≤ at) → Goes e before w (take to heard) at v
       → (u : Edges) → ((w' : Edges) → Goes e before w (take (to + 1 - 0) heard) (at + 1) w' → u ≡ w')
-      → isCode found ≡ true → joined r (u .seen) ≡ withFound e at v x found r
+      → code ≡ true → joined r (u .seen) ≡ withCode e at v x code r
   count-code l h g u all t =
       let z : to + 1 - 0 ≡ to + 1 = omega arith in
       let a = withMs e (at - 1) v x in
       let b = all a (rw z (goes-next e before w heard to at v l (h t) g)) in
       ap (λ (k : Edges). joined r (k .seen)) b ∙ sym (ap (λ (k : Bool). joined r (cond k (a .seen) noEdge)) t)
-
-module _ (mode : Mode) (e before : ℕ) (w : Edges) (heard : List ℕ) (p : Passed) (r : Report) where
-  pub sampled-as : (q : FrameRead) → q ≡ frameStep (samplesOf mode) (frameOf p) (getD heard (p .to) 0)
-      → (report : Report)
-      → ((v : Edges) → Goes e before w (take (p .to) heard) (p .place) v
-      → report ≡ withFound e (p .place) v (getD heard (p .to) 0) (q .found) r)
-      → SampledAs mode e before w heard p r (record { frame = q .frame; report = report })
-  sampled-as q f report all = record {
-    frame = ap (λ (k : FrameRead). k .frame) f;
-    report = λ v g. all v g ∙ ap (λ (k : FrameRead). withFound e (p .place) v (getD heard (p .to) 0) (k .found) r) f;
-  }

@@ -2,26 +2,27 @@
 use alphabet::Mode;
 use edges::Edges;
 use edges::Report;
-use frames::Found;
 use frames::Frame;
-use frames_runs::Passed;
+use frames::samples::Effect;
 ghost use mathlib.Core.Path.{_≡_};
 ghost use mathlib.Core.Bool.{true};
 ghost use Prim.Native.Nat.{_-_, _≤_, _<_};
 ghost use lib.ListN.{length, getD, take, drop};
 ghost use Rattle.frames.specs.code.Bounds.{Framed, FrameOf};
-ghost use Rattle.frames_runs.specs.code.Passing.{frameAt};
-ghost use Rattle.edges.specs.Edges.{isCode};
+ghost use Rattle.frames_runs.specs.code.Passing.{frameAt, Stays};
 ghost use Rattle.edges.specs.code.Bounds.{ReportOf, EdgesOf};
 ghost use Rattle.edges.specs.code.Measuring.{withAll, reportOver};
 ghost use Rattle.edges_runs.specs.code.Latest.{SliceOf, Goes};
-ghost use Rattle.edges_runs.specs.code.Counting.{Clean, cleanDigits, frameOf, Reached, withFound, CountOf, SampledAs};
+ghost use Rattle.edges_runs.specs.code.Counting.{Clean, cleanDigits, endedBy, EndedAt, withCode, CountOf};
 ghost use Rattle.edges.specs.declared.Edges as edges;
 
-// A reader of frames behind a sample, and the report so far.
-pub struct Sampled {
-    pub frame: Frame,
-    pub report: Report,
+// Where a frame ends: its reader's place before the ms that ends it, that ms, the place behind it, and whether a code
+// is found.
+pub struct Ended {
+    pub place: u8,
+    pub to: usize,
+    pub next: usize,
+    pub code: bool,
 }
 
 // The edges of a frame with the ms of a slice, the first of which is ms m of the frame: from one change of the level to
@@ -65,32 +66,99 @@ pub fn latest(e: usize, before: u8, w: Edges, heard: &[u8], after: u8) -> Edges
     with_slice(e, edges::ms_at(before), w, heard, 0, len)
 }
 
-// From place to place, up to a sample that may find something, or to the end.
-fn to_sample(mode: Mode, heard: &[u8], place: usize, digits: usize, i: usize) -> Passed
+// What a sample that ends a frame, at a place of its reader and a ms of what is heard, leads to.
+fn end_by(place: u8, to: usize, e: Effect) -> Ended
+    ensures { λ r. ⌜ r ≡ endedBy place to e ⌝ }
+{
+    match e {
+        Effect::On(digits) => Ended {
+            place,
+            to,
+            next: 0,
+            code: false,
+        },
+        Effect::Hunts => Ended {
+            place,
+            to,
+            next: 0,
+            code: false,
+        },
+        Effect::Breaks(cause) => Ended {
+            place,
+            to,
+            next: 1,
+            code: false,
+        },
+        Effect::Ends => Ended {
+            place,
+            to,
+            next: 0,
+            code: true,
+        },
+    }
+}
+
+// In a frame, from sample to sample up to the one that ends it. `frames_runs::pass` is not called for this: the reader
+// over many ms has it inlined as long as it is its only caller.
+fn frame_end(mode: Mode, heard: &[u8], place: usize, digits: usize, i: usize) -> Ended
+    requires { ⌜ Framed mode ⌝ }
+    requires { ⌜ FrameOf mode (frameAt place digits) ⌝ }
+    requires { ⌜ 2 ≤ place ⌝ }
+    requires { ⌜ i ≤ length (now heard) ⌝ }
+    ensures { λ p. ⌜ EndedAt mode (now (heard .entry)) (frameAt place digits) i p ⌝ }
+{
+    let m = place - 1;
+    let mut j = frames::samples::number_at(mode, m);
+    let mut s = frames::samples::sample_ms(mode, j);
+    let mut at = i + (s - m);
+    let mut d = digits;
+    while at < heard.len() {
+        let e = frames::samples::effect_of(mode, j, d, heard[at]);
+        let Effect::On(after) = e else {
+            return end_by((s + 1) as u8, at, e);
+        };
+        d = after;
+        j += 1;
+        let next = frames::samples::sample_ms(mode, j);
+        at += next - s;
+        s = next;
+    }
+    end_by(0, heard.len(), Effect::Hunts)
+}
+
+// Between frames: hunting, up to a space; waiting, past the space.
+fn between(heard: &[u8], place: usize, i: usize) -> usize
+    requires { ⌜ place ≤ 1 ⌝ }
+    requires { ⌜ i ≤ length (now heard) ⌝ }
+    ensures { λ r. ⌜ Stays (now (heard .entry)) place i r ⌝ }
+{
+    if place == 0 {
+        return lists::places::until(heard, i, heard.len(), 2);
+    }
+    lists::places::through_run(heard, i, heard.len(), 2)
+}
+
+// Up to the ms that ends the next frame, or to the end of what is heard.
+fn next_end(mode: Mode, heard: &[u8], place: usize, digits: usize, i: usize) -> Ended
     requires { ⌜ Framed mode ⌝ }
     requires { ⌜ FrameOf mode (frameAt place digits) ⌝ }
     requires { ⌜ Clean (frameAt place digits) ⌝ }
     requires { ⌜ i ≤ length (now heard) ⌝ }
-    ensures { λ p. ⌜ Reached mode (now (heard .entry)) (frameAt place digits) i p ⌝ }
+    ensures { λ p. ⌜ EndedAt mode (now (heard .entry)) (frameAt place digits) i p ⌝ }
 {
     let mut at = place;
     let mut d = digits;
     let mut to = i;
-    while to < heard.len() {
-        let p = frames_runs::pass(mode, heard, at, d, to);
-        if !p.on {
-            return p;
+    while at < 2 {
+        let k = between(heard, at, to);
+        if k == heard.len() {
+            return end_by(0, k, Effect::Hunts);
         }
-        at = p.place;
-        d = p.digits;
-        to = p.to;
+        at = frames_runs::place_after(at, heard[k]);
+        d = 0;
+        to = k + 1;
     }
-    Passed {
-        place: at,
-        digits: d,
-        to,
-        on: false,
-    }
+    frame_end(mode, heard, at, d, to)
 }
 
 // The report with the edges of a frame that ends in a code, the ms of its stop sample included.
@@ -101,48 +169,22 @@ fn counted(
     heard: &[u8],
     to: usize,
     at: u8,
-    found: Found,
+    code: bool,
     r: Report,
 ) -> Report
     requires { ⌜ CountOf e w (now heard) to r ⌝ }
     requires { ⌜ at < 255 ⌝ }
-    requires { ⌜ (isCode found ≡ true → 2 ≤ at) ⌝ }
+    requires { ⌜ (code ≡ true → 2 ≤ at) ⌝ }
     ensures { λ q. ⌜ ((v : edges.Edges) → Goes e before w (take to (now (heard .entry))) at v
-        → q ≡ withFound e at v (getD (now (heard .entry)) to 0) found r) ⌝ }
+        → q ≡ withCode e at v (getD (now (heard .entry)) to 0) code r) ⌝ }
 {
-    if edges::is_code(found) {
+    if code {
         let end = to + 1;
         let ended = latest(e, before, w, &heard[0..end], at + 1);
         let seen = ended.seen;
         return edges::joined(r, seen);
     }
     r
-}
-
-// A sample: the reader behind it, and the report.
-fn at_sample(
-    mode: Mode,
-    e: usize,
-    before: u8,
-    w: Edges,
-    heard: &[u8],
-    p: Passed,
-    r: Report,
-) -> Sampled
-    requires { ⌜ FrameOf mode (frameOf p) ⌝ }
-    requires { ⌜ CountOf e w (now heard) (p .to) r ⌝ }
-    ensures { λ s. ⌜ SampledAs mode e before w (now (heard .entry)) p r s ⌝ }
-{
-    let f = Frame {
-        place: p.place as u8,
-        digits: p.digits as u8,
-    };
-    let to = p.to;
-    let q = frames::frame_step(mode, f, heard[to]);
-    let frame = q.frame;
-    let found = q.found;
-    let report = counted(e, before, w, heard, to, f.place, found, r);
-    Sampled { frame, report }
 }
 
 // The digits of a reader: none outside a frame.
@@ -155,7 +197,7 @@ fn clean_digits(f: Frame) -> usize
     f.digits as usize
 }
 
-// A report with the edges of all frames that end in a code, from sample to sample.
+// A report with the edges of all frames that end in a code, from frame to frame.
 pub fn measure(mode: Mode, f: Frame, w: Edges, r: Report, heard: &[u8]) -> Report
     requires { ⌜ FrameOf mode f ⌝ }
     requires { ⌜ EdgesOf mode f w ⌝ }
@@ -172,16 +214,14 @@ pub fn measure(mode: Mode, f: Frame, w: Edges, r: Report, heard: &[u8]) -> Repor
     let mut i: usize = 0;
     let mut report = r;
     loop {
-        let p = to_sample(mode, heard, place, digits, i);
+        let p = next_end(mode, heard, place, digits, i);
         let to = p.to;
         if to == heard.len() {
             return report;
         }
-        let s = at_sample(mode, e, f.place, w, heard, p, report);
-        let next = s.frame;
-        report = s.report;
-        place = next.place as usize;
-        digits = next.digits as usize;
+        report = counted(e, f.place, w, heard, to, p.place, p.code, report);
+        place = p.next;
+        digits = 0;
         i = to + 1;
     }
 }

@@ -262,7 +262,7 @@ module _ (mode : Mode) (framed : Framed mode) (heard : List ℕ) (f : Frame) (h 
           let y : at - (at - length heard) ≡ at = omega arith in
           rw (z, y) at (a .walks)
 
-      sample-step : frameStep (samplesOf mode) (frameAt (s + 1) digits) x ≡ sampled (kindOf mode j) s digits x
+      pub sample-step : frameStep (samplesOf mode) (frameAt (s + 1) digits) x ≡ sampled (kindOf mode j) s digits x
       sample-step =
           let low = a .low in
           let z : s + 1 - 1 ≡ s = omega arith in

@@ -66,7 +66,7 @@ fn pass_samples(mode: Mode, heard: &[u8], place: usize, digits: usize, i: usize)
 }
 
 // The place after a ms that is hunted or waited in.
-fn place_after(place: usize, heard: u8) -> usize
+pub fn place_after(place: usize, heard: u8) -> usize
     ensures { λ r. ⌜ r ≡ placeAfter place heard ⌝ }
 {
     if heard != 2 {

@@ -14,7 +14,7 @@ returns : tie.Need-returns
 returns c = search needs
 
 hear-requires : tie.Need-hear-requires
-hear-requires c κs = search needs
+hear-requires c κs = let p = c .before .pre in (p .0, (p .1 .0, p .1 .1 (c .if1 .left)))
 
 returns-2 : tie.Need-returns-2
 returns-2 c = simp (c .before .if1 .left) (c .hear .ensures)

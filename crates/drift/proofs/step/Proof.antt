@@ -1,15 +1,16 @@
 -- `step` meets its contract.
-use mathlib.Core.Path.{_≡_, _∙_, refl, sym, ap, subst}
+use mathlib.Core.Path.{_∙_, sym, ap, subst}
 use mathlib.Core.Bool.{Bool, cond}
 use Prim.Native.Nat.{ℕ}
 use native.Mathlib.Omega.{arith}
 use Rattle.lists.proofs.Lists.{either}
 use Rattle.alphabet.specs.declared.Mode.{Mode}
 use Rattle.frames.specs.declared.Frame.{Frame}
+use Rattle.frames.specs.Samples.{samplesOf}
+use Rattle.frames.specs.Frames.{frameNext}
 use Rattle.frames.specs.code.Bounds.{FrameOf}
-use Rattle.edges.specs.declared.Report.{Report}
 use Rattle.edges.specs.declared.Edges.{Edges}
-use Rattle.edges.specs.Edges.{noEdge, noEdges, joined, edgesMs, countedMs}
+use Rattle.edges.specs.Edges.{noEdge, noEdges, joined, isMeasured, edgesMs, countedMs}
 use Rattle.edges.specs.code.Bounds.{ReportOf, EdgesOf}
 use Rattle.edges.proofs.Range.{more-of, none-of, counted-of}
 use Rattle.burst.specs.declared.Loaded.{Loaded}
@@ -19,6 +20,7 @@ use Rattle.burst.proofs.Range.{LoadedIn}
 use Rattle.half_duplex.specs.declared.Stepped.{Stepped}
 use Rattle.half_duplex.specs.Core.{modeIn, coreFrom}
 use Rattle.half_duplex.proofs.Range.{settled-in}
+use Rattle.drift.proofs.Hearing.{frame-after}
 use borrow.Author.Needs.{needs}
 use Rattle.drift.proofs.step.Statement.{statement}
 use Rattle.drift.proofs.step.Tie as tie
@@ -31,8 +33,11 @@ start-of c = c .before .before .before .before .before .before
 abbrev settle-of : tie.After-is-inhibited → tie.After-settle
 settle-of c = c .before .before .before .before .before
 
-abbrev deaf-of : tie.After-hear → tie.After-is-inhibited
+abbrev deaf-of : tie.After-step → tie.After-is-inhibited
 deaf-of c = c .before
+
+abbrev step-of : tie.After-hear → tie.After-step
+step-of c = c .before .before .before
 
 abbrev hear-of : tie.After-joined → tie.After-hear
 hear-of c = c .before .before .before
@@ -58,44 +63,59 @@ settle-requires c κs = search needs
 is-inhibited-requires : tie.Need-is-inhibited-requires
 is-inhibited-requires c κs = search needs
 
+step-requires : tie.Need-step-requires
+step-requires c κs =
+    let s = start-of c in
+    let j = subst (LoadedIn (modeIn (s .args .c))) (sym (settle-of c .settle .ensures))
+    (settled-in (s .args .c) (s .args .front .0) (s .pre .1 .0) (s .pre .1 .1 .0)) in
+    (s .pre .1 .0, j .line-in)
+
 hear-requires : tie.Need-hear-requires
-hear-requires c κs = let s = start-of c in (frame-of s, s .pre .1 .1 .1 .0)
+unfolding coreFrom
+hear-requires c κs =
+    let x = c .before .before in
+    let d = deaf-of x in
+    let s = start-of d in
+    let l = settle-of d .settle .result in
+    let f = s .args .c .reader .frame in (
+      frame-of s,
+      (
+        s .pre .1 .1 .1 .0,
+        λ free m. ap (λ (k : Stepped). k .core .reader .frame) (x .step .ensures)
+            ∙ frame-after (s .args .c) l (s .args .heard) (sym (d .is-inhibited .ensures) ∙ free)
+            (sym (ap isMeasured (s .pre .0)) ∙ m)
+            ∙ ap (λ (k : Mode). frameNext (samplesOf k) f (s .args .heard)) (sym (s .pre .0)),
+      ),
+    )
 
 joined-requires : tie.Need-joined-requires
 joined-requires c κs =
     let h = c .before .before in
-    let s = start-of (deaf-of h) in
-    let b = deaf-of h .is-inhibited .result in (
+    let d = deaf-of (step-of h) in
+    let s = start-of d in
+    let b = d .is-inhibited .result in (
       more-of (omega arith) (s .pre .1 .1 .1 .1),
       subst (ReportOf 1_000_000) (sym (h .hear .ensures .1))
           (counted-in b _ _ _ (s .args .heard) (frame-of s) (s .pre .1 .1 .1 .0)),
     )
 
-step-requires : tie.Need-step-requires
-step-requires c κs =
-    let d = deaf-of (hear-of c) in
-    let s = start-of d in
-    let j = subst (LoadedIn (modeIn (s .args .c))) (sym (settle-of d .settle .ensures))
-    (settled-in (s .args .c) (s .args .front .0) (s .pre .1 .0) (s .pre .1 .1 .0)) in
-    (s .pre .1 .0, j .line-in)
-
 returns : tie.Need-returns
 unfolding coreFrom
 returns c =
-    let x = c .before .step in
-    let j = c .before .before in
-    let h = hear-of j in
-    let d = deaf-of h in
+    let h = hear-of c in
+    let x = step-of h in
+    let d = deaf-of x in
     let s = start-of d in
     let l = settle-of d .settle .ensures in
     let f = s .args .c .reader .frame in
     let w = s .args .w in
     let b = d .is-inhibited .ensures
     ∙ ap (λ (k : Loaded). isInhibited (inBurst (k .line)) (s .args .c .inhibited)) l in (
-      ap (λ (k : Stepped). k .core) (x .ensures) ∙ ap (λ (k : Loaded). coreFrom (s .args .c) k (s .args .heard)) l,
+      ap (λ (k : Stepped). k .core) (x .step .ensures)
+          ∙ ap (λ (k : Loaded). coreFrom (s .args .c) k (s .args .heard)) l,
       (
         h .hear .ensures .0 ∙ ap (λ (t : Bool). cond t noEdges (edgesMs (s .args .mode) f w (s .args .heard))) b,
-        j .joined .ensures
+        c .joined .ensures
             ∙ ap (joined (s .args .r)) (h .hear .ensures .1
             ∙ ap (λ (t : Bool). cond t noEdge (countedMs (s .args .mode) f w (s .args .heard))) b),
       ),
@@ -104,4 +124,4 @@ returns c =
 pub step-spec : {M : Type 1} → statement M
 step-spec =
     tie.close
-    (tie.spec settle-requires is-inhibited-requires hear-requires joined-requires step-requires returns)
+    (tie.spec settle-requires is-inhibited-requires step-requires hear-requires joined-requires returns)

@@ -1,13 +1,15 @@
 -- `measure` meets its contract. The invariant: the reader and the report are those of the ms so far.
-use mathlib.Core.Path.{_∙_, sym, subst}
+use mathlib.Core.Path.{_≡_, _∙_, sym, subst}
 use Prim.Native.Nat.{ℕ, _+_, _-_, _<_}
 use native.Mathlib.Omega.{arith}
-use lib.ListN.{length}
+use lib.ListN.{length, getD, take}
 use borrow.Author.Needs.{needs}
 use Rattle.edges.proofs.Range.{is-measured, is-unmeasured}
-use Rattle.edges_runs.specs.code.Counting.{CountOf, SampledAs}
+use Rattle.edges.specs.declared.Edges.{Edges}
+use Rattle.edges_runs.specs.code.Latest.{Goes}
+use Rattle.edges_runs.specs.code.Counting.{withCode, CountOf}
 use Rattle.edges_runs.proofs.Reading.{unmeasured-report}
-use Rattle.edges_runs.proofs.Measuring.{Given, At, at-start, at-reached, at-end, at-counts, at-sampled, measured-framed}
+use Rattle.edges_runs.proofs.Measuring.{Given, At, at-start, at-reached, at-end, at-counts, place-few, code-inside, at-ended, measured-framed}
 use Rattle.edges_runs.proofs.measure.Statement.{statement}
 use Rattle.edges_runs.proofs.measure.Tie as tie
 
@@ -26,9 +28,6 @@ start-of c = c .before .before .before
 abbrev measured-of : tie.At-loop Inv-loop μ-loop → tie.Else1 Inv-loop μ-loop
 measured-of c = c .before .before .before
 
-abbrev sampled-of : tie.After-struct-known3 Inv-loop μ-loop → tie.After-at-sample Inv-loop μ-loop
-sampled-of c = c .before .before .before .before
-
 given-of : (c : tie.Else1 Inv-loop μ-loop)
     → Given (start-of c .args .mode) (start-of c .args .f) (start-of c .args .w) (start-of c .args .r)
     (start-of c .args .heard .now)
@@ -42,16 +41,17 @@ given-of c =
       short = p .1 .1 .1;
     }
 
--- before the sample that is reached
-reached-of : (c : tie.After-to-sample Inv-loop μ-loop) → let s = start-of (measured-of (c .before)) .args in
-    let p = c .to-sample .result in
-    At (s .mode) (s .f) (s .w) (s .r) (s .heard .now) (p .place) (p .digits) (p .to) (c .before .loop .report)
+-- before the ms that ends a frame, or at the end
+reached-of : (c : tie.After-next-end Inv-loop μ-loop) → let s = start-of (measured-of (c .before)) .args in
+    let k = c .next-end .ensures .frame in
+    At (s .mode) (s .f) (s .w) (s .r) (s .heard .now) (k .place) (k .digits) (c .next-end .result .to)
+    (c .before .loop .report)
 reached-of c =
-    at-reached _ _ _ _ _ (given-of (measured-of (c .before))) _ _ _ _ (c .before .loop .inv) (c .to-sample .result)
-    (c .to-sample .ensures)
+    at-reached _ _ _ _ _ (given-of (measured-of (c .before))) _ _ _ _ (c .before .loop .inv) _ _
+    (c .next-end .ensures .reached)
 
 more-of : (c : tie.Else2 Inv-loop μ-loop)
-    → c .before .to-sample .result .to < length (start-of (measured-of (c .before .before)) .args .heard .now)
+    → c .before .next-end .result .to < length (start-of (measured-of (c .before .before)) .args .heard .now)
 more-of c = let h = reached-of (c .before) .within in omega (arith, c .if2 .left)
 
 -- ---- what each moment needs
@@ -78,8 +78,8 @@ loop-holds c =
     subst (λ (d : ℕ). At (s .mode) (s .f) (s .w) (s .r) (s .heard .now) (s .f .place) d 0 (s .r))
     (sym (c .clean-digits .ensures)) (at-start _ _ _ _ _ (given-of (c .before .before)))
 
-to-sample-requires : tie.Need-to-sample-requires Inv-loop μ-loop
-to-sample-requires c κs =
+next-end-requires : tie.Need-next-end-requires Inv-loop μ-loop
+next-end-requires c κs =
     let g = given-of (measured-of c) in
     let a = c .loop .inv in
     (measured-framed (start-of (measured-of c) .args .mode) (g .measured), (a .in-range, (a .clean, a .within)))
@@ -89,46 +89,48 @@ returns-2 c =
     let t = c .before in
     at-end _ _ _ _ _ (given-of (measured-of (t .before))) _ _ _ _ (reached-of t) (c .if2 .taken)
 
-at-sample-requires : tie.Need-at-sample-requires Inv-loop μ-loop
-at-sample-requires c κs =
+counted-requires : tie.Need-counted-requires Inv-loop μ-loop
+counted-requires c κs =
     let t = c .before in
     let o = measured-of (t .before) in
     let s = start-of o .args in
-    let a = reached-of t in (
-      a .in-range,
-      subst (λ (e : ℕ). CountOf e (s .w) (s .heard .now) (t .to-sample .result .to) (t .before .loop .report))
-          (sym (o .before .element .ensures)) (at-counts _ _ _ _ _ (given-of o) _ _ _ _ a (more-of c)),
+    let p = t .next-end .result in
+    let a = reached-of t in
+    let l = more-of c in
+    let h = t .next-end .ensures .ends l in (
+      subst (λ (e : ℕ). CountOf e (s .w) (s .heard .now) (p .to) (t .before .loop .report))
+          (sym (o .before .element .ensures)) (at-counts _ _ _ _ _ (given-of o) _ _ _ _ a l),
+      (
+        place-few _ _ _ _ _ (given-of o) _ p _ a l h,
+        code-inside _ _ _ _ _ (given-of o) _ p _ a l h,
+      ),
     )
-
-cast-place-2 : tie.Need-cast-place-2 Inv-loop μ-loop
-cast-place-2 c = search needs
-
-cast-digits : tie.Need-cast-digits Inv-loop μ-loop
-cast-digits c = search needs
 
 add-i : tie.Need-add-i Inv-loop μ-loop
 add-i c =
-    let h = more-of (sampled-of c .before) in
-    let s = start-of (measured-of (sampled-of c .before .before .before)) in
+    let h = more-of (c .before) in
+    let s = start-of (measured-of (c .before .before .before)) in
     search (needs, h)
 
 loop-less : tie.Need-loop-less Inv-loop μ-loop
 loop-less c =
-    let t = sampled-of c .before in
+    let t = c .before in
     let h = more-of t in
-    let k = t .before .to-sample .ensures .low in
+    let k = t .before .next-end .ensures .reached .low in
     omega arith
 
 loop-again : tie.Need-loop-again Inv-loop μ-loop
 loop-again c =
-    let t = sampled-of c .before in
+    let t = c .before in
     let o = measured-of (t .before .before) in
     let s = start-of o .args in
-    let p = t .before .to-sample .result in
-    let q = sampled-of c .at-sample .result in
-    at-sampled _ _ _ _ _ (given-of o) p _ (reached-of (t .before)) (more-of t) q
-    (subst (λ (e : ℕ). SampledAs (s .mode) e (s .f .place) (s .w) (s .heard .now) p (t .before .before .loop .report) q)
-    (o .before .element .ensures) (sampled-of c .at-sample .ensures))
+    let p = t .before .next-end .result in
+    let l = more-of t in
+    at-ended _ _ _ _ _ (given-of o) _ p _ (reached-of (t .before)) l (t .before .next-end .ensures .ends l) _
+    (subst (λ (e : ℕ). (u : Edges) → Goes e (s .f .place) (s .w) (take (p .to) (s .heard .now)) (p .place) u
+    → c .counted .result
+    ≡ withCode e (p .place) u (getD (s .heard .now) (p .to) 0) (p .code) (t .before .before .loop .report))
+    (o .before .element .ensures) (c .counted .ensures))
 
 pub measure-spec : {M : Type 1} → statement M
 measure-spec =
@@ -141,11 +143,9 @@ measure-spec =
     cast-place
     clean-digits-requires
     loop-holds
-    to-sample-requires
+    next-end-requires
     returns-2
-    at-sample-requires
-    cast-place-2
-    cast-digits
+    counted-requires
     add-i
     loop-less
     loop-again)

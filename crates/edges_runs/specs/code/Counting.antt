@@ -1,24 +1,23 @@
--- The edges that count, from sample to sample.
+-- The edges that count, from frame to frame.
 use Prim.Native.Nat.{ℕ, _-_, _≤_, _<_}
 use mathlib.Core.Path.{_≡_}
-use mathlib.Core.Bool.{cond}
+use mathlib.Core.Bool.{Bool, true, false, cond}
 use mathlib.Core.List.{List}
 use lib.Dec.{ltb}
-use lib.ListN.{length, getD, take}
+use lib.ListN.{length, getD}
 use Rattle.alphabet.specs.declared.Mode.{Mode}
 use Rattle.frames.specs.declared.Frame.{Frame}
-use Rattle.frames.specs.declared.Found.{Found}
+use Rattle.frames.specs.declared.samples.Effect.{Effect}
+use Rattle.frames.specs.declared.samples.Effect.the-variants.{On, Hunts, Breaks, Ends}
 use Rattle.frames.specs.Samples.{samplesOf}
 use Rattle.frames.specs.Frames.{frameNext, frameFound}
 use Rattle.frames.specs.code.Bounds.{FrameOf}
-use Rattle.frames_runs.specs.declared.Passed.{Passed}
 use Rattle.frames_runs.specs.code.Passing.{frameAt, FrameWalks}
 use Rattle.edges.specs.declared.Report.{Report}
 use Rattle.edges.specs.declared.Edges.{Edges}
 use Rattle.edges.specs.Edges.{noEdge, joined, withMs, isCode}
 use Rattle.edges.specs.code.Bounds.{ReportOf}
-use Rattle.edges_runs.specs.declared.Sampled.{Sampled}
-use Rattle.edges_runs.specs.code.Latest.{Goes}
+use Rattle.edges_runs.specs.declared.Ended.{Ended}
 
 -- Outside a frame a reader has no digits.
 abbrev pub Clean : Frame → Type 0
@@ -28,20 +27,44 @@ Clean f = f .place ≤ 1 → f .digits ≡ 0
 abbrev pub cleanDigits : Frame → ℕ
 cleanDigits f = cond (ltb (f .place) 2) 0 (f .digits)
 
--- The frame of a reader that passes some ms.
-abbrev pub frameOf : Passed → Frame
-frameOf p = frameAt (p .place) (p .digits)
+-- From the place i of a list on, a reader comes to be another, and finds nothing on the way.
+pub record Reached (mode : Mode) (heard : List ℕ) (f : Frame) (i : ℕ) (g : Frame) (to : ℕ) : Type 0 where
+  pub low : i ≤ to
+  pub high : to ≤ length heard
+  pub in-range : FrameOf mode g
+  pub walks : FrameWalks mode heard f i g to
 
--- From the place i of a list on, a reader is reached before a sample or at the end.
-pub record Reached (mode : Mode) (heard : List ℕ) (f : Frame) (i : ℕ) (p : Passed) : Type 0 where
-  pub low : i ≤ p .to
-  pub high : p .to ≤ length heard
-  pub in-range : FrameOf mode (frameOf p)
-  pub walks : FrameWalks mode heard f i (frameOf p) (p .to)
+-- What a sample that ends a frame leads to: the place behind it, and whether it finds a code.
+abbrev pub placeBehind : Effect → ℕ
+placeBehind (On digits) = 0
+placeBehind Hunts = 0
+placeBehind (Breaks cause) = 1
+placeBehind Ends = 0
+
+abbrev pub findsCode : Effect → Bool
+findsCode (On digits) = false
+findsCode Hunts = false
+findsCode (Breaks cause) = false
+findsCode Ends = true
+
+abbrev pub endedBy : ℕ → ℕ → Effect → Ended
+endedBy place to e = record { place = place; to = to; next = placeBehind e; code = findsCode e }
+
+-- The frame of a reader ends so in a ms.
+pub record EndsSo (mode : Mode) (f : Frame) (x : ℕ) (p : Ended) : Type 0 where
+  pub place : f .place ≡ p .place
+  pub next : frameNext (samplesOf mode) f x ≡ frameAt (p .next) 0
+  pub code : isCode (frameFound (samplesOf mode) f x) ≡ p .code
+
+-- From the place i of a list on, a reader is reached before the ms that ends a frame, or at the end of the list.
+pub record EndedAt (mode : Mode) (heard : List ℕ) (f : Frame) (i : ℕ) (p : Ended) : Type 0 where
+  pub frame : Frame
+  pub reached : Reached mode heard f i frame (p .to)
+  pub ends : p .to < length heard → EndsSo mode frame (getD heard (p .to) 0) p
 
 -- A report with the edges of a frame at some place, with the ms x, if a code was found in it.
-abbrev pub withFound : ℕ → ℕ → Edges → ℕ → Found → Report → Report
-withFound e at v x found r = joined r (cond (isCode found) (withMs e (at - 1) v x .seen) noEdge)
+abbrev pub withCode : ℕ → ℕ → Edges → ℕ → Bool → Report → Report
+withCode e at v x code r = joined r (cond code (withMs e (at - 1) v x .seen) noEdge)
 
 -- The bounds of a ms of a list in which edges may count.
 pub record CountOf (e : ℕ) (w : Edges) (heard : List ℕ) (to : ℕ) (r : Report) : Type 0 where
@@ -51,12 +74,3 @@ pub record CountOf (e : ℕ) (w : Edges) (heard : List ℕ) (to : ℕ) (r : Repo
   pub short : length heard ≤ 4_096
   pub waiting : ReportOf 900_000 (w .seen)
   pub report : ReportOf 1_000_000 r
-
--- What a sample leaves, whatever edges wait before it.
-pub record SampledAs (mode : Mode) (e before : ℕ) (w : Edges) (heard : List ℕ) (p : Passed) (r : Report) (s : Sampled)
-    : Type 0 where
-  pub frame : s .frame ≡ frameNext (samplesOf mode) (frameOf p) (getD heard (p .to) 0)
-  pub report : (v : Edges) → Goes e before w (take (p .to) heard) (p .place) v
-      → s .report
-      ≡ withFound e (p .place) v (getD heard (p .to) 0)
-      (frameFound (samplesOf mode) (frameOf p) (getD heard (p .to) 0)) r
