@@ -12,11 +12,11 @@ use lib.Dec.{T as Holds}
 use mir.Syntax.{Ty, Lifetime, w8, tyInt, tyArray, place, field, deref, addrOf, Body as Code, seq, assign}
 use mir.Val.{Val, vptr, hasTy, WT}
 use base.Logic.{SProp, ent, sep, ex, wand, wandE, allE}
-use base.Fml.{Lft, GName, Share, flft, fdead, fobs, fauth, fres, fbor, fobor, fshr-bor, flent}
+use base.Fml.{Lft, GName, Share, ftrue, flft, fdead, fobs, fauth, fres, fbor, fobor, fshr-bor, flent}
 use prog.Memory.{fieldOf}
 use prog.Wp.{Heap, Env, Calls, Loops, spotOf}
 use ghost.Atoms.{Atoms, sem}
-use types.Kit.{Goal, Soaks, Seq, Step, step, Given, Item, ‵, raw, _⊛_, some, later, mean, _$_, _∵_, !, qed, move, keep, drop, use1, use2, use3, rewrite, split, join, pick, fsplit, fjoin, fjoin3, feqI, await, updating, now as at-once, show, done, nth, put, Post, runs}
+use types.Kit.{Goal, Soaks, Seq, Step, step, Given, Item, ‵, raw, _⊛_, some, later, mean, _$_, _∵_, !, qed, move, drop, use1, use2, use3, rewrite, split, join, pick, fsplit, fjoin, fjoin3, feqI, await, updating, now as at-once, show, done, nth, put, Post, runs}
 use types.Run.{from, hop, fld, stop, look, init, addr, assigns}
 use types.SemTy.{Body}
 use types.Tokens.{name-new, lent-back, shr-bor-dup}
@@ -140,6 +140,11 @@ module _ {M : Type 1} (𝓤 : URA M) (H : Heap 𝓤) (A : Atoms 𝓤) (W : Given
   abbrev edges-part : Edges → ℕ → ℕ → Item 𝓤
   edges-part w b o = part-at 𝓤 H A D.the-type D′.the-laws w b (o + past-core)
 
+  -- the core and the edges of the station h
+  abbrev both : Measured → ℕ → ℕ → Item 𝓤
+  both h b o =
+      core-own (h .core) ⊛ core-cell (h .core) b o ⊛ edges-own (h .edges) ⊛ edges-cell (h .edges) b o ⊛ ‵ ftrue
+
   module _ (κ κ′ : Lft) (q : Share) (γ : GName) (b o : ℕ) where
     -- what the holder of the `&κ mut Measured` has of it at the station s
     abbrev held : Measured → Item 𝓤
@@ -156,19 +161,17 @@ module _ {M : Type 1} (𝓤 : URA M) (H : Heap 𝓤) (A : Atoms 𝓤) (W : Given
     lender γ₁ = ‵ (flent κ′ (Body (mem Chars) b (o + past) γ₁))
 
     module _ (h : Measured) where
-      -- what is kept of the station h while they are lent
+      -- what is left of the station h beside its three parts, and what is kept of it while the characters are lent
+      abbrev rest : Item 𝓤
+      rest =
+          raw (Back b o) ⊛ ‵ (fobor κ q (Body (mem T.the-row) b o γ)) ⊛ ‵ (fobs γ (T.the-row .coded .code h))
+          ⊛ ‵ (fauth γ (T.the-row .coded .code h))
+
       abbrev pub kept : GName → Item 𝓤
-      kept γ₁ =
-          lender γ₁ ⊛ raw (Back b o) ⊛ ‵ (fobor κ q (Body (mem T.the-row) b o γ))
-          ⊛ ‵ (fobs γ (T.the-row .coded .code h)) ⊛ ‵ (fauth γ (T.the-row .coded .code h))
+      kept γ₁ = lender γ₁ ⊛ rest
 
-      abbrev opened : Lifetime → GName → Item 𝓤
-      opened ℓ γ₁ =
-          core-own (h .core) ⊛ core-cell (h .core) b o ⊛ edges-own (h .edges) ⊛ edges-cell (h .edges) b o
-          ⊛ chars-own ℓ γ₁ (h .chars) ⊛ kept γ₁
-
-      lends : (ℓ : Lifetime) → ent 𝓤 (mean 𝓤 H A (held h)) (H .⇛ (ex 𝓤 (λ (γ₁ : GName). mean 𝓤 H A (opened ℓ γ₁))))
-      lends ℓ =
+      opens : ent 𝓤 (mean 𝓤 H A (held h)) (H .⇛ (mean 𝓤 H A (chars-part (h .chars) ⊛ rest ⊛ both h b o)))
+      opens =
           qed W (held h ∷ []) ∵ updating ! $ split ! $ move ! (1 ∷ []) $ split ! $ move ! (2 ∷ 0 ∷ 1 ∷ []) $
           open-ref ! tt (mem T.the-row) {b = b} {o = o} $
           use1 W (‵ (partsAt fullShare members zero (T.the-type .to h) b o) ⊛ raw (Back b o)) (apart h b o) $ split ! $
@@ -178,24 +181,16 @@ module _ {M : Type 1} (𝓤 : URA M) (H : Heap 𝓤) (A : Atoms 𝓤) (W : Given
           move ! (2 ∷ []) $ fsplit ! $
           use1 W (edges-cell (h .edges) b o ⊛ edges-own (h .edges))
           (part-out 𝓤 H A D.the-type D′.the-laws W (h .edges) b (o + past-core)) $ split ! $
-          move ! (2 ∷ []) $ fsplit ! $ rewrite ! 0 chars-part (map-id (h .chars)) refl $
-          use1 W (later (some (λ (γ₁ : GName). chars-own ℓ γ₁ (h .chars) ⊛ lender γ₁)))
-          (lends-ref 𝓤 H A W Chars ℓ κ′ (h .chars) b (o + past)) $
-          await ! tt $ pick ! (λ γ₁. split ! $
-          -- [the reference to the characters; the lender's part; true; the edges' cell; what they own; the core's cell;
-          -- what it owns; the way back; the open borrow; obs; auth]
-          at-once ! $ show ! (λ (δ : GName). mean 𝓤 H A (opened ℓ δ)) γ₁ $
-          keep ! (6 ∷ 5 ∷ 4 ∷ 3 ∷ 0 ∷ 1 ∷ 7 ∷ 8 ∷ 9 ∷ 10 ∷ []) $ done !)
+          move ! (2 ∷ []) $ fsplit ! $ rewrite ! 0 chars-part (map-id (h .chars)) refl $ at-once ! $
+          -- [the characters; true; the edges' cell; what they own; the core's cell; what it owns; the rest]
+          move ! (6 ∷ 7 ∷ 8 ∷ 9 ∷ []) $ move ! (2 ∷ 3 ∷ []) $ join ! $ move ! (2 ∷ 0 ∷ []) $ join ! $
+          move ! (1 ∷ 0 ∷ []) $ join ! $ move ! (1 ∷ 0 ∷ 6 ∷ 5 ∷ 4 ∷ 3 ∷ 2 ∷ []) $ done !
 
-      takes : (γ₁ : GName) (c : Core) (w : Edges) (cs : List ℕ) → IsCore c → IsEdges w
-          → ent 𝓤 (sep 𝓤 (A .dead κ′) (sep 𝓤 (A .res γ₁ (Chars .coded .code cs))
-          (mean 𝓤 H A (core-cell c b o ⊛ edges-cell w b o ⊛ kept γ₁))))
+      shuts : (c : Core) (w : Edges) (cs : List ℕ) → IsCore c → IsEdges w
+          → ent 𝓤 (mean 𝓤 H A (chars-part cs ⊛ rest ⊛ core-cell c b o ⊛ edges-cell w b o))
           (H .⇛ (mean 𝓤 H A (held (lent c w cs))))
-      takes γ₁ c w cs isc isw =
-          qed W (‵ (fdead κ′) ∷ ‵ (fres γ₁ (Chars .coded .code cs)) ∷ core-cell c b o ∷ edges-cell w b o ∷ kept γ₁
-          ∷ []) ∵ updating ! $
-          move ! (4 ∷ []) $ split ! $ move ! (2 ∷ 0 ∷ 3 ∷ []) $
-          use3 W (later (chars-part cs)) (ref-back 𝓤 H A W Chars κ′ γ₁ cs b (o + past)) $ await ! tt $
+      shuts c w cs isc isw =
+          qed W (chars-part cs ∷ rest ∷ core-cell c b o ∷ edges-cell w b o ∷ []) ∵ updating ! $
           rewrite ! 0 chars-part (sym (map-id cs)) refl $ nothing ! $ move ! (1 ∷ 0 ∷ []) $ fjoin ! $ move ! (3 ∷ []) $
           use1 W (edges-part w b o) (part-in 𝓤 H A D.the-type D′.the-laws W D′.the-plain w b (o + past-core) isw) $
           fjoin ! $ move ! (2 ∷ []) $
@@ -206,6 +201,29 @@ module _ {M : Type 1} (𝓤 : URA M) (H : Heap 𝓤) (A : Atoms 𝓤) (W : Given
           move ! (1 ∷ []) $ split ! $ move ! (1 ∷ []) $ split ! $ move ! (3 ∷ 2 ∷ 0 ∷ 1 ∷ []) $
           close-ref ! tt (mem T.the-row) (lent c w cs) {b = b} {o = o} $ at-once ! $ done !
 
+      -- the characters are lent to be written, and come back
+      lends : (ℓ : Lifetime) → ent 𝓤 (mean 𝓤 H A (held h))
+          (H .⇛ (ex 𝓤 (λ (γ₁ : GName). mean 𝓤 H A (chars-own ℓ γ₁ (h .chars) ⊛ kept γ₁ ⊛ both h b o))))
+      lends ℓ =
+          qed W (held h ∷ []) ∵ updating ! $
+          use1 W (later (chars-part (h .chars) ⊛ rest ⊛ both h b o)) opens $ await ! tt $ split ! $
+          use1 W (later (some (λ (γ₁ : GName). chars-own ℓ γ₁ (h .chars) ⊛ lender γ₁)))
+          (lends-ref 𝓤 H A W Chars ℓ κ′ (h .chars) b (o + past)) $ await ! tt $ pick ! (λ γ₁. split ! $ at-once ! $
+          show ! (λ (δ : GName). mean 𝓤 H A (chars-own ℓ δ (h .chars) ⊛ kept δ ⊛ both h b o)) γ₁ $
+          move ! (2 ∷ []) $ split ! $ move ! (3 ∷ 0 ∷ []) $ join ! $ move ! (2 ∷ 0 ∷ 1 ∷ []) $ done !)
+
+      takes : (γ₁ : GName) (c : Core) (w : Edges) (cs : List ℕ) → IsCore c → IsEdges w
+          → ent 𝓤 (sep 𝓤 (A .dead κ′) (sep 𝓤 (A .res γ₁ (Chars .coded .code cs))
+          (mean 𝓤 H A (core-cell c b o ⊛ edges-cell w b o ⊛ kept γ₁))))
+          (H .⇛ (mean 𝓤 H A (held (lent c w cs))))
+      takes γ₁ c w cs isc isw =
+          qed W (‵ (fdead κ′) ∷ ‵ (fres γ₁ (Chars .coded .code cs)) ∷ core-cell c b o ∷ edges-cell w b o ∷ kept γ₁
+          ∷ []) ∵ updating ! $
+          move ! (4 ∷ []) $ split ! $ move ! (2 ∷ 0 ∷ 3 ∷ []) $
+          use3 W (later (chars-part cs)) (ref-back 𝓤 H A W Chars κ′ γ₁ cs b (o + past)) $ await ! tt $
+          move ! (2 ∷ 3 ∷ []) $ join ! $ move ! (2 ∷ 0 ∷ []) $ join ! $ move ! (1 ∷ 0 ∷ []) $
+          use2 W (later (held (lent c w cs))) (shuts c w cs isc isw) $ await ! tt $ at-once ! $ done !
+
       -- the same where they are lent to be read
       abbrev chars-read : Lifetime → GName → Item 𝓤
       chars-read ℓ γ₁ = ‵ (ShrRef ℓ κ′ Chars .own (lent-ref b o γ₁ (h .chars)) (vptr b (o + past) ∷ []))
@@ -214,33 +232,17 @@ module _ {M : Type 1} (𝓤 : URA M) (H : Heap 𝓤) (A : Atoms 𝓤) (W : Given
       reader = ‵ (flent κ′ (partAt Chars fullShare (h .chars) b (o + past)))
 
       abbrev kept-read : Item 𝓤
-      kept-read =
-          reader ⊛ raw (Back b o) ⊛ ‵ (fobor κ q (Body (mem T.the-row) b o γ))
-          ⊛ ‵ (fobs γ (T.the-row .coded .code h)) ⊛ ‵ (fauth γ (T.the-row .coded .code h))
+      kept-read = reader ⊛ rest
 
-      abbrev opened-read : Lifetime → GName → Item 𝓤
-      opened-read ℓ γ₁ =
-          core-own (h .core) ⊛ core-cell (h .core) b o ⊛ edges-own (h .edges) ⊛ edges-cell (h .edges) b o
-          ⊛ chars-read ℓ γ₁ ⊛ kept-read
-
-      lends-read : (ℓ : Lifetime)
-          → ent 𝓤 (mean 𝓤 H A (held h)) (H .⇛ (ex 𝓤 (λ (γ₁ : GName). mean 𝓤 H A (opened-read ℓ γ₁))))
+      lends-read : (ℓ : Lifetime) → ent 𝓤 (mean 𝓤 H A (held h))
+          (H .⇛ (ex 𝓤 (λ (γ₁ : GName). mean 𝓤 H A (chars-read ℓ γ₁ ⊛ kept-read ⊛ both h b o))))
       lends-read ℓ =
-          qed W (held h ∷ []) ∵ updating ! $ split ! $ move ! (1 ∷ []) $ split ! $ move ! (2 ∷ 0 ∷ 1 ∷ []) $
-          open-ref ! tt (mem T.the-row) {b = b} {o = o} $
-          use1 W (‵ (partsAt fullShare members zero (T.the-type .to h) b o) ⊛ raw (Back b o)) (apart h b o) $ split ! $
-          fsplit ! $
-          use1 W (core-cell (h .core) b o ⊛ core-own (h .core))
-          (part-out 𝓤 H A K.the-type K′.the-laws W (h .core) b (o + 0)) $ split ! $
-          move ! (2 ∷ []) $ fsplit ! $
-          use1 W (edges-cell (h .edges) b o ⊛ edges-own (h .edges))
-          (part-out 𝓤 H A D.the-type D′.the-laws W (h .edges) b (o + past-core)) $ split ! $
-          move ! (2 ∷ []) $ fsplit ! $ rewrite ! 0 chars-part (map-id (h .chars)) refl $
+          qed W (held h ∷ []) ∵ updating ! $
+          use1 W (later (chars-part (h .chars) ⊛ rest ⊛ both h b o)) opens $ await ! tt $ split ! $
           use1 W (later (some (λ (γ₁ : GName). chars-read ℓ γ₁ ⊛ reader)))
-          (lends-shr 𝓤 H A W Chars ℓ κ′ fullShare (h .chars) b (o + past)) $
-          await ! tt $ pick ! (λ γ₁. split ! $
-          at-once ! $ show ! (λ (δ : GName). mean 𝓤 H A (opened-read ℓ δ)) γ₁ $
-          keep ! (6 ∷ 5 ∷ 4 ∷ 3 ∷ 0 ∷ 1 ∷ 7 ∷ 8 ∷ 9 ∷ 10 ∷ []) $ done !)
+          (lends-shr 𝓤 H A W Chars ℓ κ′ fullShare (h .chars) b (o + past)) $ await ! tt $ pick ! (λ γ₁. split ! $
+          at-once ! $ show ! (λ (δ : GName). mean 𝓤 H A (chars-read ℓ δ ⊛ kept-read ⊛ both h b o)) γ₁ $
+          move ! (2 ∷ []) $ split ! $ move ! (3 ∷ 0 ∷ []) $ join ! $ move ! (2 ∷ 0 ∷ 1 ∷ []) $ done !)
 
       takes-read : IsCore (h .core) → IsEdges (h .edges)
           → ent 𝓤 (sep 𝓤 (A .dead κ′)
@@ -249,19 +251,8 @@ module _ {M : Type 1} (𝓤 : URA M) (H : Heap 𝓤) (A : Atoms 𝓤) (W : Given
       takes-read isc isw =
           qed W (‵ (fdead κ′) ∷ core-cell (h .core) b o ∷ edges-cell (h .edges) b o ∷ kept-read ∷ []) ∵ updating ! $
           move ! (3 ∷ []) $ split ! $ move ! (2 ∷ 0 ∷ []) $ lent-back ! tt $
-          -- [the characters; the way back and the rest; the core's cell; the edges']
-          rewrite ! 0 chars-part (sym (map-id (h .chars))) refl $ nothing ! $ move ! (1 ∷ 0 ∷ []) $ fjoin ! $
-          move ! (3 ∷ []) $
-          use1 W (edges-part (h .edges) b o)
-          (part-in 𝓤 H A D.the-type D′.the-laws W D′.the-plain (h .edges) b (o + past-core) isw) $
-          fjoin ! $ move ! (2 ∷ []) $
-          use1 W (core-part (h .core) b o)
-          (part-in 𝓤 H A K.the-type K′.the-laws W K′.the-plain (h .core) b (o + 0) isc) $ fjoin ! $
-          move ! (1 ∷ []) $ split ! $
-          -- [the way back; the open borrow, obs and auth; the parts]
-          move ! (0 ∷ 2 ∷ []) $ use2 W (‵ (mem T.the-row .lies h b o)) (together h b o) $
-          move ! (1 ∷ []) $ split ! $ move ! (1 ∷ []) $ split ! $ move ! (3 ∷ 2 ∷ 0 ∷ 1 ∷ []) $
-          close-ref ! tt (mem T.the-row) h {b = b} {o = o} $ at-once ! $ done !
+          move ! (2 ∷ 3 ∷ []) $ join ! $ move ! (2 ∷ 0 ∷ []) $ join ! $ move ! (1 ∷ 0 ∷ []) $
+          use2 W (later (held h)) (shuts (h .core) (h .edges) (h .chars) isc isw) $ await ! tt $ at-once ! $ done !
 
   -- the values of a station's fields
   abbrev values : Measured → Values (T.the-type .parts)
@@ -305,6 +296,22 @@ module _ {M : Type 1} (𝓤 : URA M) (H : Heap 𝓤) (A : Atoms 𝓤) (W : Given
 -- ---- as steps of a walk
 module _ {M : Type 1} {𝓤 : URA M} {H : Heap 𝓤} {A : Atoms 𝓤} {X : Type 0} {W : Given 𝓤 H A} {Γ : List (Item 𝓤)}
     {G : Goal 𝓤 H} where
+  -- they are taken apart
+  apart-in : X → (b o : ℕ) (h : Measured)
+      → (IsCore (h .core) → IsEdges (h .edges)
+      → Seq X W (core-cell 𝓤 H A W (h .core) b o ∷ edges-cell 𝓤 H A W (h .edges) b o
+      ∷ core-own 𝓤 H A W (h .core) ∷ edges-own 𝓤 H A W (h .edges) ∷ Γ) G)
+      → Seq X W (both 𝓤 H A W h b o ∷ Γ) G
+  apart-in t b o h k =
+      split t $ peeks t K.the-row (Is K.the-row) (shows 𝓤 H A K.the-row) (h .core) (core-vals (h .core)) (λ isc.
+      move t (1 ∷ []) $ split t $ move t (1 ∷ []) $ split t $
+      peeks t D.the-row (Is D.the-row) (shows 𝓤 H A D.the-row) (h .edges) (edges-vals (h .edges)) (λ isw.
+      move t (1 ∷ []) $ split t $ move t (1 ∷ []) $ drop t $
+      -- [the edges' cell; what they own; the core's cell; what it owns]
+      move t (2 ∷ 0 ∷ 3 ∷ 1 ∷ []) $ k isc isw))
+
+module _ {M : Type 1} {𝓤 : URA M} {H : Heap 𝓤} {A : Atoms 𝓤} {X : Type 0} {W : Given 𝓤 H A} {Γ : List (Item 𝓤)}
+    {G : Goal 𝓤 H} where
   -- the station h behind a `&mut` is opened, and its characters are lent on for κ′
   pub lends-on : X → Soaks G → (ℓ : Lifetime) (κ′ : Lft) {κ : Lft} {q : Share} {γ : GName} (b o : ℕ) (h : Measured)
       → ((γ₁ : GName) → IsCore (h .core) → IsEdges (h .edges)
@@ -313,14 +320,10 @@ module _ {M : Type 1} {𝓤 : URA M} {H : Heap 𝓤} {A : Atoms 𝓤} {X : Type 
       ∷ chars-own 𝓤 H A W κ κ′ q γ b o ℓ γ₁ (h .chars) ∷ kept 𝓤 H A W κ κ′ q γ b o h γ₁ ∷ Γ) G)
       → Seq X W (‵ (fobs γ (T.the-row .coded .code h)) ∷ ‵ (fbor κ (Body (mem T.the-row) b o γ)) ∷ ‵ (flft κ q) ∷ Γ) G
   lends-on t z ℓ κ′ {κ} {q} {γ} b o h k =
-      use3 W (later (some (λ (γ₁ : GName). opened 𝓤 H A W κ κ′ q γ b o h ℓ γ₁))) (lends 𝓤 H A W κ κ′ q γ b o h ℓ) $
-      await t z $ pick t (λ γ₁.
-      split t $ peeks t K.the-row (Is K.the-row) (shows 𝓤 H A K.the-row) (h .core) (core-vals (h .core)) (λ isc.
-      move t (1 ∷ []) $ split t $ move t (1 ∷ []) $ split t $
-      peeks t D.the-row (Is D.the-row) (shows 𝓤 H A D.the-row) (h .edges) (edges-vals (h .edges)) (λ isw.
-      move t (1 ∷ []) $ split t $ move t (1 ∷ []) $ split t $
-      -- [the reference to the characters; what is kept; the edges' cell; what they own; the core's cell; what it owns]
-      move t (4 ∷ 2 ∷ 5 ∷ 3 ∷ 0 ∷ 1 ∷ []) $ k γ₁ isc isw)))
+      use3 W (later (some (λ (γ₁ : GName). chars-own 𝓤 H A W κ κ′ q γ b o ℓ γ₁ (h .chars)
+      ⊛ kept 𝓤 H A W κ κ′ q γ b o h γ₁ ⊛ both 𝓤 H A W h b o)))
+      (lends 𝓤 H A W κ κ′ q γ b o h ℓ) $ await t z $ pick t (λ γ₁. split t $ move t (1 ∷ []) $ split t $
+      move t (1 ∷ 2 ∷ 0 ∷ []) $ apart-in t b o h (λ isc isw. k γ₁ isc isw))
 
   -- the characters come back as cs, and the station is shut at them, at the core c and at the edges w
   pub takes-back : X → Soaks G → {κ κ′ : Lft} {q : Share} {γ γ₁ : GName} (b o : ℕ) (h : Measured) (c : Core)
@@ -342,13 +345,10 @@ module _ {M : Type 1} {𝓤 : URA M} {H : Heap 𝓤} {A : Atoms 𝓤} {X : Type 
       ∷ chars-read 𝓤 H A W κ κ′ q γ b o h ℓ γ₁ ∷ kept-read 𝓤 H A W κ κ′ q γ b o h ∷ Γ) G)
       → Seq X W (‵ (fobs γ (T.the-row .coded .code h)) ∷ ‵ (fbor κ (Body (mem T.the-row) b o γ)) ∷ ‵ (flft κ q) ∷ Γ) G
   reads-on t z ℓ κ′ {κ} {q} {γ} b o h k =
-      use3 W (later (some (λ (γ₁ : GName). opened-read 𝓤 H A W κ κ′ q γ b o h ℓ γ₁)))
-      (lends-read 𝓤 H A W κ κ′ q γ b o h ℓ) $ await t z $ pick t (λ γ₁.
-      split t $ peeks t K.the-row (Is K.the-row) (shows 𝓤 H A K.the-row) (h .core) (core-vals (h .core)) (λ isc.
-      move t (1 ∷ []) $ split t $ move t (1 ∷ []) $ split t $
-      peeks t D.the-row (Is D.the-row) (shows 𝓤 H A D.the-row) (h .edges) (edges-vals (h .edges)) (λ isw.
-      move t (1 ∷ []) $ split t $ move t (1 ∷ []) $ split t $
-      move t (4 ∷ 2 ∷ 5 ∷ 3 ∷ 0 ∷ 1 ∷ []) $ k γ₁ isc isw)))
+      use3 W (later (some (λ (γ₁ : GName). chars-read 𝓤 H A W κ κ′ q γ b o h ℓ γ₁
+      ⊛ kept-read 𝓤 H A W κ κ′ q γ b o h ⊛ both 𝓤 H A W h b o)))
+      (lends-read 𝓤 H A W κ κ′ q γ b o h ℓ) $ await t z $ pick t (λ γ₁. split t $ move t (1 ∷ []) $ split t $
+      move t (1 ∷ 2 ∷ 0 ∷ []) $ apart-in t b o h (λ isc isw. k γ₁ isc isw))
 
   pub read-back : X → Soaks G → {κ κ′ : Lft} {q : Share} {γ : GName} (b o : ℕ) (h : Measured)
       → IsCore (h .core) → IsEdges (h .edges)

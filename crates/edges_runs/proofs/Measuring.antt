@@ -31,7 +31,8 @@ use Rattle.edges_runs.specs.declared.Ended.{Ended}
 use Rattle.edges_runs.specs.code.Latest.{Goes}
 use Rattle.edges_runs.specs.code.Counting.{Clean, cleanDigits, Reached, EndsSo, withCode, CountOf}
 use Rattle.edges_runs.proofs.Reading.{report-append, goes-over, walks-after, walks-report}
-use Rattle.edges_runs.proofs.Bound.{fine-of, report-most, report-fine}
+use Rattle.edges.proofs.Bound.{fine-of}
+use Rattle.edges_runs.proofs.Bound.{report-most, report-fine}
 use Rattle.edges_runs.proofs.Sampling.{clean-next, reached-clean, code-in, take-next}
 
 -- ---- a reader whose digits are as they are to be

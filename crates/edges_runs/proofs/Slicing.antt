@@ -13,7 +13,7 @@ use Rattle.edges.specs.code.Measuring.{withAll}
 use Rattle.edges.proofs.Range.{more-of}
 use Rattle.edges_runs.specs.code.Latest.{SliceOf}
 use Rattle.edges_runs.proofs.Same.{left-turn}
-use Rattle.edges_runs.proofs.Bound.{Fine, fine-of, with-more, with-fine}
+use Rattle.edges.proofs.Bound.{Fine, fine-of, with-more, with-fine}
 
 pub record Along (e m : ℕ) (w : Edges) (heard : List ℕ) (from to : ℕ) (along : Edges) (i : ℕ) : Type 0 where
   pub low : from ≤ i
