@@ -282,9 +282,6 @@ module _ (mode : Mode) (framed : Framed mode) (heard : List ℕ) (f : Frame) (h 
           walks-chain (samplesOf mode) heard _ _ _ i at (at + 1) (a .from) (omega arith) ahead-here-walks
           (walks-one (samplesOf mode) heard _ g at l (sample-step ∙ e))
 
-      pub ahead-hunts-walks : Does (kindOf mode j) digits x Hunts → FrameWalks mode heard f i (frameAt 0 0) (at + 1)
-      ahead-hunts-walks e = sample-walks (frameAt 0 0) (e s)
-
       pub ahead-hunts : Does (kindOf mode j) digits x Hunts → FramePasses mode heard f i (frameAt 0 0) (at + 1)
       ahead-hunts e = sample-passes (frameAt 0 0) (e s)
 

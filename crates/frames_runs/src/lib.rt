@@ -6,7 +6,7 @@ ghost use mathlib.Core.Bool.{true};
 ghost use Prim.Native.Nat.{_≤_, _<_};
 ghost use lib.ListN.{length};
 ghost use Rattle.frames.specs.code.Bounds.{Framed, FrameOf};
-ghost use Rattle.frames_runs.specs.code.Passing.{frameAt, placeAfter, FramePasses, FrameWalks, Stays};
+ghost use Rattle.frames_runs.specs.code.Passing.{frameAt, placeAfter, FramePasses, Stays};
 
 // A reader of frames before a ms, and whether it may pass more.
 pub struct Passed {
@@ -25,8 +25,6 @@ fn pass_samples(mode: Mode, heard: &[u8], place: usize, digits: usize, i: usize)
     ensures { λ p. ⌜ FramePasses mode (now (heard .entry)) (frameAt place digits) i (frameAt (p .place) (p .digits))
         (p .to) ⌝ }
     ensures { λ p. ⌜ (p .on ≡ true → i < p .to) ⌝ }
-    ensures { λ p. ⌜ FrameWalks mode (now (heard .entry)) (frameAt place digits) i (frameAt (p .place) (p .digits))
-        (p .to) ⌝ }
 {
     let m = place - 1;
     let mut j = frames::samples::number_at(mode, m);
@@ -98,8 +96,6 @@ pub fn pass(mode: Mode, heard: &[u8], place: usize, digits: usize, i: usize) -> 
     ensures { λ p. ⌜ FramePasses mode (now (heard .entry)) (frameAt place digits) i (frameAt (p .place) (p .digits))
         (p .to) ⌝ }
     ensures { λ p. ⌜ (p .on ≡ true → i < p .to) ⌝ }
-    ensures { λ p. ⌜ ((place ≤ 1 → digits ≡ 0) → FrameWalks mode (now (heard .entry)) (frameAt place digits) i
-        (frameAt (p .place) (p .digits)) (p .to)) ⌝ }
 {
     if 1 < place {
         return pass_samples(mode, heard, place, digits, i);

@@ -1,6 +1,6 @@
 -- `pass` meets its contract.
 use native.Mathlib.Omega.{arith}
-use Rattle.frames_runs.proofs.Framing.{alike-passes, alike-next, alike-walks-as, alike-walks-next-as, stops}
+use Rattle.frames_runs.proofs.Framing.{alike-passes, alike-next, stops}
 use borrow.Author.Needs.{needs}
 use Rattle.frames_runs.proofs.pass.Statement.{statement}
 use Rattle.frames_runs.proofs.pass.Tie as tie
@@ -9,7 +9,7 @@ pass-samples-requires : tie.Need-pass-samples-requires
 pass-samples-requires c κs = search needs
 
 returns : tie.Need-returns
-returns c = let e = c .pass-samples .ensures in (e .0, (e .1 .0, λ d. e .1 .1))
+returns c = search needs
 
 pass-alike-requires : tie.Need-pass-alike-requires
 pass-alike-requires c κs = search needs
@@ -19,11 +19,7 @@ returns-2 c =
     let s = c .before .before .before .before in (
       alike-passes (s .args .mode) (s .pre .0) _ _ _ _ _ (s .pre .1 .0) (c .before .before .if1 .left) (s .pre .1 .1)
           (c .before .pass-alike .ensures),
-      (
-        stops _ _,
-        λ d. alike-walks-as (s .args .mode) (s .pre .0) _ _ _ _ _ d (c .before .before .if1 .left)
-            (c .before .pass-alike .ensures),
-      ),
+      stops _ _,
     )
 
 shared-slice-read-place-after : tie.Need-shared-slice-read-place-after
@@ -44,11 +40,7 @@ returns-3 c =
     let n = c .before .before .if2 .left in (
       alike-next (s .args .mode) (s .pre .0) _ _ _ _ _ (s .pre .1 .0) (c .before .before .before .before .if1 .left)
           (s .pre .1 .1) a (omega arith) _ (c .place-after .ensures),
-      (
-        λ t. omega arith,
-        λ d. alike-walks-next-as (s .args .mode) (s .pre .0) _ _ _ _ _ d
-            (c .before .before .before .before .if1 .left) a (omega arith) _ (c .place-after .ensures),
-      ),
+      λ t. omega arith,
     )
 
 pub pass-spec : {M : Type 1} → statement M

@@ -7,7 +7,7 @@ use Rattle.frames.proofs.Range.{place-255}
 use Rattle.frames.specs.code.Samples.{kindOf, Does}
 use Rattle.frames_runs.specs.code.Passing.{frameAt}
 use Rattle.frames_runs.proofs.Numbered.{samples-few, next-of, ms-grows, ms-few}
-use Rattle.frames_runs.proofs.Framing.{stops, Ahead, ahead-start, ahead-end, ahead-end-walks, ahead-here, ahead-here-walks, ahead-hunts, ahead-hunts-walks, ahead-turn}
+use Rattle.frames_runs.proofs.Framing.{stops, Ahead, ahead-start, ahead-end, ahead-here, ahead-hunts, ahead-turn}
 use borrow.Author.Needs.{needs}
 use Rattle.frames_runs.proofs.pass_samples.Statement.{statement}
 use Rattle.frames_runs.proofs.pass_samples.Tie as tie
@@ -92,11 +92,9 @@ add-t19 c = search needs
 returns : tie.Need-returns Inv-loop μ-loop
 returns c =
     let t = turn-of (c .before .before) in
-    let s = start-of (t .before) in
-    let v = t .before .loop .inv in
-    let l = t .loop-test .taken in (
-      ahead-here (s .args .mode) (s .pre .0) _ _ (s .pre .1 .0) _ _ _ _ _ v l,
-      (stops _ _, ahead-here-walks (s .args .mode) (s .pre .0) _ _ (s .pre .1 .0) _ _ _ _ _ v l),
+    let s = start-of (t .before) in (
+      ahead-here (s .args .mode) (s .pre .0) _ _ (s .pre .1 .0) _ _ _ _ _ (t .before .loop .inv) (t .loop-test .taken),
+      stops _ _,
     )
 
 add-t20 : tie.Need-add-t20 Inv-loop μ-loop
@@ -109,15 +107,10 @@ returns-2 c =
     let s = start-of (t .before) in
     let l = t .before .loop in
     let x = getD (s .args .heard .now) (l .at) 0 in
-    let from = l .inv .from in
-    let in-list = t .loop-test .taken in
-    let does = subst (Does (kindOf (s .args .mode) (l .j)) (l .d) x)
-    (c .enum-told .given .1) (m .effect-of .ensures) in (
-      ahead-hunts (s .args .mode) (s .pre .0) _ _ (s .pre .1 .0) _ _ _ _ _ (l .inv) in-list does,
-      (
-        λ t. omega arith,
-        ahead-hunts-walks (s .args .mode) (s .pre .0) _ _ (s .pre .1 .0) _ _ _ _ _ (l .inv) in-list does,
-      ),
+    let from = l .inv .from in (
+      ahead-hunts (s .args .mode) (s .pre .0) _ _ (s .pre .1 .0) _ _ _ _ _ (l .inv) (t .loop-test .taken)
+          (subst (Does (kindOf (s .args .mode) (l .j)) (l .d) x) (c .enum-told .given .1) (m .effect-of .ensures)),
+      λ t. omega arith,
     )
 
 add-j : tie.Need-add-j Inv-loop μ-loop
@@ -181,11 +174,8 @@ sub-t23 c = search needs
 returns-3 : tie.Need-returns-3 Inv-loop μ-loop
 returns-3 c =
     let s = start-of (c .before) in
-    let v = c .before .loop .inv in
-    let l = c .loop-test .left in (
-      ahead-end (s .args .mode) (s .pre .0) _ _ (s .pre .1 .0) _ _ _ _ _ v l,
-      (stops _ _, ahead-end-walks (s .args .mode) (s .pre .0) _ _ (s .pre .1 .0) _ _ _ _ _ v l),
-    )
+    let l = c .before .loop in
+    (ahead-end (s .args .mode) (s .pre .0) _ _ (s .pre .1 .0) _ _ _ _ _ (l .inv) (c .loop-test .left), stops _ _)
 
 pub pass-samples-spec : {M : Type 1} → statement M
 pass-samples-spec =

@@ -74,7 +74,7 @@ loop-less : tie.Need-loop-less Inv-loop μ-loop
 loop-less c =
     let p = c .before .before in
     let t = p .before .loop-test .taken in
-    let m = p .pass .ensures .1 .0 (not-false _ (c .if1 .left)) in
+    let m = p .pass .ensures .1 (not-false _ (c .if1 .left)) in
     omega arith
 
 loop-again : tie.Need-loop-again Inv-loop μ-loop
