@@ -1,6 +1,7 @@
 -- Laws on integers that the proofs share: how large a sum, the smaller or larger of two and a displacement are, and
 -- what fits.
-use mathlib.Core.Path.{_≡_, _∙_, ap}
+use mathlib.Core.Path.{_≡_, _∙_, sym, ap}
+use mathlib.Core.Bool.{Bool, cond}
 use Prim.Native.Nat.{ℕ, zero, suc, _+_, _-_, _*_, _%_, _≤_, _<_}
 use native.Mathlib.Omega.{arith}
 use native.Mathlib.Nat.{mod-lt}
@@ -60,10 +61,11 @@ displacement-size e m o h =
     let s = early-size e (m % e) (mod-lt m o) in
     omega arith)
 
--- a test of two numbers that were stored
-pub test-is : {a b : ℤ} → SFits w32 a → SFits w32 b
-    → leZ (toZ w32 (ofZ w32 a)) (toZ w32 (ofZ w32 b)) ≡ leZ a b
-test-is {a} {b} f g = λ i. leZ (toZ-ofZ w32 a f i) (toZ-ofZ w32 b g i)
+-- what a test of two numbers that were stored chooses
+pub chosen : {a b : ℤ} → SFits w32 a → SFits w32 b → (x y : ℤ) {t : Bool}
+    → leZ (toZ w32 (ofZ w32 a)) (toZ w32 (ofZ w32 b)) ≡ t → cond t x y ≡ cond (leZ a b) x y
+chosen {a} {b} f g x y e =
+    ap (λ (t : Bool). cond t x y) (sym e ∙ λ i. leZ (toZ-ofZ w32 a f i) (toZ-ofZ w32 b g i))
 
 -- the size of a number that was stored
 pub size-is : (z : ℤ) {n : ℕ} → mag z < 2_147_483_648 → n ≡ natAbs (toZ w32 (ofZ w32 z)) → n ≡ natAbs z

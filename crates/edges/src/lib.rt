@@ -128,7 +128,7 @@ pub fn joined(a: Report, b: Report) -> Report
 }
 
 // Is a change of the level an edge?
-pub fn is_edge(before: u8, heard: u8) -> bool
+fn is_edge(before: u8, heard: u8) -> bool
     ensures { λ r. ⌜ r ≡ isEdge before heard ⌝ }
 {
     if before == 1 {
@@ -141,7 +141,7 @@ pub fn is_edge(before: u8, heard: u8) -> bool
 }
 
 // A report with one edge more, at a ms of a frame.
-pub fn with_edge(e: usize, m: usize, r: Report) -> Report
+fn with_edge(e: usize, m: usize, r: Report) -> Report
     requires { ⌜ 1 ≤ e ⌝ }
     requires { ⌜ e ≤ 22 ⌝ }
     requires { ⌜ ReportOf 999_999 r ⌝ }

@@ -3,6 +3,8 @@ use mathlib.Core.Path.{_≡_, _∙_, refl, sym, ap, subst}
 use mathlib.Core.List.{List}
 use Prim.Native.Nat.{ℕ, zero, suc, _+_, _*_, _/_, _%_, _≤_, _<_}
 use native.Mathlib.Omega.{arith}
+use native.Mathlib.Nat.{add-assoc, div-div-eq-div-mul}
+use lib.Arith.{mod-mul}
 use lib.Bits.{bitXor, differ, xor-step}
 use lib.Count.{trailingZeros, under, trailing-of-zero}
 use lib.Dec.{ltb}
@@ -40,89 +42,55 @@ module _ (a b : ℕ) where
       let f = few in
       omega arith
 
--- two numbers are alike in their lowest bit, and then as their halves are
-record Bit (k a b : ℕ) : Type 0 where
-  low : a % 2 ≡ b % 2
-  rest : trailingZeros (suc k) (bitXor a b) ≡ suc (trailingZeros k (bitXor (a / 2) (b / 2)))
+-- two numbers are alike in their lowest w bits, where p is 2 to the w, and then as what is above these
+record Alike (w p k a b : ℕ) : Type 0 where
+  low : a % p ≡ b % p
+  rest : trailingZeros (w + k) (bitXor a b) ≡ w + trailingZeros k (bitXor (a / p) (b / p))
 
-bit-step : (k a b : ℕ) → 1 ≤ trailingZeros (suc k) (bitXor a b) → Bit k a b
+abbrev Lowest : ℕ → ℕ → Type 0
+Lowest w p = (k a b : ℕ) → w ≤ trailingZeros (w + k) (bitXor a b) → Alike w p k a b
+
+bit-step : Lowest 1 2
 unfolding trailingZeros
-bit-step k a b l = go (bitXor a b % 2) refl
+bit-step k a b l =
+    let fuel : 1 + k ≡ suc k = omega arith in
+    go (bitXor a b % 2) refl (ap (λ (n : ℕ). trailingZeros n (bitXor a b)) fuel)
   where
-    go : (d : ℕ) → bitXor a b % 2 ≡ d → Bit k a b
-    go zero e = record {
+    go : (d : ℕ) → bitXor a b % 2 ≡ d
+        → trailingZeros (1 + k) (bitXor a b) ≡ under d (trailingZeros k (bitXor a b / 2)) → Alike 1 2 k a b
+    go zero e z = record {
       low = low-same a b e;
-      rest =
-          ap (λ (m : ℕ). under m (trailingZeros k (bitXor a b / 2))) e
-          ∙ ap (λ (m : ℕ). suc (trailingZeros k m)) (half-is a b);
+      rest = let h = ap (trailingZeros k) (half-is a b) in omega arith;
     }
-    go (suc d) e =
-        let z = ap (λ (m : ℕ). under m (trailingZeros k (bitXor a b / 2))) e in
-        absurd (omega arith)
+    go (suc d) e z = absurd (omega arith)
 
 -- ---- one byte
 
-abbrev two : ℕ → ℕ
-two k = suc (suc k)
-
-abbrev four : ℕ → ℕ
-four k = two (two k)
-
-abbrev byte : ℕ → ℕ
-byte k = four (four k)
-
--- the same of two bits, of four and of eight
-two-step : (k a b : ℕ) → 2 ≤ trailingZeros (two k) (bitXor a b)
-    → (a % 4 ≡ b % 4) × (trailingZeros (two k) (bitXor a b) ≡ 2 + trailingZeros k (bitXor (a / 4) (b / 4)))
-two-step k a b l =
-    let s = bit-step (suc k) a b (omega arith) in
+-- twice as many bits
+twice : (w p : ℕ) → 0 < p → Lowest w p → Lowest (w + w) (p * p)
+twice w p o lowest k a b l =
+    let all : trailingZeros (w + w + k) (bitXor a b) ≡ trailingZeros (w + (w + k)) (bitXor a b)
+    = ap (λ (n : ℕ). trailingZeros n (bitXor a b)) (add-assoc w w k) in
+    let s = lowest (w + k) a b (omega arith) in
     let r = s .rest in
-    let t = bit-step k (a / 2) (b / 2) (omega arith) in
+    let t = lowest k (a / p) (b / p) (omega arith) in
     let q = t .rest in
-    let e = s .low in
-    let f = t .low in
-    let za : a / 2 / 2 ≡ a / 4 = omega arith in
-    let zb : b / 2 / 2 ≡ b / 4 = omega arith in
-    let p : trailingZeros k (bitXor (a / 2 / 2) (b / 2 / 2)) ≡ trailingZeros k (bitXor (a / 4) (b / 4))
-    = λ i. trailingZeros k (bitXor (za i) (zb i)) in
-    (omega arith, omega arith)
+    let above : trailingZeros k (bitXor (a / p / p) (b / p / p)) ≡ trailingZeros k (bitXor (a / (p * p)) (b / (p * p)))
+    = λ i. trailingZeros k (bitXor (div-div-eq-div-mul a p p i) (div-div-eq-div-mul b p p i)) in
+    record {
+      low = mod-mul a o o ∙ (λ i. t .low i * p + s .low i) ∙ sym (mod-mul b o o);
+      rest = omega arith;
+    }
 
-four-step : (k a b : ℕ) → 4 ≤ trailingZeros (four k) (bitXor a b)
-    → (a % 16 ≡ b % 16) × (trailingZeros (four k) (bitXor a b) ≡ 4 + trailingZeros k (bitXor (a / 16) (b / 16)))
-four-step k a b l =
-    let s = two-step (two k) a b (omega arith) in
-    let e = s .0 in
-    let r = s .1 in
-    let t = two-step k (a / 4) (b / 4) (omega arith) in
-    let f = t .0 in
-    let q = t .1 in
-    let za : a / 4 / 4 ≡ a / 16 = omega arith in
-    let zb : b / 4 / 4 ≡ b / 16 = omega arith in
-    let p : trailingZeros k (bitXor (a / 4 / 4) (b / 4 / 4)) ≡ trailingZeros k (bitXor (a / 16) (b / 16))
-    = λ i. trailingZeros k (bitXor (za i) (zb i)) in
-    (omega arith, omega arith)
-
-byte-step : (k a b : ℕ) → 8 ≤ trailingZeros (byte k) (bitXor a b)
-    → (a % 256 ≡ b % 256) × (trailingZeros (byte k) (bitXor a b) ≡ 8 + trailingZeros k (bitXor (a / 256) (b / 256)))
-byte-step k a b l =
-    let s = four-step (four k) a b (omega arith) in
-    let e = s .0 in
-    let r = s .1 in
-    let t = four-step k (a / 16) (b / 16) (omega arith) in
-    let f = t .0 in
-    let q = t .1 in
-    let za : a / 16 / 16 ≡ a / 256 = omega arith in
-    let zb : b / 16 / 16 ≡ b / 256 = omega arith in
-    let p : trailingZeros k (bitXor (a / 16 / 16) (b / 16 / 16)) ≡ trailingZeros k (bitXor (a / 256) (b / 256))
-    = λ i. trailingZeros k (bitXor (za i) (zb i)) in
-    (omega arith, omega arith)
+byte-step : Lowest 8 256
+byte-step = twice 4 16 (omega arith) (twice 2 4 (omega arith) (twice 1 2 (omega arith) bit-step))
 
 -- ---- many bytes
 
 -- the bits of m bytes, m bytes of a list as one number, and m bytes of x
 bits : ℕ → ℕ
 bits zero = zero
-bits (suc m) = byte (bits m)
+bits (suc m) = 8 + bits m
 
 value : List ℕ → ℕ → ℕ → ℕ
 value xs i zero = 0
@@ -136,13 +104,13 @@ no-bits : (n : ℕ) → trailingZeros zero n ≡ 0
 unfolding trailingZeros
 no-bits n = refl
 
-first-byte : (k g x v s : ℕ) → g < 256 → x < 256 → 8 ≤ trailingZeros (byte k) (bitXor (g + v * 256) (x + s * 256))
+first-byte : (k g x v s : ℕ) → g < 256 → x < 256 → 8 ≤ trailingZeros (8 + k) (bitXor (g + v * 256) (x + s * 256))
     → (g ≡ x)
-    × (trailingZeros (byte k) (bitXor (g + v * 256) (x + s * 256)) ≡ 8 + trailingZeros k (bitXor v s))
+    × (trailingZeros (8 + k) (bitXor (g + v * 256) (x + s * 256)) ≡ 8 + trailingZeros k (bitXor v s))
 first-byte k g x v s h b l =
     let t = byte-step k (g + v * 256) (x + s * 256) l in
-    let e = t .0 in
-    let r = t .1 in
+    let e = t .low in
+    let r = t .rest in
     let zv : (g + v * 256) / 256 ≡ v = omega arith in
     let zs : (x + s * 256) / 256 ≡ s = omega arith in
     let p : trailingZeros k (bitXor ((g + v * 256) / 256) ((x + s * 256) / 256)) ≡ trailingZeros k (bitXor v s)
@@ -154,9 +122,9 @@ module _ (xs : List ℕ) (bytes : (k : ℕ) → getD xs k 0 < 256) (x : ℕ) (be
   Up i = Through xs from end x i
 
   first-turn : (k i v s : ℕ) → Up i → i < end → (Up (i + 1) → Up (i + 1 + trailingZeros k (bitXor v s) / 8))
-      → Up (i + trailingZeros (byte k) (bitXor (getD xs i 0 + v * 256) (x + s * 256)) / 8)
+      → Up (i + trailingZeros (8 + k) (bitXor (getD xs i 0 + v * 256) (x + s * 256)) / 8)
   first-turn k i v s t l rest =
-      let z = trailingZeros (byte k) (bitXor (getD xs i 0 + v * 256) (x + s * 256)) in
+      let z = trailingZeros (8 + k) (bitXor (getD xs i 0 + v * 256) (x + s * 256)) in
       by-test (ltb z 8)
       (λ e.
       let m = ltb-true z 8 e in
