@@ -5,14 +5,14 @@ use mathlib.Core.Bool.{Bool, cond}
 use Prim.Native.Nat.{ℕ, zero, suc, _+_, _-_, _*_, _%_, _≤_, _<_}
 use native.Mathlib.Omega.{arith}
 use native.Mathlib.Nat.{mod-lt}
-use lib.Dec.{leb, ltb}
+use lib.Dec.{eqb, leb, ltb}
 use lib.IntN.{ℤ, pos, negsuc, natAbs, subℕ, _+ℤ_, _-ℤ_}
 use lib.Signed.{leZ, mag}
 use mir.Syntax.{w32}
 use mir.Val.{SFits, toZ, ofZ}
 use mir.ValLaws.{toZ-ofZ}
-use borrow.Author.Tests.{ltb-true, ltb-false, leb-true, leb-false}
-use Rattle.lists.proofs.Lists.{either, either-by}
+use borrow.Author.Tests.{eq-eqb, ne-eqb, eqb-true, eqb-false, ltb-true, ltb-false, leb-true, leb-false}
+use Rattle.lists.proofs.Lists.{either, either-by, by-test}
 use Rattle.edges.specs.Edges.{smaller, larger, displacement}
 
 -- a difference of two naturals
@@ -70,3 +70,12 @@ chosen {a} {b} f g x y e =
 -- the size of a number that was stored
 pub size-is : (z : ℤ) {n : ℕ} → mag z < 2_147_483_648 → n ≡ natAbs (toZ w32 (ofZ w32 z)) → n ≡ natAbs z
 size-is z h e = e ∙ ap natAbs (toZ-ofZ w32 z (record { sfits = h }))
+
+-- a number that was stored is 0 if its size is
+pub zero-test : (z : ℤ) → SFits w32 z → eqb (ofZ w32 z) 0 ≡ eqb (natAbs z) 0
+zero-test z f =
+    by-test (eqb (ofZ w32 z) 0)
+    (λ e.
+    let is : z ≡ pos 0 = sym (toZ-ofZ w32 z f) ∙ ap (toZ w32) (eqb-true (ofZ w32 z) 0 e) in
+    e ∙ sym (eq-eqb (natAbs z) 0 (ap natAbs is)))
+    (λ e. e ∙ sym (ne-eqb (natAbs z) 0 (λ a. eqb-false (ofZ w32 z) 0 e (ap (ofZ w32) (zero-is z a)))))

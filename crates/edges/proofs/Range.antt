@@ -221,6 +221,23 @@ module _ (mode : Mode) (f : Frame) (w : Edges) where
       let l = eqb-true (w .level) quiet (and-right (isEmpty (w .seen)) (eqb (w .level) quiet) t) in
       λ i. edges (s i) (l i)
 
+  -- where none waits they are in range, wherever the reader is
+  pub none-in : (isEmpty (w .seen) && eqb (w .level) quiet) ≡ true → edgesIn mode f w ≡ true
+  unfolding reportIn
+  none-in t =
+      by-test (isMeasured mode)
+      (λ m.
+      by-test (leb 2 (f .place))
+      (λ e. let h = leb-true 2 (f .place) e in in-measured mode f w m h ∙ ap (waits f) (none-is t) ∙ some-ms f h)
+      (λ e. in-outside mode f w (leb-false 2 (f .place) e) ∙ t))
+      (λ m. in-unmeasured mode f w m ∙ t)
+    where
+      waits : Frame → Edges → Bool
+      waits f w = reportIn (w .seen) && ltb (w .seen .edges) (f .place - 1) && leb (w .level) 2
+
+      some-ms : (f : Frame) → 2 ≤ f .place → waits f noEdges ≡ true
+      some-ms f h = ap (λ (b : Bool). b && true) (lt-ltb 0 (f .place - 1) (omega arith))
+
   pub edges-in : edgesIn mode f w ≡ true → EdgesOf mode f w
   edges-in t =
       record {

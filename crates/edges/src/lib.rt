@@ -249,20 +249,18 @@ fn distance(d: i32) -> u32
     d as u32
 }
 
-// No edge and all four 0?
+// Is a displacement 0?
+fn is_zero(d: i32) -> bool
+    ensures { λ r. ⌜ r ≡ eqb (natAbs d) 0 ⌝ }
+{
+    d == 0
+}
+
+// No edge and all four 0? It is asked without a branch between its tests.
 fn is_empty(r: Report) -> bool
     ensures { λ q. ⌜ q ≡ isEmpty r ⌝ }
 {
-    if r.edges != 0 {
-        return false;
-    }
-    if distance(r.sum) != 0 {
-        return false;
-    }
-    if distance(r.smallest) != 0 {
-        return false;
-    }
-    distance(r.largest) == 0
+    (r.edges == 0) & is_zero(r.sum) & is_zero(r.smallest) & is_zero(r.largest)
 }
 
 // Are the displacements of a report in range?
@@ -293,14 +291,11 @@ pub fn report_in_range(r: Report) -> bool
 }
 
 // Do no edges wait?
-fn is_none(w: Edges) -> bool
+pub fn is_none(w: Edges) -> bool
     ensures { λ q. ⌜ q ≡ (isEmpty (w .seen) && eqb (w .level) quiet) ⌝ }
 {
     let seen = w.seen;
-    if w.level != 0 {
-        return false;
-    }
-    is_empty(seen)
+    is_empty(seen) & (w.level == 0)
 }
 
 // Are edges that wait in a frame in range?
@@ -322,11 +317,14 @@ fn waiting_in(place: u8, w: Edges) -> bool
 pub fn in_range(mode: Mode, f: Frame, w: Edges) -> bool
     ensures { λ q. ⌜ q ≡ edgesIn mode f w ⌝ }
 {
+    if is_none(w) {
+        return true;
+    }
     if f.place < 2 {
-        return is_none(w);
+        return false;
     }
     if element(mode) == 0 {
-        return is_none(w);
+        return false;
     }
     waiting_in(f.place, w)
 }
