@@ -386,10 +386,20 @@ fn code_in(mode: Mode, l: OnLine) -> bool
     is_code(mode.alphabet(), l.code)
 }
 
-// Question 1 of what is on the line.
+// Is nothing on the line, and all 0? It is asked without a branch between its tests.
+fn is_blank(l: OnLine) -> bool
+    ensures { λ r. ⌜ r ≡ (eqb (l .part) 0 && eqb (l .code .0) 0 && eqb (l .at) 0) ⌝ }
+{
+    (l.part == IDLE) & (l.code.0 == 0) & (l.at == 0)
+}
+
+// Question 1 of what is on the line; first of a station in no burst.
 pub fn in_range(mode: Mode, l: OnLine) -> bool
     ensures { λ r. ⌜ r ≡ lineIn mode l ⌝ }
 {
+    if is_blank(l) {
+        return true;
+    }
     if CODE < l.part {
         return false;
     }
