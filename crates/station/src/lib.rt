@@ -62,7 +62,7 @@ fn edges_in(c: Core, w: Edges) -> bool
 }
 
 // Are the numbers of a station beside its edges in range?
-fn station_in(c: Core, chars: &[u8; 256]) -> bool
+pub fn station_in(c: Core, chars: &[u8; 256]) -> bool
     ensures { λ r. ⌜ r ≡ inRange (station c (now (chars .entry))) ⌝ }
 {
     if !half_duplex::in_range(c) {

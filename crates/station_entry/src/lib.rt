@@ -39,7 +39,8 @@ fn refused(c: Core, w: Edges, answer: u8) -> Ran
     }
 }
 
-// Question 1. It is lent a core that is made anew, field by field: the one that is run stays in registers.
+// Question 1. It is lent a core that is made anew, field by field: the one that is run stays in registers. Edges are
+// lent only where some wait.
 fn in_range(c: Core, w: Edges, chars: &[u8; 256]) -> bool
     ensures { λ r. ⌜ r ≡ measuredIn (measured (station c (now (chars .entry))) w) ⌝ }
 {
@@ -55,6 +56,9 @@ fn in_range(c: Core, w: Edges, chars: &[u8; 256]) -> bool
         reader,
         mode: c.mode,
     };
+    if edges::is_none(w) {
+        return station::station_in(same, chars);
+    }
     station::in_range(same, w, chars)
 }
 
@@ -96,7 +100,7 @@ fn ask(c: Core, w: Edges, chars: &[u8; 256], heard: &[u8], sent: usize, words: u
     Asked { answer: 0, highest }
 }
 
-// The edges that wait after a run, told by the place of the frame before it and after it.
+// The edges that wait after a run, told by the place of the frame before it and after it: none outside a frame.
 fn edges_after(c: Core, w: Edges, heard: &[u8], after: Core) -> Edges
     requires { ⌜ ReportOf 900_000 (w .seen) ⌝ }
     requires { ⌜ length (now heard) ≤ 4_096 ⌝ }
@@ -105,14 +109,17 @@ fn edges_after(c: Core, w: Edges, heard: &[u8], after: Core) -> Edges
         → after ≡ stationAfter (station c chars) (now (heard .entry)) .core
         → r ≡ measuredAfter (measured (station c chars) w) (now (heard .entry)) .edges) ⌝ }
 {
+    let last = after.reader;
+    let to = last.frame;
+    if to.place < 2 {
+        return edges::none();
+    }
     let e = edges::element(Mode::of(c.mode));
     if e == 0 {
-        return w;
+        return edges::none();
     }
     let first = c.reader;
     let from = first.frame;
-    let last = after.reader;
-    let to = last.frame;
     edges_runs::latest(e, from.place, w, heard, to.place)
 }
 
