@@ -12,7 +12,7 @@ use lib.ListN.{getD}
 use borrow.Author.Tests.{ltb-true, ltb-false}
 use Rattle.lists.specs.code.Places.{Through, eightAt}
 use Rattle.lists.proofs.Lists.{by-test}
-use Rattle.lists.proofs.Searching.{through-turn}
+use Rattle.lists.proofs.Searching.{two-parts, through-turn}
 
 -- ---- one bit
 
@@ -191,6 +191,5 @@ pub through-chain : (xs : List ℕ) (from mid end x to : ℕ) → Through xs fro
 through-chain xs from mid end x to a b = record {
   low = let l = a .low in let m = b .low in omega arith;
   high = b .high;
-  same = λ (k : ℕ) (l : from ≤ k) (m : k < to). by-test (ltb k mid) (λ e. a .same k l (ltb-true k mid e))
-      (λ e. b .same k (ltb-false k mid e) m);
+  same = two-parts (λ (k : ℕ). getD xs k 0 ≡ x) from mid to (a .same) (b .same);
 }

@@ -1,14 +1,14 @@
 -- Laws on tests, and on lists that are written and read from the front.
 use mathlib.Core.Path.{_≡_, _∙_, refl, sym, ap}
-use mathlib.Core.Bool.{Bool, true, false, cond, _&&_, and-true, and-false}
+use mathlib.Core.Bool.{Bool, true, false, cond, _&&_, and-true, and-false, and-assoc, and-comm}
 use mathlib.Core.List.{List, [], _∷_, _++_}
-use Prim.Native.Nat.{ℕ, zero, suc, _+_, _≤_, _<_}
+use Prim.Native.Nat.{ℕ, zero, suc, _+_, _-_, _≤_, _<_}
 use native.Mathlib.Nat.{add-zero, zero-add, add-suc, suc-add, le-of-suc-le-suc, not-suc-le-zero}
 use native.Mathlib.Numerals.{add-one}
 use native.Mathlib.Omega.{arith}
 use lib.Dec.{leb}
-use lib.ListN.{length, getD, set, drop, drop-of-length-le}
-use lib.Seq.{sets, sets-eq, drop-cons}
+use lib.ListN.{length, getD, set, take, drop, drop-of-length-le, take-append-drop}
+use lib.Seq.{sets, sets-eq, drop-cons, drop-drop}
 use borrow.Author.Tests.{leb-true, le-leb}
 use Rattle.lists.specs.Lists.{allAtMost, allAtLeast}
 
@@ -54,13 +54,22 @@ pub last-decides : {a b : Bool} → a ≡ true → b ≡ (a && b)
 last-decides e = rw e refl
 
 -- what follows from a test does not change it
-and-weaker : (a b rest : Bool) → (a ≡ true → b ≡ true) → (a && rest) ≡ (b && (a && rest))
-and-weaker true b rest h = rw (h refl) refl
-and-weaker false b rest h = sym (and-false b)
+pub and-weaker : (a b : Bool) → (a ≡ true → b ≡ true) → a ≡ (b && a)
+and-weaker true b h = rw (h refl) refl
+and-weaker false b h = sym (and-false b)
 
-and-implied : (a b rest : Bool) → (a ≡ true → b ≡ true) → (a && rest) ≡ (a && (b && rest))
-and-implied true b rest h = rw (h refl) refl
-and-implied false b rest h = refl
+pub and-implied : (a b : Bool) → (a ≡ true → b ≡ true) → a ≡ (a && b)
+and-implied a b h = and-weaker a b h ∙ and-comm b a
+
+-- two tests that follow from each other
+each-way : (a b : Bool) → (a ≡ true → b ≡ true) → (b ≡ true → a ≡ true) → a ≡ b
+each-way a b f g = and-weaker a b f ∙ sym (and-implied b a g)
+
+-- two pairs of tests, one of each first
+pub and-across : (a b c d : Bool) → (a && b && (c && d)) ≡ (a && c && (b && d))
+and-across true true c d = refl
+and-across true false c d = sym (and-false c)
+and-across false b c d = refl
 
 -- A test of every number of a list, by its equations.
 record Every (test : ℕ → Bool) (all : List ℕ → Bool) : Type 0 where
@@ -93,13 +102,16 @@ module _ {test : ℕ → Bool} {all : List ℕ → Bool} (every : Every test all
     every-left : i < length xs → all (drop i xs) ≡ (now && rest)
     every-left h = rw (add-one, drop-cons xs i 0 h) (every .more (getD xs i 0) (drop (suc i) xs))
 
+    every-kept : i < length xs → (kept && now && rest) ≡ (kept && all (drop i xs))
+    every-kept h = and-assoc kept now rest ∙ ap (λ (b : Bool). kept && b) (sym (every-left h))
+
     -- .. the number at the place is kept, ..
     every-stricter : i < length xs → (now ≡ true → kept ≡ true) → (now && rest) ≡ (kept && all (drop i xs))
-    every-stricter h f = and-weaker now kept rest f ∙ ap (λ (b : Bool). kept && b) (sym (every-left h))
+    every-stricter h f = ap (λ (b : Bool). b && rest) (and-weaker now kept f) ∙ every-kept h
 
     -- .. or passed, ..
     every-looser : i < length xs → (kept ≡ true → now ≡ true) → (kept && rest) ≡ (kept && all (drop i xs))
-    every-looser h f = and-implied kept now rest f ∙ ap (λ (b : Bool). kept && b) (sym (every-left h))
+    every-looser h f = ap (λ (b : Bool). b && rest) (and-implied kept now f) ∙ every-kept h
 
     -- .. and there is none left
     every-all : length xs ≤ i → (kept && all (drop i xs)) ≡ all xs → kept ≡ all xs
@@ -141,6 +153,34 @@ at-most-front m (x ∷ xs) ys e =
 pub at-most-behind : (m : ℕ) (xs ys : List ℕ) → allAtMost m (xs ++ ys) ≡ true → allAtMost m ys ≡ true
 at-most-behind m [] ys e = e
 at-most-behind m (x ∷ xs) ys e = at-most-behind m xs ys (at-most-tail m x (xs ++ ys) e)
+
+-- one more of the first ones
+pub at-most-take : (m : ℕ) (xs : List ℕ) (i : ℕ) → i < length xs
+    → allAtMost m (take (suc i) xs) ≡ (allAtMost m (take i xs) && leb (getD xs i 0) m)
+unfolding allAtMost
+at-most-take m [] i h = absurd (not-suc-le-zero h)
+at-most-take m (x ∷ xs) zero h = and-true (leb x m)
+at-most-take m (x ∷ xs) (suc i) h =
+    ap (λ (b : Bool). leb x m && b) (at-most-take m xs i (le-of-suc-le-suc h))
+    ∙ sym (and-assoc (leb x m) (allAtMost m (take i xs)) (leb (getD xs i 0) m))
+
+-- the first ones, and those from a place on that is not behind them, are all
+module _ (m : ℕ) (xs : List ℕ) (i j : ℕ) where
+  abbrev first : Bool
+  first = allAtMost m (take i xs)
+
+  abbrev last : Bool
+  last = allAtMost m (drop j xs)
+
+  pub at-most-ends : j ≤ i → (first && last) ≡ allAtMost m xs
+  at-most-ends h =
+      each-way (first && last) (allAtMost m xs)
+      (λ e.
+      let k : j + (i - j) ≡ i = omega arith in
+      let d : drop (i - j) (drop j xs) ≡ drop i xs = drop-drop (i - j) j xs ∙ (rw k) in
+      let p = at-most-drop m (drop j xs) (i - j) (and-right first last e) in
+      rw take-append-drop at (at-most-append m (take i xs) (drop i xs) (and-left first last e) (rw d at p)))
+      (λ e. both (at-most-front m (take i xs) (drop i xs) (rw take-append-drop e)) (at-most-drop m xs j e))
 
 -- a loop that looks at every number: the largest of those passed
 module _ (m : ℕ) (xs : List ℕ) (i largest : ℕ) (h : i < length xs) where

@@ -1,22 +1,27 @@
 -- A search, place by place.
-use mathlib.Core.Path.{_≡_, refl}
+use mathlib.Core.Path.{_≡_, _∙_, refl, sym}
 use mathlib.Core.Bool.{Bool, true, false}
 use mathlib.Core.List.{List}
 use Prim.Native.Nat.{ℕ, _+_, _-_, _≤_, _<_}
 use native.Mathlib.Omega.{arith}
-use lib.Dec.{eqb}
+use lib.Dec.{eqb, ltb}
 use lib.ListN.{getD}
-use borrow.Author.Tests.{eqb-true, eqb-false}
+use borrow.Author.Tests.{eqb-true, eqb-false, ltb-true, ltb-false}
 use Rattle.lists.specs.code.Places.{Until, Through, Back}
+use Rattle.lists.proofs.Lists.{by-test}
+
+-- what holds at each place before mid, and at each from there on, holds at each
+pub two-parts : (P : ℕ → Type 0) (from mid to : ℕ) → ((k : ℕ) → from ≤ k → k < mid → P k)
+    → ((k : ℕ) → mid ≤ k → k < to → P k) → (k : ℕ) → from ≤ k → k < to → P k
+two-parts P from mid to f g k l m =
+    by-test (ltb k mid) (λ e. f k l (ltb-true k mid e)) (λ e. g k (ltb-false k mid e) m)
 
 -- what holds at each place before i, and at i, holds at each before i + 1
 one-more : (P : ℕ → Type 0) (from i : ℕ) → ((k : ℕ) → from ≤ k → k < i → P k) → P i → (k : ℕ) → from ≤ k → k < i + 1
     → P k
-one-more P from i h p k l m = go (eqb i k) refl
-  where
-    go : (b : Bool) → eqb i k ≡ b → P k
-    go true e = let q = eqb-true i k e in rw q at p
-    go false e = let q = eqb-false i k e in h k l (omega arith)
+one-more P from i h p =
+    two-parts P from i (i + 1) h
+    (λ (k : ℕ) (l : i ≤ k) (m : k < i + 1). (let q : i ≡ k = omega arith in rw q at p))
 
 module _ (xs : List ℕ) (from end x : ℕ) where
   pub until-start : from ≤ end → Until xs from end x from
@@ -46,6 +51,16 @@ module _ (xs : List ℕ) (from end x : ℕ) where
     high = omega arith;
     same = one-more (λ (k : ℕ). getD xs k 0 ≡ x) from i (u .same) n;
   }
+
+-- a search that goes on behind a run of another number
+pub until-through : (xs : List ℕ) (from mid end x y to : ℕ) → (y ≡ x → ⊥) → Until xs from end x mid
+    → Through xs mid end y to → Until xs from end x to
+until-through xs from mid end x y to n u t = record {
+  low = let l = u .low in let m = t .low in omega arith;
+  high = t .high;
+  others = two-parts (λ (k : ℕ). getD xs k 0 ≡ x → ⊥) from mid to (u .others)
+      (λ (k : ℕ) (l : mid ≤ k) (m : k < to) (p : getD xs k 0 ≡ x). n (sym (t .same k l m) ∙ p));
+}
 
 -- a search back
 module _ (xs : List ℕ) (from end x i : ℕ) (t : Through xs i end x end) (l : from ≤ i) where

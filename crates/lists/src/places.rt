@@ -111,6 +111,23 @@ pub fn through_run(xs: &[u8], from: usize, end: usize, x: u8) -> usize
     through(xs, i, end, x)
 }
 
+// The first place of a byte behind long runs of others, each of which is passed eight bytes at a time.
+pub fn until_run(xs: &[u8], from: usize, end: usize, x: u8) -> usize
+    requires { ⌜ from ≤ end ⌝ }
+    requires { ⌜ end ≤ length (now xs) ⌝ }
+    ensures { λ r. ⌜ Until (now (xs .entry)) from end x r ⌝ }
+{
+    let mut i = from;
+    while i < end {
+        let y = xs[i];
+        if y == x {
+            return i;
+        }
+        i = through_run(xs, i + 1, end, y);
+    }
+    i
+}
+
 // The first place from which on, up to the end, a byte stands.
 pub fn back(xs: &[u8], from: usize, end: usize, x: u8) -> usize
     requires { ⌜ from ≤ end ⌝ }

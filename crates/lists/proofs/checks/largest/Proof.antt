@@ -1,52 +1,70 @@
--- `checks::largest` meets its contract. The invariant: the largest byte passed and those left together say it of all.
-use mathlib.Core.Path.{_≡_, _∙_, refl}
-use mathlib.Core.Bool.{_&&_}
-use mathlib.Core.Logic.{⊎-elim}
-use Prim.Native.Nat.{ℕ, _-_}
+-- `checks::largest` meets its contract.
+use mathlib.Core.Path.{_≡_, _∙_}
+use mathlib.Core.List.{List}
+use Prim.Native.Nat.{ℕ, _-_, _≤_}
 use native.Mathlib.Omega.{arith}
 use lib.Dec.{leb}
-use borrow.Author.Tests.{le-leb}
+use lib.ListN.{length, take, drop, length-take, length-drop}
+use lib.Seq.{take-take, take-all}
+use borrow.Author.Tests.{leb-true}
 use borrow.Author.Needs.{needs}
-use lib.ListN.{length, drop}
 use Rattle.lists.specs.Lists.{allAtMost}
-use Rattle.lists.proofs.Lists.{at-most-larger, at-most-others, at-most-all}
+use Rattle.lists.specs.code.Checks.{LargestOfFronts}
+use Rattle.lists.proofs.Lists.{and-left, and-right, at-most-ends}
 use Rattle.lists.proofs.checks.largest.Statement.{statement}
 use Rattle.lists.proofs.checks.largest.Tie as tie
 
-abbrev Inv-loop : tie.InvT-loop
-Inv-loop xs largest₀ i₀ largest i = (m : ℕ) → (leb largest m && allAtMost m (drop i xs)) ≡ allAtMost m xs
+-- the first 16 and the last 16
+both-ends : (xs : List ℕ) (largest : ℕ) → let n = length xs in 16 ≤ n → n ≤ 32
+    → LargestOfFronts 16 xs (take (n - (n - 16)) (drop (n - 16) xs)) largest
+    → (m : ℕ) → leb largest m ≡ allAtMost m xs
+both-ends xs largest h l so m =
+    let j = length xs - 16 in
+    let d = length-drop j xs in
+    let e : take 16 (take (length xs - j) (drop j xs)) ≡ drop j xs
+    = take-take 16 (length xs - j) (drop j xs) (omega arith) ∙ take-all 16 (drop j xs) (omega arith) in
+    so m ∙ (rw e (at-most-ends m xs 16 j (omega arith)))
 
-abbrev μ-loop : tie.MeasureT-loop
-μ-loop xs largest₀ i₀ largest i = length xs - i
+-- what the test says
+sized : (c : tie.Then1) → let n = length (c .before .before .args .xs .now) in (16 ≤ n) × (n ≤ 32)
+sized c = search (needs, leb-true, and-left, and-right)
 
-loop-holds : tie.Need-loop-holds Inv-loop μ-loop
-loop-holds c = λ (m : ℕ). rw (le-leb 0 m (omega arith)) refl
+sub-j : tie.Need-sub-j
+sub-j c = sized c .0
 
-shared-slice-read-x : tie.Need-shared-slice-read-x Inv-loop μ-loop
-shared-slice-read-x c = search needs
+sub-largest-of-fronts : tie.Need-sub-largest-of-fronts
+sub-largest-of-fronts c = omega arith
 
-add-i : tie.Need-add-i Inv-loop μ-loop
-add-i c = search needs
+part-largest-of-fronts-start : tie.Need-part-largest-of-fronts-start
+part-largest-of-fronts-start c = omega arith
 
-loop-less : tie.Need-loop-less Inv-loop μ-loop
-loop-less c = search needs
+part-largest-of-fronts-end : tie.Need-part-largest-of-fronts-end
+part-largest-of-fronts-end c = omega arith
 
-loop-again : tie.Need-loop-again Inv-loop μ-loop
-loop-again c =
-    let l = c .before .before .before in
-    let t = c .before .before .loop-test .taken in
-    let xs = l .before .args .xs .now in
-    let at = l .loop .i in
-    let kept = l .loop .largest in
-    ⊎-elim (λ w. rw (w .1) (λ (m : ℕ). at-most-larger m xs at kept t (w .0 .taken) ∙ l .loop .inv m))
-    (λ w. rw (w .1) (λ (m : ℕ). at-most-others m xs at kept t (w .0 .left) ∙ l .loop .inv m)) (c .if1 .came)
+largest-of-fronts-requires : tie.Need-largest-of-fronts-requires
+largest-of-fronts-requires c κs =
+    let l = sized (c .before) .0 in (l, simp (length-take, length-drop) (omega arith))
 
-returns : tie.Need-returns Inv-loop μ-loop
+returns : tie.Need-returns
 returns c =
-    let a = c .before .before .args in
-    λ (m : ℕ). at-most-all m (a .xs .now) _ _ (c .loop-test .left) (c .before .loop .inv m)
+    let t = sized (c .before .before) in
+    both-ends _ _ (t .0) (t .1) (c .largest-of-fronts .ensures)
+
+largest-of-all-requires : tie.Need-largest-of-all-requires
+largest-of-all-requires c κs = search needs
+
+returns-2 : tie.Need-returns-2
+returns-2 c = c .largest-of-all .ensures
 
 pub largest-spec : {M : Type 1} → statement M
 largest-spec =
     tie.close
-    (tie.spec Inv-loop μ-loop loop-holds shared-slice-read-x add-i loop-less loop-again returns)
+    (tie.spec
+    sub-j
+    sub-largest-of-fronts
+    part-largest-of-fronts-start
+    part-largest-of-fronts-end
+    largest-of-fronts-requires
+    returns
+    largest-of-all-requires
+    returns-2)
