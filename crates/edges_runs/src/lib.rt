@@ -10,6 +10,7 @@ ghost use Prim.Native.Nat.{_-_, _≤_, _<_};
 ghost use lib.ListN.{length, getD, take, drop};
 ghost use Rattle.frames.specs.code.Bounds.{Framed, FrameOf};
 ghost use Rattle.frames_runs.specs.code.Passing.{frameAt, Stays};
+ghost use Rattle.edges.specs.Edges.{isMeasured};
 ghost use Rattle.edges.specs.code.Bounds.{ReportOf, EdgesOf};
 ghost use Rattle.edges.specs.code.Measuring.{withAll, reportOver};
 ghost use Rattle.edges_runs.specs.code.Latest.{SliceOf, Goes};
@@ -126,6 +127,22 @@ fn frame_end(mode: Mode, heard: &[u8], place: usize, digits: usize, i: usize) ->
     end_by(0, heard.len(), Effect::Hunts)
 }
 
+// The same where edges are measured. In each call the mode is a constant, of which the compiler makes a short loop each.
+fn measured_end(mode: Mode, heard: &[u8], place: usize, digits: usize, i: usize) -> Ended
+    requires { ⌜ isMeasured mode ≡ true ⌝ }
+    requires { ⌜ FrameOf mode (frameAt place digits) ⌝ }
+    requires { ⌜ 2 ≤ place ⌝ }
+    requires { ⌜ i ≤ length (now heard) ⌝ }
+    ensures { λ p. ⌜ EndedAt mode (now (heard .entry)) (frameAt place digits) i p ⌝ }
+{
+    match mode {
+        Mode::Baudot45 => frame_end(Mode::Baudot45, heard, place, digits, i),
+        Mode::Baudot50 => frame_end(Mode::Baudot50, heard, place, digits, i),
+        Mode::Dtmf => end_by(0, i, Effect::Hunts),
+        Mode::Edt => end_by(0, i, Effect::Hunts),
+    }
+}
+
 // Between frames: hunting, up to a space; waiting, past the space.
 fn between(heard: &[u8], place: usize, i: usize) -> usize
     requires { ⌜ place ≤ 1 ⌝ }
@@ -133,14 +150,14 @@ fn between(heard: &[u8], place: usize, i: usize) -> usize
     ensures { λ r. ⌜ Stays (now (heard .entry)) place i r ⌝ }
 {
     if place == 0 {
-        return lists::places::until(heard, i, heard.len(), 2);
+        return lists::places::until_run(heard, i, heard.len(), 2);
     }
     lists::places::through_run(heard, i, heard.len(), 2)
 }
 
 // Up to the ms that ends the next frame, or to the end of what is heard.
 fn next_end(mode: Mode, heard: &[u8], place: usize, digits: usize, i: usize) -> Ended
-    requires { ⌜ Framed mode ⌝ }
+    requires { ⌜ isMeasured mode ≡ true ⌝ }
     requires { ⌜ FrameOf mode (frameAt place digits) ⌝ }
     requires { ⌜ Clean (frameAt place digits) ⌝ }
     requires { ⌜ i ≤ length (now heard) ⌝ }
@@ -158,7 +175,7 @@ fn next_end(mode: Mode, heard: &[u8], place: usize, digits: usize, i: usize) -> 
         d = 0;
         to = k + 1;
     }
-    frame_end(mode, heard, at, d, to)
+    measured_end(mode, heard, at, d, to)
 }
 
 // The report with the edges of a frame that ends in a code, the ms of its stop sample included.

@@ -9,7 +9,7 @@ use Rattle.edges.specs.declared.Edges.{Edges}
 use Rattle.edges_runs.specs.code.Latest.{Goes}
 use Rattle.edges_runs.specs.code.Counting.{withCode, CountOf}
 use Rattle.edges_runs.proofs.Reading.{unmeasured-report}
-use Rattle.edges_runs.proofs.Measuring.{Given, At, at-start, at-reached, at-end, at-counts, place-few, code-inside, at-ended, measured-framed}
+use Rattle.edges_runs.proofs.Measuring.{Given, At, at-start, at-reached, at-end, at-counts, place-few, code-inside, at-ended}
 use Rattle.edges_runs.proofs.measure.Statement.{statement}
 use Rattle.edges_runs.proofs.measure.Tie as tie
 
@@ -82,7 +82,7 @@ next-end-requires : tie.Need-next-end-requires Inv-loop μ-loop
 next-end-requires c κs =
     let g = given-of (measured-of c) in
     let a = c .loop .inv in
-    (measured-framed (start-of (measured-of c) .args .mode) (g .measured), (a .in-range, (a .clean, a .within)))
+    (g .measured, (a .in-range, (a .clean, a .within)))
 
 returns-2 : tie.Need-returns-2 Inv-loop μ-loop
 returns-2 c =

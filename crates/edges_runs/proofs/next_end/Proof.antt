@@ -4,9 +4,11 @@ use Prim.Native.Nat.{_-_}
 use native.Mathlib.Omega.{arith}
 use lib.ListN.{length}
 use borrow.Author.Needs.{needs}
+use Rattle.frames.specs.code.Bounds.{Framed}
 use Rattle.frames_runs.specs.code.Passing.{frameAt}
 use Rattle.edges_runs.specs.code.Counting.{Clean, Reached, EndedAt}
 use Rattle.edges_runs.proofs.Sampling.{reached-clean}
+use Rattle.edges_runs.proofs.Measuring.{measured-framed}
 use Rattle.edges_runs.proofs.Ending.{reached-start, reached-next, ended-none, ended-far}
 use Rattle.edges_runs.proofs.next_end.Statement.{statement}
 use Rattle.edges_runs.proofs.next_end.Tie as tie
@@ -26,13 +28,16 @@ start-of c = c .before .before
 abbrev between-of : tie.After-place-after Inv-loop μ-loop → tie.After-between Inv-loop μ-loop
 between-of c = c .before .before .before
 
+framed-of : (c : tie.Start Inv-loop μ-loop) → Framed (c .args .mode)
+framed-of s = measured-framed (s .args .mode) (s .pre .0)
+
 clean-of : (c : tie.At-loop Inv-loop μ-loop) → Clean (frameAt (c .loop .at) (c .loop .d))
 clean-of c = reached-clean _ _ _ _ _ _ (start-of c .pre .1 .1 .0) (c .loop .inv)
 
 -- ---- what each moment needs
 
 loop-holds : tie.Need-loop-holds Inv-loop μ-loop
-loop-holds c = let p = c .before .pre in reached-start _ (p .0) _ _ _ (p .1 .0) (p .1 .1 .1)
+loop-holds c = let p = c .before .pre in reached-start _ (framed-of (c .before)) _ _ _ (p .1 .0) (p .1 .1 .1)
 
 between-requires : tie.Need-between-requires Inv-loop μ-loop
 between-requires c κs = let t = c .loop-test .taken in (omega arith, c .before .loop .inv .high)
@@ -48,7 +53,7 @@ returns c =
     let s = start-of l in
     let f = frameAt (s .args .place) (s .args .digits) in
     subst (EndedAt (s .args .mode) (s .args .heard .now) f (s .args .i)) (sym (c .end-by .ensures))
-    (ended-none _ (s .pre .0) _ _ _ _ _ _ (l .loop .inv) (clean-of l) (omega arith) _ (b .between .ensures)
+    (ended-none _ (framed-of s) _ _ _ _ _ _ (l .loop .inv) (clean-of l) (omega arith) _ (b .between .ensures)
     (c .before .if1 .taken))
 
 shared-slice-read-place-after : tie.Need-shared-slice-read-place-after Inv-loop μ-loop
@@ -77,18 +82,18 @@ loop-again c =
     let t = b .before .loop-test .taken in
     let l = b .before .before in
     let high = b .between .ensures .high in
-    reached-next _ (start-of l .pre .0) _ _ _ _ _ _ (l .loop .inv) (clean-of l) (omega arith) _ (b .between .ensures)
+    reached-next _ (framed-of (start-of l)) _ _ _ _ _ _ (l .loop .inv) (clean-of l) (omega arith) _ (b .between .ensures)
     (omega (arith, c .before .before .if1 .left)) _ (c .place-after .ensures)
 
-frame-end-requires : tie.Need-frame-end-requires Inv-loop μ-loop
-frame-end-requires c κs =
+measured-end-requires : tie.Need-measured-end-requires Inv-loop μ-loop
+measured-end-requires c κs =
     let r = c .before .loop .inv in
     (start-of (c .before) .pre .0, (r .in-range, (c .loop-test .left, r .high)))
 
 returns-2 : tie.Need-returns-2 Inv-loop μ-loop
 returns-2 c =
     let l = c .before .before in
-    ended-far _ (start-of l .pre .0) _ _ _ _ _ _ (l .loop .inv) (clean-of l) _ (c .frame-end .ensures)
+    ended-far _ (framed-of (start-of l)) _ _ _ _ _ _ (l .loop .inv) (clean-of l) _ (c .measured-end .ensures)
 
 pub next-end-spec : {M : Type 1} → statement M
 next-end-spec =
@@ -105,5 +110,5 @@ next-end-spec =
     add-to
     loop-less
     loop-again
-    frame-end-requires
+    measured-end-requires
     returns-2)
