@@ -2,7 +2,7 @@
 use mathlib.Core.Path.{_≡_, _∙_, refl, sym, ap, subst}
 use mathlib.Core.Bool.{Bool, true, false, cond}
 use mathlib.Core.List.{List, [], _∷_}
-use Prim.Native.Nat.{ℕ}
+use Prim.Native.Nat.{ℕ, _<_}
 use native.Mathlib.Omega.{arith}
 use Rattle.lists.specs.Lists.{allAtMost}
 use Rattle.lists.specs.Steps.{stateAfter}
@@ -86,11 +86,14 @@ module _ (x : Measured) (heard : List ℕ) (h : Edged x)
       subst (λ (k : Core). Goes (elementOf (modeIn (x .core))) (placeOf x) (x .edges) heard (k .reader .frame .place)
       (measuredAfter x heard .edges)) (sym (ed ∙ same)) (goes x heard m h l)
 
-  pub none-wait : isMeasured (modeIn (x .core)) ≡ false → x .edges ≡ measuredAfter x heard .edges
+  -- outside a frame, and in a mode that is not measured, none wait
+  pub none-outside : (d : Core) → d ≡ stationAfter (stationOf x) heard .core → d .reader .frame .place < 2
+      → noEdges ≡ measuredAfter x heard .edges
+  none-outside d ed p =
+      let same = sym (ap (λ (s : Station). s .core) (station-after x heard)) in
+      sym (after-edged x heard h l .outside (subst (λ (k : Core). k .reader .frame .place < 2) (ed ∙ same) p))
+
+  pub none-wait : isMeasured (modeIn (x .core)) ≡ false → noEdges ≡ measuredAfter x heard .edges
   none-wait m =
-      h .unmeasured m ∙ sym (after-edged x heard h l .unmeasured (unmeasured-after m))
-    where
-      unmeasured-after : isMeasured (modeIn (x .core)) ≡ false
-          → isMeasured (modeIn (measuredAfter x heard .core)) ≡ false
-      unmeasured-after m =
-          ap isMeasured (ap modeOfStation (station-after x heard) ∙ mode-after (stationOf x) heard) ∙ m
+      let mode = ap modeOfStation (station-after x heard) ∙ mode-after (stationOf x) heard in
+      sym (after-edged x heard h l .unmeasured (ap isMeasured mode ∙ m))
