@@ -127,17 +127,11 @@ pub fn joined(a: Report, b: Report) -> Report
     }
 }
 
-// Is a change of the level an edge?
+// Is a change of the level an edge? One number of mark and space tells it, so that there is one branch.
 fn is_edge(before: u8, heard: u8) -> bool
     ensures { λ r. ⌜ r ≡ isEdge before heard ⌝ }
 {
-    if before == 1 {
-        return heard == 2;
-    }
-    if before == 2 {
-        return heard == 1;
-    }
-    false
+    before as u32 * heard as u32 == 2
 }
 
 // A report with one edge more, at a ms of a frame.

@@ -127,7 +127,7 @@ fn frame_end(mode: Mode, heard: &[u8], place: usize, digits: usize, i: usize) ->
     end_by(0, heard.len(), Effect::Hunts)
 }
 
-// The same where edges are measured. In each call the mode is a constant, of which the compiler makes a short loop each.
+// The same where edges are measured. In each call the mode is a constant, of which the compiler makes a short loop.
 fn measured_end(mode: Mode, heard: &[u8], place: usize, digits: usize, i: usize) -> Ended
     requires { ⌜ isMeasured mode ≡ true ⌝ }
     requires { ⌜ FrameOf mode (frameAt place digits) ⌝ }

@@ -82,7 +82,8 @@ loop-again c =
     let t = b .before .loop-test .taken in
     let l = b .before .before in
     let high = b .between .ensures .high in
-    reached-next _ (framed-of (start-of l)) _ _ _ _ _ _ (l .loop .inv) (clean-of l) (omega arith) _ (b .between .ensures)
+    reached-next _ (framed-of (start-of l)) _ _ _ _ _ _ (l .loop .inv) (clean-of l) (omega arith) _
+    (b .between .ensures)
     (omega (arith, c .before .before .if1 .left)) _ (c .place-after .ensures)
 
 measured-end-requires : tie.Need-measured-end-requires Inv-loop μ-loop
