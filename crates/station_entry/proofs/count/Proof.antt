@@ -29,8 +29,7 @@ in-range : (c : tie.Else1) → reportIn (c .before .before .before .args .r) ≡
 in-range c = let r = c .before .report-in-range in sym (r .ensures) ∙ not-false (r .result) (c .if1 .left)
 
 returns-2 : tie.Need-returns-2
-returns-2 c =
-    counts-long _ _ _ _ _ (in-range (c .before)) (c .if2 .taken) _
+returns-2 c = counts-long _ _ _ _ _ (in-range (c .before)) (c .if2 .taken) _
 
 report-after-requires : tie.Need-report-after-requires
 report-after-requires c κs = (report-in _ (in-range (c .before)), c .if2 .left)
@@ -38,8 +37,7 @@ report-after-requires c κs = (report-in _ (in-range (c .before)), c .if2 .left)
 returns-3 : tie.Need-returns-3
 returns-3 c =
     let k = c .before .before in
-    let e = k .before in
-    counts-some _ _ _ _ _ (in-range (e .before)) _
+    counts-some _ _ _ _ _ (in-range (k .before .before)) _
     (λ z. (k .report-after .ensures (plain-in _ _ _ _ z), c .if3 .taken))
 
 accepts-requires : tie.Need-accepts-requires
