@@ -40,7 +40,7 @@ use Rattle.edges.proofs.Edges as D
 use Rattle.edges.proofs.Report as P
 use Rattle.edges.proofs.Report.Laws as P′
 use Rattle.station.specs.declared.Measured.{Measured}
-use Rattle.station.specs.Entries.{ranOf}
+use Rattle.station_entry.specs.code.Asking.{Counts}
 use Rattle.station_entry.specs.declared.Counted.{Counted}
 use Rattle.station_entry.proofs.Counted as R
 use Rattle.station_entry.proofs.Counted.Laws as R′
@@ -114,8 +114,7 @@ module _ {M : Type 1} {𝓤 : URA M} {H : Heap 𝓤} {A : Atoms 𝓤} {X : Type 
         → Opds X W (raw (G 𝓤 H A at-mem run .pre (to 𝓤 H A at-mem run κ₁ q₁ t l n α b o γ₁ h p)) ∷ Γ) E xs
         (G 𝓤 H A at-mem run .args (to 𝓤 H A at-mem run κ₁ q₁ t l n α b o γ₁ h p))
         → (m : ℕ) {j : ℕ} → nth 𝓤 H A m Γ ≡ room 𝓤 H E j → R.the-row .mir ≡ spotOf 𝓤 H E j .0 ∷ []
-        → ((r : Counted) → r .answer ≡ ranOf h p (t .now) l n .answer → r .report ≡ ranOf h p (t .now) l n .report
-        → Is R.the-row r (counted-vals r)
+        → ((r : Counted) → Counts h p (t .now) l n (r .answer) (r .report) → Is R.the-row r (counted-vals r)
         → Seq X W (‵ (fdead (α ∷ [])) ∷ ‵ (flft κ₁ q₁) ∷ put 𝓤 H A m (cell 𝓤 H E fullShare j (counted-val r)) Γ)
         (runs C Λ E rest post))
         → Seq X W (‵ (flft (α ∷ []) fullShare) ∷ ‵ (flft κ₁ q₁)
@@ -140,12 +139,11 @@ module _ {M : Type 1} {𝓤 : URA M} {H : Heap 𝓤} {A : Atoms 𝓤} {X : Type 
         split z $ move z (1 ∷ []) $
         use1 W (some (λ (ls : Last). ‵ (lasts g.ended (α ∷ [], (κ₁, tt))
         (args 𝓤 H A at-mem run κ₁ q₁ t l n α b o γ₁ h p) ls)
-        ⊛ raw (fact 𝓤 (r .answer ≡ ranOf h p (t .now) l n .answer))
-        ⊛ raw (fact 𝓤 (r .report ≡ ranOf h p (t .now) l n .report)))) (id⊢ 𝓤 _) $
-        pick z (λ ls. split z $ drop z $ split z $ heard z _ (λ ea. heard z _ (λ er.
+        ⊛ raw (fact 𝓤 (Counts h p (t .now) l n (r .answer) (r .report))))) (id⊢ 𝓤 _) $
+        pick z (λ ls. split z $ drop z $ heard z _ (λ counts.
         -- [the tokens and the result]
         split z $ split z $ lft-end z tt $ move z (2 ∷ []) $
         facts z R.the-row (Is R.the-row) (shows 𝓤 H A R.the-row) r (v ∷ []) (λ is.
         move z (1 ∷ []) $ split z $ move z (1 ∷ []) $ drop z $ move z (1 ∷ 0 ∷ []) $
         lands-struct z (suc (suc m)) R.the-type R′.the-laws r is at same $
-        k r ea er (subst (Is R.the-row r) (LL.tells R.the-type R′.the-laws r (v ∷ []) is) is)))))))
+        k r counts (subst (Is R.the-row r) (LL.tells R.the-type R′.the-laws r (v ∷ []) is) is))))))

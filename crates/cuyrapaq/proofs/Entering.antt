@@ -41,7 +41,7 @@ use Rattle.cuyrapaq.proofs.stations.StationRan as S
 use Rattle.cuyrapaq.proofs.stations.StationRan.Laws as S′
 use Rattle.cuyrapaq.proofs.stations.cq_station_run as g
 use Rattle.cuyrapaq.proofs.stations.cq_station_run.Symbol.{name as #cuyrapaq·stations·cq-station-run}
-use Rattle.cuyrapaq.proofs.Drifting.{drifts}
+use Rattle.cuyrapaq.proofs.Drifting.{drifts, Runs}
 use Rattle.cuyrapaq.proofs.Running.{slice-val, slice-tokens, heard-own, sent-own, words-own}
 use Rattle.cuyrapaq.proofs.Steps.{cell, room, lands-struct}
 
@@ -63,11 +63,6 @@ module _ (h : Measured) (t s w : RefT (List ℕ)) where
       × ((y ≡ drifts h (t .now) (s .now) (w .now) noEdge .station)
       × ((zs ≡ sentAfter h noEdge (t .now) (length (w .now)) (s .now))
       × (ws ≡ wordsAfter h noEdge (t .now) (length (s .now)) (w .now))))
-
-  pub record Told (r : StationRan) (y : Measured) (zs ws : List ℕ) : Type 0 where
-    pub says : Says r y zs ws
-    pub sent-long : length zs ≡ length (s .now)
-    pub words-long : length ws ≡ length (w .now)
 
 module _ {M : Type 1} (𝓤 : URA M) (H : Heap 𝓤) (A : Atoms 𝓤) (at-mem : Memory → SProp 𝓤) (run : Routine → Fun 𝓤) where
   -- the contract of the entry
@@ -109,7 +104,8 @@ module _ {M : Type 1} {𝓤 : URA M} {H : Heap 𝓤} {A : Atoms 𝓤} {X : Type 
       → Opds X W (raw (G 𝓤 H A at-mem run .pre (to 𝓤 H A at-mem run κ κ₁ κ₂ κ₃ q q₁ q₂ q₃ b o γ h t s w)) ∷ Γ) E xs
       (G 𝓤 H A at-mem run .args (to 𝓤 H A at-mem run κ κ₁ κ₂ κ₃ q q₁ q₂ q₃ b o γ h t s w))
       → (n : ℕ) {j : ℕ} → nth 𝓤 H A n Γ ≡ room 𝓤 H E j → S.the-row .mir ≡ spotOf 𝓤 H E j .0 ∷ []
-      → ((r : StationRan) (y : Measured) (zs ws : List ℕ) → Told h t s w r y zs ws → Is S.the-row r (host-vals r)
+      → ((r : StationRan) (y : Measured) (zs ws : List ℕ) → Runs h (t .now) (s .now) (w .now) noEdge r y zs ws
+      → Is S.the-row r (host-vals r)
       → Seq X W (‵ (flft κ q) ∷ slice-tokens 𝓤 κ₁ κ₂ κ₃ q₁ q₂ q₃ ∷ ‵ (fres γ (T.the-row .coded .code y))
       ∷ ‵ (finally u8 (s .name) zs) ∷ ‵ (finally u32 (w .name) ws)
       ∷ put 𝓤 H A n (cell 𝓤 H E fullShare j (host-val r)) Γ) (runs C Λ E rest post))
@@ -143,5 +139,12 @@ module _ {M : Type 1} {𝓤 : URA M} {H : Heap 𝓤} {A : Atoms 𝓤} {X : Type 
       -- [the token; the slices' tokens; the last words; true; the last sent; the last station]
       move z (3 ∷ []) $ drop z $ move z (0 ∷ 1 ∷ 4 ∷ 3 ∷ 2 ∷ []) $
       lands-struct z (suc (suc (suc (suc (suc n))))) S.the-type S′.the-laws r is at same $
-      k r (ls .0) (ls .1 .1 .0) (ls .1 .1 .1 .0) (record { says = e; sent-long = lt; words-long = lw })
+      k r (ls .0) (ls .1 .1 .0) (ls .1 .1 .1 .0) (record {
+        result = e .0;
+        station = e .1 .0;
+        sent-is = e .1 .1 .0;
+        words-are = e .1 .1 .1;
+        sent-long = lt;
+        words-long = lw;
+      })
       (subst (Is S.the-row r) (LL.tells S.the-type S′.the-laws r (v ∷ []) is) is))))))))

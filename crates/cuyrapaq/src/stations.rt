@@ -82,7 +82,7 @@ pub extern "C" fn cq_station_run(
     }
 }
 
-// The same with a report that the host lends: the edges that count in the run are added to it.
+// The same with a report that the host lends: the edges that count in the run are added to it, if it succeeds.
 #[no_mangle]
 pub extern "C" fn cq_station_run_drift(
     station: &mut Measured,
@@ -110,12 +110,16 @@ pub extern "C" fn cq_station_run_drift(
     let w = station.edges;
     let r = *report;
     let counted = station_entry::count(c, w, &station.chars, r, heard, sent.len(), words.len());
-    *report = counted.report;
     if counted.answer != 0 {
         return StationRan {
             answer: counted.answer,
             words: 0,
         };
     }
-    cq_station_run(station, heard, sent, words)
+    let ran = cq_station_run(station, heard, sent, words);
+    if ran.answer != 0 {
+        return ran;
+    }
+    *report = counted.report;
+    ran
 }

@@ -81,7 +81,7 @@ fn step(mode: Mode, c: Core, w: Edges, r: Report, front: Char, heard: u8) -> Cou
 }
 
 // Does a core hear every ms to come? It is in no burst, none waits, and no inhibited ms is to come.
-fn only_hears(c: Core) -> bool
+pub fn only_hears(c: Core) -> bool
     ensures { λ r. ⌜ ((chars : List ℕ) → r ≡ true → Listens (station c chars)) ⌝ }
 {
     let line = c.line;

@@ -4,9 +4,10 @@ use edges::Edges;
 use edges::Report;
 use half_duplex::Core;
 ghost use mathlib.Core.Path.{_≡_};
-ghost use mathlib.Core.Bool.{true};
+ghost use mathlib.Core.Bool.{true, _&&_};
 ghost use mathlib.Core.List.{List};
 ghost use Prim.Native.Nat.{ℕ, _≤_};
+ghost use lib.Dec.{leb};
 ghost use lib.ListN.{length};
 ghost use Rattle.lists.specs.Lists.{allAtMost};
 ghost use Rattle.alphabet.specs.Modes.{highestLevel};
@@ -14,10 +15,11 @@ ghost use Rattle.edges.specs.Edges.{noEdge};
 ghost use Rattle.edges.specs.code.Bounds.{ReportOf};
 ghost use Rattle.half_duplex.specs.Core.{modeIn};
 ghost use Rattle.station.specs.Station.{station, stationAfter};
-ghost use Rattle.station.specs.Measured.{measured, measuredAfter};
+ghost use Rattle.station.specs.Measured.{measured, measuredAfter, reportAfter};
 ghost use Rattle.station.specs.Range.{measuredIn};
+ghost use Rattle.station.specs.Listening.{Listens};
 ghost use Rattle.station.specs.Entries.{ranOf, sentAfter, wordsAfter};
-ghost use Rattle.station_entry.specs.code.Asking.{Yes, No};
+ghost use Rattle.station_entry.specs.code.Asking.{Yes, No, allIn, Counts};
 
 // A core and its edges after a run, 0 or the number of the refusal, and how many words were written.
 pub struct Ran {
@@ -159,13 +161,84 @@ pub fn run(
     }
 }
 
-// The answer to a run with a report, 0 or the number of the refusal, and the report after it.
+// Questions 1 and 6: are the station's numbers in range, and is every heard ms a value of its mode?
+fn all_in_range(c: Core, w: Edges, chars: &[u8; 256], heard: &[u8]) -> bool
+    ensures { λ a. ⌜ a ≡ allIn (measured (station c (now (chars .entry))) w) (now (heard .entry)) ⌝ }
+{
+    if !station::in_range(c, w, chars) {
+        return false;
+    }
+    let mode = Mode::of(c.mode);
+    lists::checks::all_at_most(heard, mode.highest_level())
+}
+
+// The report after a run of a station that only listens.
+fn report_heard(c: Core, w: Edges, r: Report, heard: &[u8]) -> Report
+    requires { ⌜ ((chars : List ℕ) → Listens (station c chars)) ⌝ }
+    requires { ⌜ ReportOf 65_536 r ⌝ }
+    requires { ⌜ length (now heard) ≤ 4_096 ⌝ }
+    ensures { λ q. ⌜ ((chars : List ℕ) → measuredIn (measured (station c chars) w) ≡ true
+        → q ≡ reportAfter (measured (station c chars) w) r (now (heard .entry))) ⌝ }
+{
+    let mode = Mode::of(c.mode);
+    let reader = c.reader;
+    let f = reader.frame;
+    if !frames::in_range(mode, f) {
+        return r;
+    }
+    if !edges::in_range(mode, f, w) {
+        return r;
+    }
+    edges_runs::measure(mode, f, w, r, heard)
+}
+
+// The same of any station.
+fn report_run(c: Core, w: Edges, chars: &[u8; 256], r: Report, heard: &[u8]) -> Report
+    requires { ⌜ ReportOf 65_536 r ⌝ }
+    requires { ⌜ length (now heard) ≤ 4_096 ⌝ }
+    ensures { λ q. ⌜ (allIn (measured (station c (now (chars .entry))) w) (now (heard .entry)) ≡ true
+        → q ≡ reportAfter (measured (station c (now (chars .entry))) w) r (now (heard .entry))) ⌝ }
+{
+    if !all_in_range(c, w, chars, heard) {
+        return r;
+    }
+    drift::report_after(c, w, chars, r, heard)
+}
+
+// The report after a run that succeeds. The questions that it takes are asked only where not all is heard.
+fn report_after(c: Core, w: Edges, chars: &[u8; 256], r: Report, heard: &[u8]) -> Report
+    requires { ⌜ ReportOf 65_536 r ⌝ }
+    requires { ⌜ length (now heard) ≤ 4_096 ⌝ }
+    ensures { λ q. ⌜ (allIn (measured (station c (now (chars .entry))) w) (now (heard .entry)) ≡ true
+        → q ≡ reportAfter (measured (station c (now (chars .entry))) w) r (now (heard .entry))) ⌝ }
+{
+    if drift::only_hears(c) {
+        return report_heard(c, w, r, heard);
+    }
+    report_run(c, w, chars, r, heard)
+}
+
+// Questions 1, 6, 7 and 8, of a run that is short enough.
+fn accepts(c: Core, w: Edges, chars: &[u8; 256], heard: &[u8], sent: usize, words: usize) -> bool
+    ensures { λ a. ⌜ a ≡ (allIn (measured (station c (now (chars .entry))) w) (now (heard .entry))
+        && (leb (length (now (heard .entry))) sent && leb (length (now (heard .entry))) words)) ⌝ }
+{
+    if !all_in_range(c, w, chars, heard) {
+        return false;
+    }
+    if sent < heard.len() {
+        return false;
+    }
+    heard.len() <= words
+}
+
+// 0 or a refusal of the report's own, 1 or 18; and the report after the run, if that succeeds.
 pub struct Counted {
     pub answer: u8,
     pub report: Report,
 }
 
-// They are told before anything is written, with slices of such lengths.
+// They are told before anything is written, with slices of such lengths. What the run itself refuses is left to it.
 pub fn count(
     c: Core,
     w: Edges,
@@ -175,10 +248,8 @@ pub fn count(
     sent: usize,
     words: usize,
 ) -> Counted
-    ensures { λ x. ⌜ x .answer ≡ ranOf (measured (station c (now (chars .entry))) w) r (now (heard .entry)) sent
-        words .answer ⌝ }
-    ensures { λ x. ⌜ x .report ≡ ranOf (measured (station c (now (chars .entry))) w) r (now (heard .entry)) sent
-        words .report ⌝ }
+    ensures { λ x. ⌜ Counts (measured (station c (now (chars .entry))) w) r (now (heard .entry)) sent words
+        (x .answer) (x .report) ⌝ }
 {
     if !edges::report_in_range(r) {
         return Counted {
@@ -186,19 +257,25 @@ pub fn count(
             report: r,
         };
     }
-    let a = ask(c, w, chars, heard, sent, words);
-    if a.answer != 0 {
+    let ms = heard.len();
+    if lists::checks::MOST_MS < ms {
         return Counted {
-            answer: a.answer,
+            answer: 0,
             report: r,
         };
     }
-    let report = drift::report_after(c, w, chars, r, heard);
-    if edges::MOST < report.edges {
+    let report = report_after(c, w, chars, r, heard);
+    if report.edges <= edges::MOST {
+        return Counted { answer: 0, report };
+    }
+    if !accepts(c, w, chars, heard, sent, words) {
         return Counted {
-            answer: 18,
+            answer: 0,
             report: r,
         };
     }
-    Counted { answer: 0, report }
+    Counted {
+        answer: 18,
+        report: r,
+    }
 }

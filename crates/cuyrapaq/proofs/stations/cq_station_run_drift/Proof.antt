@@ -1,6 +1,6 @@
 -- `cq_station_run_drift` meets its contract: a walk of its MIR, by hand. The core and the edges of the station that the
--- host lends are loaded, and the report; the characters are lent to `count`, to be read; the report that it gives is
--- stored; and unless it refuses, all else is handed on to `cq_station_run`.
+-- host lends are loaded, and the report; the characters are lent to `count`, to be read; unless it refuses, all but the
+-- report is handed on to `cq_station_run`; and unless that refuses, the report that `count` gives is stored.
 use mathlib.Core.Path.{_≡_, refl, subst}
 use mathlib.Core.Bool.{Bool, true, false, not}
 use Prim.Native.Nat.{ℕ, _+_}
@@ -20,7 +20,7 @@ use ghost.Atoms.{Atoms}
 use contract.Monad.{Fun}
 use contract.Running.{givenOf, tables, tablesOf}
 use types.Kit.{Given, Item, ‵, _⊛_, ⋆, mean, _$_, _∵_, !, qed, by, move, keep, drop, use1, split, join, fsplit, fsplit3, fjoin, fjoin3, feqI, suffices, frame, done}
-use types.Run.{look, look-raw, load, of-opd, store-raw, addr, fld, bin, init, stop, hop, from, and-then, no-more, assigns, returns, returns-within, enter, alloc1, alloc0, params1, pass1, pass0, free0}
+use types.Run.{look, look-raw, load, of-opd, store, store-raw, addr, fld, bin, init, stop, hop, from, and-then, no-more, assigns, returns, returns-within, enter, alloc1, alloc0, params1, pass1, pass0, free0}
 use types.Tokens.{lft-new}
 use types.SemTy.{Body}
 use types.Part.{agg, whole, sub, look-in}
@@ -62,7 +62,7 @@ use Rattle.cuyrapaq.proofs.Inner.{loads-field, opens-struct, shuts-stru
 use Rattle.cuyrapaq.proofs.Lent.{core-val, edges-val, past, past-core, reads-on, read-back, points-chars}
 use Rattle.cuyrapaq.proofs.Operands.{reads}
 use Rattle.cuyrapaq.proofs.Running.{slice-val, slice-tokens, heard-own}
-use Rattle.cuyrapaq.proofs.Drifting.{Drifts, drifts-none, drifts-some}
+use Rattle.cuyrapaq.proofs.Drifting.{Drifts, drifts-none, drifts-refused, drifts-some}
 use Rattle.cuyrapaq.proofs.Counting as N
 use Rattle.cuyrapaq.proofs.Counting.{report-val, counted-val, calls-count}
 use Rattle.cuyrapaq.proofs.Entering as G
@@ -114,19 +114,23 @@ module _ {M : Type 1} (𝓤 : URA M) (H : Heap 𝓤) (A : Atoms 𝓤) (W : Given
   abbrev at : List Val × (List Val × (List Val × (List Val × (List Val × Unit {0}))))
   at = (vptr b o ∷ [], (slice-val t ∷ [], (slice-val s ∷ [], (slice-val w ∷ [], (vptr b₄ o₄ ∷ [], tt)))))
 
-  -- what the locals hold, v being what `count` gives; before it is called, and after it has given r
-  abbrev locals : Val → List Val
-  locals v =
+  -- what the locals hold, v being what `count` gives and u what the run does; before `count` is called, after it has
+  -- given c, and after the run has given r
+  abbrev locals : Val → Val → List Val
+  locals v u =
       vunit ∷ vptr b o ∷ slice-val t ∷ slice-val s ∷ slice-val w ∷ vptr b₄ o₄ ∷ core-val (h .core)
-      ∷ edges-val (h .edges) ∷ report-val p ∷ v ∷ vptr b (o + past) ∷ vint w64 (length (s .now))
+      ∷ edges-val (h .edges) ∷ report-val p ∷ v ∷ u ∷ vptr b (o + past) ∷ vint w64 (length (s .now))
       ∷ vint w64 (length (w .now)) ∷ vunit ∷ vptr b o ∷ vptr (s .ptr .0) (s .ptr .1) ∷ slice-val s
       ∷ vptr (w .ptr .0) (w .ptr .1) ∷ slice-val w ∷ []
 
   abbrev before : List Val
-  before = locals vunit
+  before = locals vunit vunit
 
   abbrev after : Counted → List Val
-  after r = locals (counted-val r)
+  after c = locals (counted-val c) vunit
+
+  abbrev ended : Counted → StationRan → List Val
+  ended c r = locals (counted-val c) (host-val r)
 
   abbrev Post : Val → SProp 𝓤
   Post = walkOf 𝓤 H A f.ended stayed (f.clauses 𝓤 H A at-mem run) .post
@@ -180,8 +184,8 @@ module _ {M : Type 1} (𝓤 : URA M) (H : Heap 𝓤) (A : Atoms 𝓤) (W : Given
       suffices ! _ (ends-at 𝓤 H A f.ended stayed (f.clauses 𝓤 H A at-mem run) W
       (((κ, (κ₁, (κ₂, (κ₃, (κ₄, tt))))), (q, (q₁, (q₂, (q₃, (q₄, tt))))), tt, x, at), tt)
       (host-val r) r (y, (tt, (zs, (ws, (p′, tt)))))
-      (tt, (tt, (told .sent-long, (told .words-long, (tt, tt)))))) $
-      says ! (told .result, (told .station, (told .report, (told .sent-is, told .words-are)))) $
+      (tt, (tt, (told .runs .sent-long, (told .runs .words-long, (tt, tt)))))) $
+      says ! (told .runs .result, (told .runs .station, (told .report, (told .runs .sent-is, told .runs .words-are)))) $
       move ! (2 ∷ []) $ split ! $ move ! (1 ∷ []) $ split ! $ move ! (1 ∷ []) $ split ! $
       -- [the third slice's token; true; the second's; the first's; res; the token; the report's token; …]
       move ! (6 ∷ 1 ∷ []) $ join ! $ move ! (1 ∷ 0 ∷ []) $ join ! $ move ! (1 ∷ 0 ∷ []) $ join ! $
@@ -220,101 +224,129 @@ module _ {M : Type 1} (𝓤 : URA M) (H : Heap 𝓤) (A : Atoms 𝓤) (W : Given
         alloc1 ! (λ l₀. alloc1 ! (λ l₁. alloc1 ! (λ l₂. alloc1 ! (λ l₃. alloc1 ! (λ l₄. alloc1 ! (λ l₅. alloc1 ! (λ l₆.
         alloc1 ! (λ l₇. alloc1 ! (λ l₈. alloc1 ! (λ l₉. alloc1 ! (λ l₁₀. alloc1 ! (λ l₁₁. alloc1 ! (λ l₁₂.
         alloc1 ! (λ l₁₃. alloc1 ! (λ l₁₄. alloc1 ! (λ l₁₅. alloc1 ! (λ l₁₆. alloc1 ! (λ l₁₇. alloc1 ! (λ l₁₈.
-        alloc0 ! $ params1 ! $ pass1 ! (init ! 34 refl (tt, tt)) $
-        pass1 ! (init ! 32 refl (shr-slice-lawful 𝓤 H A W (named 1) κ₁ u8 .typed t _ gt .0)) $
-        pass1 ! (init ! 30 refl (mut-slice-lawful 𝓤 H A W (named 2) κ₂ u8 .typed s _ gs .0)) $
-        pass1 ! (init ! 28 refl (mut-slice-lawful 𝓤 H A W (named 3) κ₃ u32 .typed w _ gw .0)) $
-        pass1 ! (init ! 26 refl (tt, tt)) $ pass0 ! $
+        alloc1 ! (λ l₁₉. alloc0 ! $ params1 ! $ pass1 ! (init ! 36 refl (tt, tt)) $
+        pass1 ! (init ! 34 refl (shr-slice-lawful 𝓤 H A W (named 1) κ₁ u8 .typed t _ gt .0)) $
+        pass1 ! (init ! 32 refl (mut-slice-lawful 𝓤 H A W (named 2) κ₂ u8 .typed s _ gs .0)) $
+        pass1 ! (init ! 30 refl (mut-slice-lawful 𝓤 H A W (named 3) κ₃ u32 .typed w _ gw .0)) $
+        pass1 ! (init ! 28 refl (tt, tt)) $ pass0 ! $
         -- the report is opened, and the station, and its characters are lent to be read
-        move ! (38 ∷ 39 ∷ 40 ∷ []) $ opens-struct P.the-type P′.the-laws ! tt b₄ o₄ p (λ had.
-        lft-new ! tt (λ α. move ! (46 ∷ 47 ∷ 48 ∷ []) $ reads-on ! tt (named 0) (α ∷ []) b o h (λ γ₁ was waited.
+        move ! (40 ∷ 41 ∷ 42 ∷ []) $ opens-struct P.the-type P′.the-laws ! tt b₄ o₄ p (λ had.
+        lft-new ! tt (λ α. move ! (48 ∷ 49 ∷ 50 ∷ []) $ reads-on ! tt (named 0) (α ∷ []) b o h (λ γ₁ was waited.
         -- [the core's cell; the edges'; what each owns; the reference to the characters; what is kept; their token; the
-        -- report's cell; what it owns; its open borrow; its obs; its auth; room for _18; …; and so on; room for _0; …;
+        -- report's cell; what it owns; its open borrow; its obs; its auth; room for _19; …; and so on; room for _0; …;
         -- the tokens of sent and words; that of heard; true; what words owns; …]
-        loads-field ! 46 0 36 0 K.the-type K′.the-laws (h .core) was refl refl refl refl refl $
-        loads-field ! 46 1 34 past-core D.the-type D′.the-laws (h .edges) waited refl refl refl refl refl $
-        assigns ! (of-opd ! (load ! (from ! (hop ! (look ! 38 refl) (stop !))) (look-raw ! 7 refl))) (from ! (stop !))
-        (init ! 32 refl (LL.lawful P.the-type P′.the-laws 𝓤 H A W .typed p _ had .0)) $
-        points-chars ! 46 28 refl refl refl (tt, tt) $
-        assigns ! (of-opd ! (reads ! 48 before {v = vint w64 (length (s .now))} refl tt refl)) (from ! (stop !))
+        loads-field ! 48 0 38 0 K.the-type K′.the-laws (h .core) was refl refl refl refl refl $
+        loads-field ! 48 1 36 past-core D.the-type D′.the-laws (h .edges) waited refl refl refl refl refl $
+        assigns ! (of-opd ! (load ! (from ! (hop ! (look ! 40 refl) (stop !))) (look-raw ! 7 refl))) (from ! (stop !))
+        (init ! 34 refl (LL.lawful P.the-type P′.the-laws 𝓤 H A W .typed p _ had .0)) $
+        points-chars ! 48 28 refl refl refl (tt, tt) $
+        assigns ! (of-opd ! (reads ! 50 before {v = vint w64 (length (s .now))} refl tt refl)) (from ! (stop !))
         (init ! 26 refl (tt, record { fits = gs .0 .1 .0 })) $
-        assigns ! (of-opd ! (reads ! 48 before {v = vint w64 (length (w .now))} refl tt refl)) (from ! (stop !))
+        assigns ! (of-opd ! (reads ! 50 before {v = vint w64 (length (w .now))} refl tt refl)) (from ! (stop !))
         (init ! 24 refl (tt, record { fits = gw .0 .1 .0 })) $
         -- the run is counted
-        move ! (6 ∷ 51 ∷ 2 ∷ 3 ∷ 4 ∷ 8 ∷ 55 ∷ []) $
+        move ! (6 ∷ 53 ∷ 2 ∷ 3 ∷ 4 ∷ 8 ∷ 57 ∷ []) $
         calls-count at-mem run κ₁ q₁ t (length (s .now)) (length (w .now)) α b o γ₁ h p ! fm counts (gs .0 .1 .0)
         (gw .0 .1 .0)
-        (and-then ! (reads ! 44 before refl tt refl) (and-then ! (reads ! 44 before refl tt refl)
-        (and-then ! (reads ! 44 before refl tt refl) (and-then ! (reads ! 44 before refl tt refl)
-        (and-then ! (reads ! 44 before refl tt refl) (and-then ! (reads ! 44 before refl tt refl)
-        (and-then ! (reads ! 44 before refl tt refl) (no-more !))))))))
-        25 refl refl (λ c ea er is.
+        (and-then ! (reads ! 46 before refl tt refl) (and-then ! (reads ! 46 before refl tt refl)
+        (and-then ! (reads ! 46 before refl tt refl) (and-then ! (reads ! 46 before refl tt refl)
+        (and-then ! (reads ! 46 before refl tt refl) (and-then ! (reads ! 46 before refl tt refl)
+        (and-then ! (reads ! 46 before refl tt refl) (no-more !))))))))
+        27 refl refl (λ c counted is.
         let parts = LL.owed R.the-type R′.the-laws c _ is in
         -- [the end of their lifetime; heard's token; the core's cell; the edges'; what is kept; the report's cell; its
-        -- open borrow; its obs; its auth; room for _18; …]
-        -- the report is stored and shut, and the station is shut as it was
-        assigns ! (of-opd ! (reads ! 45 (after c) {v = report-val (c .report)} refl tt refl))
-        (from ! (hop ! (look ! 35 refl) (stop !)))
-        (store-raw ! 5 refl (LL.lawful P.the-type P′.the-laws 𝓤 H A W .typed (c .report) _ (parts .1 .0) .0)) $
-        assigns ! (bin ! (reads ! 45 (after c) {v = vint w8 (c .answer)} refl tt refl)
-        (reads ! 45 (after c) {v = vint w8 0} refl tt refl) tt) (from ! (stop !))
+        -- open borrow; its obs; its auth; room for _19; …]
+        -- the station is shut as it was
+        assigns ! (bin ! (reads ! 47 (after c) {v = vint w8 (c .answer)} refl tt refl)
+        (reads ! 47 (after c) {v = vint w8 0} refl tt refl) tt) (from ! (stop !))
         (init ! 19 refl (tt, tt)) $
-        move ! (0 ∷ 2 ∷ 3 ∷ 4 ∷ []) $ read-back ! tt b o h was waited $
-        move ! (4 ∷ 5 ∷ 6 ∷ 7 ∷ []) $
-        shuts-struct P.the-type P′.the-laws ! tt P′.the-plain b₄ o₄ (c .report) (parts .1 .0) $
-        move ! (6 ∷ 45 ∷ []) $ join ! $
-        -- [the slices' tokens; the report's obs; its borrow; its token; obs; the borrow; the token; room for _18; …;
-        -- true; what words owns; what sent owns; what heard owns, twice]
-        leaves-if ! {y = not (eqb (c .answer) 0)} (load ! (from ! (stop !)) (look ! 17 refl))
-        -- a refusal
+        move ! (0 ∷ 2 ∷ 3 ∷ 4 ∷ []) $ read-back ! tt b o h was waited $ move ! (3 ∷ 48 ∷ []) $ join ! $
+        -- [the slices' tokens; obs; the borrow; the token; the report's cell; its open borrow; its obs; its auth; room
+        -- for _19; …; true; what words owns; what sent owns; what heard owns, twice]
+        leaves-if ! {y = not (eqb (c .answer) 0)} (load ! (from ! (stop !)) (look ! 18 refl))
+        -- a refusal of the report's own: it is shut as it was
         (λ refuses.
-        assigns ! (agg ! (and-then ! (reads ! 43 (after c) {v = vint w8 (c .answer)} refl tt refl)
-        (and-then ! (reads ! 43 (after c) {v = vint w64 0} refl tt refl) (no-more !)))) (from ! (stop !))
-        (init ! 43 refl (tt, (record { fits = parts .0 .1 }, (record { fits = lit< tt }, tt)))) $
-        returns-within ! Post refl (look ! 43 refl) $
-        frees-at ! 43 refl refl $ frees-at ! 41 refl refl $ frees-at ! 39 refl refl $ frees-at ! 37 refl refl $
-        frees-at ! 35 refl refl $ frees-at ! 33 refl refl $ frees-at ! 31 refl refl $ frees-at ! 29 refl refl $
-        frees-at ! 27 refl refl $ frees-at ! 25 refl refl $ frees-at ! 23 refl refl $ frees-at ! 21 refl refl $
-        frees-at ! 19 refl refl $ frees-at ! 17 refl refl $ frees-room ! 15 refl refl $ frees-room ! 13 refl refl $
-        frees-room ! 11 refl refl $ frees-room ! 9 refl refl $ frees-room ! 7 refl refl $ free0 ! $
+        move ! (4 ∷ 5 ∷ 6 ∷ 7 ∷ []) $ shuts-struct P.the-type P′.the-laws ! tt P′.the-plain b₄ o₄ p had $
+        move ! (3 ∷ []) $
+        -- [the slices' tokens; the report's obs; its borrow; its token; obs; the borrow; the token; room for _19; …]
+        assigns ! (agg ! (and-then ! (reads ! 45 (after c) {v = vint w8 (c .answer)} refl tt refl)
+        (and-then ! (reads ! 45 (after c) {v = vint w64 0} refl tt refl) (no-more !)))) (from ! (stop !))
+        (init ! 45 refl (tt, (record { fits = parts .0 .1 }, (record { fits = lit< tt }, tt)))) $
+        returns-within ! Post refl (look ! 45 refl) $
+        frees-at ! 45 refl refl $ frees-at ! 43 refl refl $ frees-at ! 41 refl refl $ frees-at ! 39 refl refl $
+        frees-at ! 37 refl refl $ frees-at ! 35 refl refl $ frees-at ! 33 refl refl $ frees-at ! 31 refl refl $
+        frees-at ! 29 refl refl $ frees-at ! 27 refl refl $ frees-room ! 25 refl refl $ frees-at ! 23 refl refl $
+        frees-at ! 21 refl refl $ frees-at ! 19 refl refl $ frees-at ! 17 refl refl $ frees-room ! 15 refl refl $
+        frees-room ! 13 refl refl $ frees-room ! 11 refl refl $ frees-room ! 9 refl refl $ frees-room ! 7 refl refl $
+        free0 ! $
         move ! (4 ∷ []) $
         use1 W (‵ (fres γ (T.the-row .coded .code h))) (W .names .obs-res γ (T.the-row .coded .code h)) $
         move ! (8 ∷ []) $ use1 W (‵ (finally u32 (w .name) (w .now))) words-stay $
         move ! (9 ∷ []) $ use1 W (‵ (finally u8 (s .name) (s .now))) sent-stays $
         keep ! (2 ∷ 8 ∷ 3 ∷ 6 ∷ 1 ∷ 0 ∷ 10 ∷ 4 ∷ 5 ∷ []) $
-        by ! (exits (record { answer = c .answer; words = 0 }) h (c .report) (s .now) (w .now)
-        (drifts-none h (t .now) (s .now) (w .now) p (c .answer) (c .report) ea er (answers-no (c .answer) refuses))
+        by ! (exits (record { answer = c .answer; words = 0 }) h p (s .now) (w .now)
+        (drifts-none h (t .now) (s .now) (w .now) p (c .answer) (c .report) counted (answers-no (c .answer) refuses))
         (LL.owes S.the-type S′.the-laws (record { answer = c .answer; words = 0 }) (parts .0, ((refl, lit< tt), tt)))))
-        -- a run
-        (λ succeeds.
-        assigns ! (addr ! (from ! (hop ! (look ! 41 refl) (stop !)))) (from ! (stop !)) (init ! 15 refl (tt, tt)) $
-        assigns ! (addr ! (from ! (fld ! refl (hop ! (look-in ! 37 (sub ! 0 refl (whole !))) (stop !)))))
-        (from ! (stop !)) (init ! 13 refl (tt, tt)) $
-        assigns ! (agg ! (and-then ! (reads ! 43 (after c) refl tt refl)
-        (and-then ! (reads ! 43 (after c) refl tt refl) (no-more !))))
-        (from ! (stop !)) (init ! 11 refl (tt, (tt, (record { fits = gs .0 .1 .0 }, tt)))) $
-        assigns ! (addr ! (from ! (fld ! refl (hop ! (look-in ! 35 (sub ! 0 refl (whole !))) (stop !)))))
-        (from ! (stop !)) (init ! 9 refl (tt, tt)) $
-        assigns ! (agg ! (and-then ! (reads ! 43 (after c) refl tt refl)
-        (and-then ! (reads ! 43 (after c) refl tt refl) (no-more !))))
-        (from ! (stop !)) (init ! 7 refl (tt, (tt, (record { fits = gw .0 .1 .0 }, tt)))) $
-        move ! (6 ∷ 0 ∷ 4 ∷ 5 ∷ 48 ∷ 47 ∷ 46 ∷ []) $
+        -- none: the run
+        (λ goes-on.
+        assigns ! (addr ! (from ! (hop ! (look ! 44 refl) (stop !)))) (from ! (stop !)) (init ! 16 refl (tt, tt)) $
+        assigns ! (addr ! (from ! (fld ! refl (hop ! (look-in ! 40 (sub ! 0 refl (whole !))) (stop !)))))
+        (from ! (stop !)) (init ! 14 refl (tt, tt)) $
+        assigns ! (agg ! (and-then ! (reads ! 46 (after c) refl tt refl)
+        (and-then ! (reads ! 46 (after c) refl tt refl) (no-more !))))
+        (from ! (stop !)) (init ! 12 refl (tt, (tt, (record { fits = gs .0 .1 .0 }, tt)))) $
+        assigns ! (addr ! (from ! (fld ! refl (hop ! (look-in ! 38 (sub ! 0 refl (whole !))) (stop !)))))
+        (from ! (stop !)) (init ! 10 refl (tt, tt)) $
+        assigns ! (agg ! (and-then ! (reads ! 46 (after c) refl tt refl)
+        (and-then ! (reads ! 46 (after c) refl tt refl) (no-more !))))
+        (from ! (stop !)) (init ! 8 refl (tt, (tt, (record { fits = gw .0 .1 .0 }, tt)))) $
+        move ! (3 ∷ 0 ∷ 1 ∷ 2 ∷ 51 ∷ 50 ∷ 49 ∷ []) $
         calls-entry at-mem run κ κ₁ κ₂ κ₃ q q₁ q₂ q₃ b o γ h t s w ! fm known
-        (and-then ! (reads ! 40 (after c) refl tt refl) (and-then ! (reads ! 40 (after c) refl tt refl)
-        (and-then ! (reads ! 40 (after c) refl tt refl) (and-then ! (reads ! 40 (after c) refl tt refl) (no-more !)))))
-        39 refl refl (λ r y zs ws told made.
-        -- [the token; the slices' tokens; the last station; the last sent; the last words; the report's obs; its
-        -- borrow; its token; _18; …; _0; …; true; heard]
-        returns ! (look ! 44 refl) $
-        frees-at ! 44 refl refl $ frees-at ! 42 refl refl $ frees-at ! 40 refl refl $ frees-at ! 38 refl refl $
-        frees-at ! 36 refl refl $ frees-at ! 34 refl refl $ frees-at ! 32 refl refl $ frees-at ! 30 refl refl $
-        frees-at ! 28 refl refl $ frees-at ! 26 refl refl $ frees-at ! 24 refl refl $ frees-at ! 22 refl refl $
-        frees-at ! 20 refl refl $ frees-at ! 18 refl refl $ frees-at ! 16 refl refl $ frees-at ! 14 refl refl $
-        frees-at ! 12 refl refl $ frees-at ! 10 refl refl $ frees-at ! 8 refl refl $ free0 ! $
-        keep ! (2 ∷ 0 ∷ 1 ∷ 7 ∷ 4 ∷ 3 ∷ 9 ∷ 5 ∷ 6 ∷ []) $
-        by ! (exits r y (c .report) zs ws (drifts-some h (t .now) (s .now) (w .now) p (c .answer) (c .report) ea er
-        (answers-yes (c .answer) succeeds) r y zs ws (told .says .0) (told .says .1 .0) (told .says .1 .1 .0)
-        (told .says .1 .1 .1) (told .sent-long) (told .words-long)) made))))))))))))))))))))))))))
+        (and-then ! (reads ! 43 (after c) refl tt refl) (and-then ! (reads ! 43 (after c) refl tt refl)
+        (and-then ! (reads ! 43 (after c) refl tt refl) (and-then ! (reads ! 43 (after c) refl tt refl) (no-more !)))))
+        22 refl refl (λ r y zs ws told made.
+        let typed = LL.lawful S.the-type S′.the-laws 𝓤 H A W .typed r _ made .0 in
+        let left = answers-yes (c .answer) goes-on in
+        -- [the token; the slices' tokens; the last station; the last sent; the last words; the report's cell; its open
+        -- borrow; its obs; its auth; _19; …; _0; …; true; heard]
+        assigns ! (bin ! (reads ! 47 (ended c r) {v = vint w8 (r .answer)} refl tt refl)
+        (reads ! 47 (ended c r) {v = vint w8 0} refl tt refl) tt) (from ! (stop !))
+        (store ! 19 refl (tt, tt)) $
+        leaves-if ! {y = not (eqb (r .answer) 0)} (load ! (from ! (stop !)) (look ! 19 refl))
+        -- it is refused: the report is shut as it was
+        (λ refuses.
+        move ! (5 ∷ 6 ∷ 7 ∷ 8 ∷ []) $ shuts-struct P.the-type P′.the-laws ! tt P′.the-plain b₄ o₄ p had $
+        -- [the report's obs; its borrow; its token; the token; the slices' tokens; the last station; the last sent; the
+        -- last words; _19; …]
+        assigns ! (of-opd ! (reads ! 46 (ended c r) {v = host-val r} refl tt refl)) (from ! (stop !))
+        (init ! 46 refl typed) $
+        returns-within ! Post refl (look ! 46 refl) $
+        frees-at ! 46 refl refl $ frees-at ! 44 refl refl $ frees-at ! 42 refl refl $ frees-at ! 40 refl refl $
+        frees-at ! 38 refl refl $ frees-at ! 36 refl refl $ frees-at ! 34 refl refl $ frees-at ! 32 refl refl $
+        frees-at ! 30 refl refl $ frees-at ! 28 refl refl $ frees-at ! 26 refl refl $ frees-at ! 24 refl refl $
+        frees-at ! 22 refl refl $ frees-at ! 20 refl refl $ frees-at ! 18 refl refl $ frees-at ! 16 refl refl $
+        frees-at ! 14 refl refl $ frees-at ! 12 refl refl $ frees-at ! 10 refl refl $ frees-at ! 8 refl refl $ free0 ! $
+        keep ! (5 ∷ 3 ∷ 4 ∷ 2 ∷ 7 ∷ 6 ∷ 9 ∷ 0 ∷ 1 ∷ []) $
+        by ! (exits r y p zs ws (drifts-refused h (t .now) (s .now) (w .now) p (c .answer) (c .report) counted left told
+        (answers-no (r .answer) refuses)) made))
+        -- it succeeds: the report is stored
+        (λ succeeds.
+        assigns ! (of-opd ! (reads ! 47 (ended c r) {v = report-val (c .report)} refl tt refl))
+        (from ! (hop ! (look ! 37 refl) (stop !)))
+        (store-raw ! 5 refl (LL.lawful P.the-type P′.the-laws 𝓤 H A W .typed (c .report) _ (parts .1 .0) .0)) $
+        move ! (5 ∷ 6 ∷ 7 ∷ 8 ∷ []) $
+        shuts-struct P.the-type P′.the-laws ! tt P′.the-plain b₄ o₄ (c .report) (parts .1 .0) $
+        assigns ! (of-opd ! (reads ! 46 (ended c r) {v = host-val r} refl tt refl)) (from ! (stop !))
+        (init ! 46 refl typed) $
+        returns ! (look ! 46 refl) $
+        frees-at ! 46 refl refl $ frees-at ! 44 refl refl $ frees-at ! 42 refl refl $ frees-at ! 40 refl refl $
+        frees-at ! 38 refl refl $ frees-at ! 36 refl refl $ frees-at ! 34 refl refl $ frees-at ! 32 refl refl $
+        frees-at ! 30 refl refl $ frees-at ! 28 refl refl $ frees-at ! 26 refl refl $ frees-at ! 24 refl refl $
+        frees-at ! 22 refl refl $ frees-at ! 20 refl refl $ frees-at ! 18 refl refl $ frees-at ! 16 refl refl $
+        frees-at ! 14 refl refl $ frees-at ! 12 refl refl $ frees-at ! 10 refl refl $ frees-at ! 8 refl refl $ free0 ! $
+        keep ! (5 ∷ 3 ∷ 4 ∷ 2 ∷ 7 ∷ 6 ∷ 9 ∷ 0 ∷ 1 ∷ []) $
+        by ! (exits r y (c .report) zs ws (drifts-some h (t .now) (s .now) (w .now) p (c .answer) (c .report) counted
+        left told (answers-yes (r .answer) succeeds)) made))))))))))))))))))))))))))))
 
 module _ {M : Type 1} (𝓤 : URA M) (H : Heap 𝓤) (A : Atoms 𝓤) (W : Given 𝓤 H A) (at-mem : Memory → SProp 𝓤)
     (run : Routine → Fun 𝓤) where
