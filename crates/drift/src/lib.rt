@@ -18,7 +18,7 @@ ghost use Rattle.half_duplex.specs.Core.{modeIn};
 ghost use Rattle.station.specs.Station.{station};
 ghost use Rattle.station.specs.Measured.{measured, reportAfter};
 ghost use Rattle.station.specs.Range.{inRange, measuredIn};
-ghost use Rattle.drift.specs.code.Moments.{freeAt, burstAt, deafMs, frameBehind, edgesBehind, heardIn};
+ghost use Rattle.drift.specs.code.Moments.{freeAt, burstAt, burstMs, frameBehind, edgesBehind, heardIn};
 
 // The first ms in which the line is free, after some silence and with so many inhibited ms to come; the length if it
 // stays busy.
@@ -40,7 +40,6 @@ fn free_at(silence: u16, deaf: usize, heard: &[u8]) -> usize
 // The first ms of a burst, or the length if there is none.
 fn burst_at(c: Core, heard: &[u8]) -> usize
     ensures { λ r. ⌜ r ≡ burstAt c (now (heard .entry)) ⌝ }
-    ensures { λ r. do ⌜ r ≤ (← ⟦heard.len()⟧ .entry) ⌝ }
 {
     let line = c.line;
     if line.part != burst::IDLE {
@@ -52,19 +51,18 @@ fn burst_at(c: Core, heard: &[u8]) -> usize
     free_at(c.silence, c.inhibited as usize, heard)
 }
 
-// The inhibited ms from the first of a burst on: those of the burst, and those after it.
-fn deaf_ms(c: Core, chars: &[u8]) -> usize
+// The ms of a burst, from the one on in which it is on the line with the line free.
+fn burst_ms(c: Core, chars: &[u8]) -> u32
     requires { ⌜ inRange (station c (now chars)) ≡ true ⌝ }
     requires { ⌜ length (now chars) ≡ 256 ⌝ }
-    ensures { λ r. ⌜ r ≡ deafMs c (now (chars .entry)) ⌝ }
-    ensures { λ r. ⌜ r ≤ 1_000_000 ⌝ }
+    ensures { λ r. ⌜ r ≡ burstMs c (now (chars .entry)) ⌝ }
 {
     let n = c.waiting as usize;
     let free = Core {
         silence: rules::FREE,
         ..c
     };
-    preview::busy_ms(free, &chars[..n], &chars[..0]) as usize + rules::INHIBITED as usize
+    preview::busy_ms(free, &chars[..n], &chars[..0])
 }
 
 // A frame behind so many inhibited ms: one drops it, and its edges with it.
@@ -135,5 +133,6 @@ pub fn report_after(c: Core, w: Edges, chars: &[u8], r: Report, heard: &[u8]) ->
     if to == len {
         return before;
     }
-    heard_in(mode, f, w, before, heard, to + deaf_ms(c, chars), len)
+    let from = to + burst_ms(c, chars) as usize + rules::INHIBITED as usize;
+    heard_in(mode, f, w, before, heard, from, len)
 }

@@ -33,10 +33,12 @@ burstAt c heard =
     cond (inBurst (c .line)) 0
     (cond (eqb (c .waiting) 0) (length heard) (freeAt (c .silence) (c .inhibited) heard))
 
--- The inhibited ms from there on: those of the burst, and those after it.
+-- The ms of the burst from there on, and with them the inhibited ms after it.
+abbrev pub burstMs : Core → List ℕ → ℕ
+burstMs c chars = busyMs (modeIn c) (c .line) (c .sender) freeMs (waitingOf (queue (c .waiting) chars))
+
 abbrev pub deafMs : Core → List ℕ → ℕ
-deafMs c chars =
-    busyMs (modeIn c) (c .line) (c .sender) freeMs (waitingOf (queue (c .waiting) chars)) + afterMs
+deafMs c chars = burstMs c chars + afterMs
 
 -- A frame and its edges behind so many inhibited ms: one drops both.
 abbrev pub frameBehind : ℕ → Frame → Frame
