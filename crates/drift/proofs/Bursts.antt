@@ -2,11 +2,11 @@
 use mathlib.Core.Path.{_≡_, _∙_, refl, sym, ap, subst}
 use mathlib.Core.Bool.{Bool, true, false, cond, not, _&&_, and-false, false≢true}
 use mathlib.Core.List.{List}
-use Prim.Native.Nat.{ℕ, zero, suc, _+_, _-_, _≤_}
+use Prim.Native.Nat.{ℕ, zero, suc, _+_, _-_}
 use native.Mathlib.Omega.{arith}
 use lib.Dec.{eqb, ltb}
 use lib.ListN.{length, drop}
-use borrow.Author.Tests.{not-true, not-false, eqb-true}
+use borrow.Author.Tests.{not-true, eqb-true}
 use Rattle.lists.proofs.Lists.{either, by-test, and-left, and-right}
 use Rattle.alphabet.specs.declared.Alphabet.{Alphabet}
 use Rattle.alphabet.specs.declared.Mode.{Mode}
@@ -22,8 +22,8 @@ use Rattle.edges.specs.Edges.{noEdge, noEdges, isMeasured}
 use Rattle.edges.specs.code.Measuring.{reportOver}
 use Rattle.burst.specs.declared.OnLine.{OnLine}
 use Rattle.burst.specs.declared.Loaded.{Loaded}
-use Rattle.burst.specs.Rules.{openingShift, shiftWanted, senderAfterOwn, mayBegin, mayEnd}
-use Rattle.burst.specs.Line.{onLine, further, idle, inBurst, partMs, isOver, begun, loaded, shiftBegins, codeBegins}
+use Rattle.burst.specs.Rules.{shiftWanted, mayBegin, mayEnd}
+use Rattle.burst.specs.Line.{further, idle, inBurst, partMs, isOver, begun, codeBegins}
 use Rattle.burst.specs.Line.{isOpening, nextCode, oneGone, frontIsNext, closed}
 use Rattle.burst.proofs.Laws.{begun-same, begun-first}
 use Rattle.half_duplex.specs.Core.{modeIn, settled, coreFrom, waitingAfter, inhibitedIn}
@@ -37,7 +37,6 @@ use Rattle.preview.specs.Preview.{isIdle}
 use Rattle.preview.specs.code.Count.{msLeft}
 use Rattle.preview.proofs.Idle.{lowers, idle-none, busy-some}
 use Rattle.drift.proofs.Deaf.{Deaf, report-deaf, deaf-idle}
-use Rattle.drift.proofs.Behind.{frame-some, edges-some}
 
 -- ---- what is on the line
 

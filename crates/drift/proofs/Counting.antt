@@ -1,7 +1,7 @@
 -- The ms of a burst are counted as those of a station that is offered nothing.
-use mathlib.Core.Path.{_≡_, refl, subst}
+use mathlib.Core.Path.{_≡_, refl}
 use mathlib.Core.Bool.{true}
-use mathlib.Core.List.{List, [], _++_, append-nil}
+use mathlib.Core.List.{[], _++_}
 use Prim.Native.Nat.{_+_, _≤_}
 use native.Mathlib.Omega.{arith}
 use lib.ListN.{length}
@@ -10,7 +10,6 @@ use Rattle.lists.specs.Lists.{allAtMost}
 use Rattle.alphabet.specs.Normal.{allChars}
 use Rattle.burst.specs.Rules.{freeMs}
 use Rattle.burst.specs.Line.{begun}
-use Rattle.half_duplex.specs.declared.Core.{Core}
 use Rattle.half_duplex.specs.Core.{modeIn, withSilence}
 use Rattle.half_duplex.specs.code.Bounds.{CoreIn}
 use Rattle.queue.specs.Queue.{waiters, waitingOf, room}

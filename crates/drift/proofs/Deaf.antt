@@ -1,5 +1,5 @@
 -- Inhibited ms: what is heard in them does not matter, they count nothing, and they leave no frame.
-use mathlib.Core.Path.{_≡_, _∙_, refl, sym, ap}
+use mathlib.Core.Path.{_≡_, _∙_, refl, ap}
 use mathlib.Core.Bool.{true, false}
 use mathlib.Core.List.{List, [], _∷_}
 use Prim.Native.Nat.{ℕ, zero, suc}
@@ -15,7 +15,6 @@ use Rattle.edges.specs.code.Measuring.{reportOver}
 use Rattle.edges.proofs.Joining.{joined-none}
 use Rattle.burst.specs.Rules.{mayBegin}
 use Rattle.burst.specs.Line.{inBurst}
-use Rattle.half_duplex.specs.declared.Core.{Core}
 use Rattle.half_duplex.specs.Core.{modeIn, inhibitedIn, coreFrom}
 use Rattle.station.specs.declared.Station.{Station}
 use Rattle.station.specs.declared.Measured.{Measured}

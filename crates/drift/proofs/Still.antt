@@ -1,33 +1,25 @@
 -- A station in no burst, in which none may begin: a ms leaves all but its timers and its reader.
 use mathlib.Core.Path.{_≡_, _∙_, refl, ap}
-use mathlib.Core.Bool.{Bool, false, _&&_}
-use Prim.Native.Nat.{ℕ, _-_, _≤_}
+use mathlib.Core.Bool.{Bool, false}
+use Prim.Native.Nat.{ℕ, _-_}
 use native.Mathlib.Omega.{arith}
-use lib.Dec.{eqb, ltb}
-use lib.ListN.{length}
-use borrow.Author.Tests.{not-false, eqb-true}
+use lib.Dec.{ltb}
 use Rattle.alphabet.specs.declared.Mode.{Mode}
 use Rattle.burst.specs.declared.OnLine.{OnLine}
 use Rattle.burst.specs.declared.Loaded.{Loaded}
 use Rattle.burst.specs.Rules.{mayBegin, mayEnd, isSilent}
-use Rattle.burst.specs.Line.{inBurst, partMs, isOver, nextCode, loaded, oneGone, closed}
+use Rattle.burst.specs.Line.{inBurst, nextCode, loaded, oneGone, closed}
 use Rattle.burst.proofs.Laws.{begun-same, not-over, gone-none, stays-left}
 use Rattle.half_duplex.specs.declared.Core.{Core}
 use Rattle.half_duplex.specs.Core.{core, silenceAfter, readerMs, modeIn, settled, coreFrom, inhibitedIn}
 use Rattle.station.specs.declared.Station.{Station}
 use Rattle.station.specs.Station.{station, front, charsAfter, stationMs}
+use Rattle.preview.proofs.Idle.{no-part, no-over}
 
-module _ (mode : Mode) (l : OnLine) (b : inBurst l ≡ false) where
-  no-part : length (partMs mode l) ≤ l .at
-  unfolding partMs
-  no-part = let z = eqb-true (l .part) 0 (not-false (eqb (l .part) 0) b) in rw z (omega arith)
-
-  no-over : isOver mode l ≡ false
-  unfolding isOver
-  no-over = rw b refl
-
-  line-still : (ends : Bool) → closed mode ends (oneGone mode l) ≡ l
-  line-still ends = ap (closed mode ends) (gone-none mode l no-part) ∙ stays-left mode l ends no-over
+line-still : (mode : Mode) (l : OnLine) → inBurst l ≡ false → (ends : Bool) → closed mode ends (oneGone mode l) ≡ l
+line-still mode l b ends =
+    let n = no-part mode l b in
+    ap (closed mode ends) (gone-none mode l (omega arith)) ∙ stays-left mode l ends (no-over mode l b)
 
 pub none-begins : (silence : ℕ) → mayBegin 0 silence ≡ false
 unfolding mayBegin

@@ -1,9 +1,9 @@
 -- A station in no burst in which characters wait: ms that are inhibited, ms that are heard, and a burst once the line is
 -- free.
 use mathlib.Core.Path.{_≡_, _∙_, refl, sym, ap, subst}
-use mathlib.Core.Bool.{Bool, true, false, not, _&&_, and-false}
+use mathlib.Core.Bool.{true, false, and-false}
 use mathlib.Core.List.{List, [], _∷_}
-use Prim.Native.Nat.{ℕ, zero, suc, _+_, _-_, _≤_}
+use Prim.Native.Nat.{ℕ, zero, suc, _+_, _-_}
 use native.Mathlib.Omega.{arith}
 use lib.Dec.{eqb, leb, ltb}
 use lib.ListN.{length, take, drop, drop-of-length-le}
@@ -26,9 +26,8 @@ use Rattle.reader.specs.Reader.{hear, inhibited}
 use Rattle.burst.specs.declared.OnLine.{OnLine}
 use Rattle.burst.specs.Rules.{freeMs, afterMs, mayBegin, isSilent}
 use Rattle.burst.specs.Line.{inBurst}
-use Rattle.half_duplex.specs.Core.{core, silenceAfter, readerMs, coreFrom}
+use Rattle.half_duplex.specs.Core.{core, silenceAfter, readerMs}
 use Rattle.queue.specs.Queue.{queue, waitingOf}
-use Rattle.station.specs.declared.Station.{Station}
 use Rattle.station.specs.declared.Measured.{Measured}
 use Rattle.station.specs.Station.{station, stationMs}
 use Rattle.station.specs.Measured.{measured, stationOf, measuredMs, reportAfter}

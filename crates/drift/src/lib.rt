@@ -37,7 +37,7 @@ fn free_at(silence: u16, deaf: usize, heard: &[u8]) -> usize
     i
 }
 
-// The first ms of a burst, or the length if there is none.
+// The first ms of a run that is in a burst, or the length if none is.
 fn burst_at(c: Core, heard: &[u8]) -> usize
     ensures { λ r. ⌜ r ≡ burstAt c (now (heard .entry)) ⌝ }
 {
@@ -51,7 +51,7 @@ fn burst_at(c: Core, heard: &[u8]) -> usize
     free_at(c.silence, c.inhibited as usize, heard)
 }
 
-// The ms of a burst, from the one on in which it is on the line with the line free.
+// The ms of a burst: those that are left of one on the line, or all of one that begins, the line being free.
 fn burst_ms(c: Core, chars: &[u8]) -> u32
     requires { ⌜ inRange (station c (now chars)) ≡ true ⌝ }
     requires { ⌜ length (now chars) ≡ 256 ⌝ }
@@ -65,7 +65,7 @@ fn burst_ms(c: Core, chars: &[u8]) -> u32
     preview::busy_ms(free, &chars[..n], &chars[..0])
 }
 
-// A frame behind so many inhibited ms: one drops it, and its edges with it.
+// A frame behind so many inhibited ms, and its edges: one such ms drops both.
 fn frame_behind(n: usize, f: Frame) -> Frame
     ensures { λ r. ⌜ r ≡ frameBehind n f ⌝ }
 {
@@ -81,13 +81,14 @@ fn frame_behind(n: usize, f: Frame) -> Frame
 fn edges_behind(n: usize, w: Edges) -> Edges
     ensures { λ r. ⌜ r ≡ edgesBehind n w ⌝ }
 {
-    if n == 0 {
-        return w;
+    if 0 < n {
+        return edges::none();
     }
-    edges::none()
+    w
 }
 
-// A report with the edges of the ms from one place to another, which are heard; those before them are inhibited.
+// A report with the edges of the ms from one place to another, which are heard. Those before the first place are
+// inhibited, up to a burst or from its first ms on.
 fn heard_in(
     mode: Mode,
     f: Frame,

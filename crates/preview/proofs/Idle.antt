@@ -35,11 +35,11 @@ use Rattle.preview.proofs.Lowers.{burstLeft, some-is, left-burst, some-
 
 -- ---- one ms of a station
 
-no-part : (mode : Mode) (l : OnLine) → inBurst l ≡ false → length (partMs mode l) ≡ 0
+pub no-part : (mode : Mode) (l : OnLine) → inBurst l ≡ false → length (partMs mode l) ≡ 0
 unfolding partMs
 no-part mode l e = let z = eqb-true (l .part) 0 (not-false (eqb (l .part) 0) e) in rw z refl
 
-no-over : (mode : Mode) (l : OnLine) → inBurst l ≡ false → isOver mode l ≡ false
+pub no-over : (mode : Mode) (l : OnLine) → inBurst l ≡ false → isOver mode l ≡ false
 unfolding isOver
 no-over mode l e = rw e refl
 

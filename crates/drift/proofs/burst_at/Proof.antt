@@ -1,5 +1,5 @@
 -- `burst_at` meets its contract.
-use mathlib.Core.Path.{_≡_, _∙_, refl}
+use mathlib.Core.Path.{refl}
 use borrow.Author.Tests.{eq-eqb, ne-eqb}
 use Rattle.drift.specs.code.Moments.{burstAt}
 use borrow.Author.Needs.{needs}

@@ -2,7 +2,6 @@
 use mathlib.Core.Path.{_≡_, _∙_, sym, ap}
 use mathlib.Core.Bool.{Bool}
 use Prim.Native.Nat.{ℕ, _+_, _-_}
-use native.Mathlib.Omega.{arith}
 use lib.ListN.{length}
 use Rattle.half_duplex.specs.Core.{silenceAfter}
 use Rattle.drift.specs.code.Moments.{freeAt}

@@ -8,7 +8,6 @@ use lib.ListN.{length}
 use Rattle.alphabet.specs.declared.Mode.{Mode}
 use Rattle.alphabet.specs.Modes.{elementOf}
 use Rattle.frames.specs.code.Bounds.{FrameOf}
-use Rattle.edges.specs.declared.Report.{Report}
 use Rattle.edges.specs.Edges.{isMeasured}
 use Rattle.edges.specs.code.Bounds.{ReportOf, EdgesOf}
 use Rattle.edges.proofs.Range.{more-of, is-unmeasured, is-measured}

@@ -1,7 +1,7 @@
 -- The moments of a run: where a burst is on the line, and what the ms before and behind it leave of a frame. In one run
 -- there is at most one burst, since all that wait are taken in it.
 use Prim.Native.Nat.{ℕ, zero, suc, _+_, _-_}
-use mathlib.Core.Bool.{Bool, cond}
+use mathlib.Core.Bool.{cond}
 use mathlib.Core.List.{List, [], _∷_}
 use lib.Dec.{eqb, leb, ltb}
 use lib.ListN.{length, take, drop}

@@ -9,7 +9,6 @@ use lib.Seq.{length-take-le}
 use Rattle.burst.specs.Line.{begun}
 use Rattle.station.specs.declared.Station.{Station}
 use Rattle.station.specs.Station.{station}
-use Rattle.station.specs.Range.{inRange}
 use Rattle.station.proofs.Range.{core-in}
 use Rattle.preview.proofs.Offered.{chars-low, behind-few, idle-now, idle-later}
 use borrow.Author.Needs.{needs}
