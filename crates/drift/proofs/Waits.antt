@@ -1,5 +1,5 @@
--- A station in no burst in which characters wait: ms that are inhibited, ms that are heard, and a burst once the line is
--- free.
+-- A station in no burst in which characters wait: ms that are inhibited, ms that are heard, and a burst once the line
+-- is free.
 use mathlib.Core.Path.{_≡_, _∙_, refl, sym, ap, subst}
 use mathlib.Core.Bool.{true, false, and-false}
 use mathlib.Core.List.{List, [], _∷_}
@@ -194,7 +194,8 @@ module _ (n m : ℕ) (line : OnLine) (sender : Sender) (chars : List ℕ) where
         ∙ ms-in (stationOf (at silence 0 q w)) x full i (at-most-head (highestLevel mode) x xs l) in
         heard-turn silence e q w r x xs (freeAt s' 0 xs)
         (waits s' 0 (hear mode q x .reader) (edgesMs mode (q .frame) w x)
-        (joined r (countedMs mode (q .frame) w x)) xs next (at-most-tail (highestLevel mode) x xs l) (k .1) (fine-joined f (k .0))))
+        (joined r (countedMs mode (q .frame) w x)) xs next (at-most-tail (highestLevel mode) x xs l) (k .1)
+        (fine-joined f (k .0))))
     waits silence (suc deaf) q w r (x ∷ xs) i l g f =
         either-by (Told silence (suc deaf) q w r (x ∷ xs)) (leb freeMs silence)
         (λ e. begins silence (suc deaf) q w r (x ∷ xs) i f e)

@@ -150,7 +150,7 @@ fn some_ms(n: u32) -> u32
     n
 }
 
-// The ms until a station is idle that is not, by its core and the characters that wait in it, one text behind the other.
+// The ms until a station is idle that is not, by its core and those that wait in it, one text behind the other.
 pub fn busy_ms(c: Core, own: &[u8], text: &[u8]) -> u32
     requires { ⌜ CoreIn c ⌝ }
     requires { ⌜ allChars (now own ++ now text) ≡ true ⌝ }

@@ -48,7 +48,8 @@ loop-again c =
     let l = t .before in
     let a = l .before .before .args in
     let i = l .loop .i in
-    let s = c .silence-after .ensures ∙ ap (λ (b : Bool). silenceAfter b (l .loop .s)) (c .before .is-silent .ensures) in
+    let silent = c .before .is-silent .ensures in
+    let s = c .silence-after .ensures ∙ ap (λ (b : Bool). silenceAfter b (l .loop .s)) silent in
     ap (λ (k : ℕ). from k (a .deaf) (a .heard .now) (i + 1)) s
     ∙ turn (l .loop .s) (a .deaf) (a .heard .now) i (t .loop-test .taken) (e .if1 .left)
     ∙ l .loop .inv

@@ -161,7 +161,9 @@ heard-in-requires-2 c κs =
     let h = c .before .before in
     let b = burst-of h in
     let p = s b .pre .1 .1 in
-    let kept = heard-kept _ _ _ _ (heard b) (y b .core .inhibited) (b .burst-at .result) (frame-in b) (edges-in b) (p .0) (p .1 .0) in (
+    let at = b .burst-at .result in
+    let deaf = y b .core .inhibited in
+    let kept = heard-kept _ _ _ _ (heard b) deaf at (frame-in b) (edges-in b) (p .0) (p .1 .0) in (
       frame-in b,
       (edges-in b, (subst (ReportOf 70_000) (sym (h .heard-in .ensures)) kept, (p .1 .0, omega arith))),
     )
