@@ -7,10 +7,8 @@ use lib.Dec.{T}
 use Rattle.lists.specs.Steps.{stateAfter, outputs}
 use Rattle.alphabet.specs.declared.Mode.{Mode}
 use Rattle.alphabet.specs.declared.Mode.the-variants.{Baudot45, Baudot50, Dtmf, Edt}
-use Rattle.frames.specs.declared.Frame.{Frame}
 use Rattle.frames.specs.Samples.{samplesOf}
 use Rattle.frames.specs.Frames.{frameNext}
-use Rattle.edges.specs.declared.Edges.{Edges}
 use Rattle.edges.specs.declared.Report.{Report}
 use Rattle.edges.specs.Edges.{noEdge, joined, isMeasured, edgesMs, countedMs}
 use Rattle.edges.specs.code.Measuring.{reportOver}
@@ -18,10 +16,6 @@ use Rattle.edges.proofs.Range.{none-counted}
 use Rattle.edges.proofs.Joining.{joined-none}
 use Rattle.reader.specs.declared.Reader.{Reader}
 use Rattle.reader.specs.Reader.{hear}
-use Rattle.burst.specs.declared.Loaded.{Loaded}
-use Rattle.burst.specs.Rules.{isInhibited}
-use Rattle.burst.specs.Line.{inBurst}
-use Rattle.half_duplex.specs.declared.Core.{Core}
 use Rattle.half_duplex.specs.Core.{modeIn, inhibitedIn, coreFrom}
 use Rattle.station.specs.declared.Measured.{Measured}
 use Rattle.station.specs.Station.{front, stationMs}
@@ -37,12 +31,6 @@ hear-frame Baudot45 m r heard = refl
 hear-frame Baudot50 m r heard = refl
 hear-frame Dtmf m r heard = absurd (subst T (sym m) tt)
 hear-frame Edt m r heard = refl
-
-pub frame-after : (c : Core) (l : Loaded) (heard : ℕ) → isInhibited (inBurst (l .line)) (c .inhibited) ≡ false
-    → isMeasured (modeIn c) ≡ true
-    → coreFrom c l heard .reader .frame ≡ frameNext (samplesOf (modeIn c)) (c .reader .frame) heard
-unfolding coreFrom
-frame-after c l heard free m = rw free (hear-frame (modeIn c) m (c .reader) heard)
 
 module _ (x : Measured) (heard : ℕ) (free : inhibitedIn (x .core) (front (stationOf x)) ≡ false) where
   pub counted-free : countedIn x heard ≡ countedMs (modeIn (x .core)) (x .core .reader .frame) (x .edges) heard

@@ -1,2 +1,9 @@
 pub mod Hearing
-pub mod Left
+pub mod Still
+pub mod Behind
+pub mod Deaf
+pub mod Bursts
+pub mod Waits
+pub mod Whole
+pub mod Freeing
+pub mod Counting

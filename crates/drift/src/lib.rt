@@ -1,100 +1,119 @@
-// The report of a run: the edges that count in it, told before anything is written.
-use alphabet::Char;
+// The report of a run: the edges that count in it, told before anything is written. What is heard before a burst and
+// after it is measured frame by frame.
 use alphabet::Mode;
 use burst::rules;
 use edges::Edges;
-use edges::EdgesRead;
 use edges::Report;
 use frames::Frame;
 use half_duplex::Core;
 ghost use mathlib.Core.Path.{_≡_};
-ghost use mathlib.Core.Bool.{true, false, cond};
-ghost use mathlib.Core.List.{List};
-ghost use Prim.Native.Nat.{ℕ, _≤_, _<_};
+ghost use mathlib.Core.Bool.{true};
+ghost use Prim.Native.Nat.{_≤_};
 ghost use lib.ListN.{length};
 ghost use Rattle.lists.specs.Lists.{allAtMost};
 ghost use Rattle.alphabet.specs.Modes.{highestLevel};
-ghost use Rattle.edges.specs.Edges.{noEdge, noEdges, joined, isMeasured, edgesMs, countedMs};
 ghost use Rattle.edges.specs.code.Bounds.{ReportOf, EdgesOf};
-ghost use Rattle.frames.specs.Samples.{samplesOf};
-ghost use Rattle.frames.specs.Frames.{frameNext};
 ghost use Rattle.frames.specs.code.Bounds.{FrameOf};
-ghost use Rattle.half_duplex.specs.Core.{modeIn, inhibitedIn, coreAfter};
-ghost use Rattle.half_duplex.specs.code.Bounds.{CoreIn};
+ghost use Rattle.half_duplex.specs.Core.{modeIn};
 ghost use Rattle.station.specs.Station.{station};
 ghost use Rattle.station.specs.Measured.{measured, reportAfter};
-ghost use Rattle.station.specs.Range.{measuredIn};
-ghost use Rattle.station.specs.Listening.{Listens};
+ghost use Rattle.station.specs.Range.{inRange, measuredIn};
+ghost use Rattle.drift.specs.code.Moments.{freeAt, burstAt, burstMs, frameBehind, edgesBehind, heardIn};
 
-// A core, the edges that wait and the report after a ms.
-pub struct Counted {
-    pub core: Core,
-    pub edges: Edges,
-    pub report: Report,
-}
-
-// The edges of one ms, which is inhibited or heard, by the frame before it and after it.
-fn hear(inhibited: bool, mode: Mode, f: Frame, after: Frame, w: Edges, heard: u8) -> EdgesRead
-    requires { ⌜ FrameOf mode f ⌝ }
-    requires { ⌜ EdgesOf mode f w ⌝ }
-    requires { ⌜ (inhibited ≡ false → isMeasured mode ≡ true → after ≡ frameNext (samplesOf mode) f heard) ⌝ }
-    ensures { λ r. ⌜ r .edges ≡ cond inhibited noEdges (edgesMs mode f w heard) ⌝ }
-    ensures { λ r. ⌜ r .counted ≡ cond inhibited noEdge (countedMs mode f w heard) ⌝ }
+// The first ms in which the line is free, after some silence and with so many inhibited ms to come; the length if it
+// stays busy.
+fn free_at(silence: u16, deaf: usize, heard: &[u8]) -> usize
+    ensures { λ r. ⌜ r ≡ freeAt silence deaf (now (heard .entry)) ⌝ }
 {
-    if inhibited {
-        let edges = edges::none();
-        let counted = edges::no_edge();
-        return EdgesRead { edges, counted };
+    let mut s = silence;
+    let mut i: usize = 0;
+    while i < heard.len() {
+        if rules::FREE <= s {
+            return i;
+        }
+        s = half_duplex::silence_after(rules::is_silent(i < deaf, heard[i]), s);
+        i += 1;
     }
-    edges::hear(mode, f, after, w, heard)
+    i
 }
 
-// One ms.
-fn step(mode: Mode, c: Core, w: Edges, r: Report, front: Char, heard: u8) -> Counted
-    requires { ⌜ mode ≡ modeIn c ⌝ }
-    requires { ⌜ CoreIn c ⌝ }
-    requires { ⌜ (1 ≤ c .waiting → front .0 < 128) ⌝ }
-    requires { ⌜ EdgesOf mode (c .reader .frame) w ⌝ }
-    requires { ⌜ ReportOf 999_000 r ⌝ }
-    ensures { λ x. ⌜ x .core ≡ coreAfter c (front .0) heard ⌝ }
-    ensures { λ x. ⌜ x .edges ≡ cond (inhibitedIn c (front .0)) noEdges (edgesMs mode (c .reader .frame) w heard) ⌝ }
-    ensures { λ x. ⌜ x .report ≡ joined r (cond (inhibitedIn c (front .0)) noEdge
-        (countedMs mode (c .reader .frame) w heard)) ⌝ }
-{
-    let l = half_duplex::settle(c, front);
-    let line = l.line;
-    let before = c.reader;
-    let f = before.frame;
-    let inhibited = rules::is_inhibited(line.part != burst::IDLE, c.inhibited);
-    let x = half_duplex::step(c, l, heard);
-    let core = x.core;
-    let reader = core.reader;
-    let e = hear(inhibited, mode, f, reader.frame, w, heard);
-    let edges = e.edges;
-    let counted = e.counted;
-    let report = edges::joined(r, counted);
-    Counted {
-        core,
-        edges,
-        report,
-    }
-}
-
-// Does a core hear every ms to come? It is in no burst, none waits, and no inhibited ms is to come.
-pub fn only_hears(c: Core) -> bool
-    ensures { λ r. ⌜ ((chars : List ℕ) → r ≡ true → Listens (station c chars)) ⌝ }
+// The first ms of a run that is in a burst, or the length if none is.
+fn burst_at(c: Core, heard: &[u8]) -> usize
+    ensures { λ r. ⌜ r ≡ burstAt c (now (heard .entry)) ⌝ }
 {
     let line = c.line;
     if line.part != burst::IDLE {
-        return false;
+        return 0;
     }
-    if c.waiting != 0 {
-        return false;
+    if c.waiting == 0 {
+        return heard.len();
     }
-    c.inhibited == 0
+    free_at(c.silence, c.inhibited as usize, heard)
 }
 
-// A report with the edges that count in a run, ms by ms, and from where all is heard on frame by frame.
+// The ms of a burst: those that are left of one on the line, or all of one that begins, the line being free.
+fn burst_ms(c: Core, chars: &[u8]) -> u32
+    requires { ⌜ inRange (station c (now chars)) ≡ true ⌝ }
+    requires { ⌜ length (now chars) ≡ 256 ⌝ }
+    ensures { λ r. ⌜ r ≡ burstMs c (now (chars .entry)) ⌝ }
+{
+    let n = c.waiting as usize;
+    let free = Core {
+        silence: rules::FREE,
+        ..c
+    };
+    preview::busy_ms(free, &chars[..n], &chars[..0])
+}
+
+// A frame behind so many inhibited ms, and its edges: one such ms drops both.
+fn frame_behind(n: usize, f: Frame) -> Frame
+    ensures { λ r. ⌜ r ≡ frameBehind n f ⌝ }
+{
+    if n == 0 {
+        return f;
+    }
+    Frame {
+        place: 0,
+        digits: 0,
+    }
+}
+
+fn edges_behind(n: usize, w: Edges) -> Edges
+    ensures { λ r. ⌜ r ≡ edgesBehind n w ⌝ }
+{
+    if 0 < n {
+        return edges::none();
+    }
+    w
+}
+
+// A report with the edges of the ms from one place to another, which are heard. Those before the first place are
+// inhibited, up to a burst or from its first ms on.
+fn heard_in(
+    mode: Mode,
+    f: Frame,
+    w: Edges,
+    r: Report,
+    heard: &[u8],
+    from: usize,
+    to: usize,
+) -> Report
+    requires { ⌜ FrameOf mode f ⌝ }
+    requires { ⌜ EdgesOf mode f w ⌝ }
+    requires { ⌜ ReportOf 70_000 r ⌝ }
+    requires { ⌜ length (now heard) ≤ 4_096 ⌝ }
+    requires { ⌜ to ≤ length (now heard) ⌝ }
+    ensures { λ q. ⌜ q ≡ heardIn mode f w r (now (heard .entry)) from to ⌝ }
+{
+    if to <= from {
+        return r;
+    }
+    let frame = frame_behind(from, f);
+    let edges = edges_behind(from, w);
+    edges_runs::measure(mode, frame, edges, r, &heard[from..to])
+}
+
+// A report with the edges that count in a run: of what is heard before a burst, and of what is heard after it.
 pub fn report_after(c: Core, w: Edges, chars: &[u8], r: Report, heard: &[u8]) -> Report
     requires { ⌜ measuredIn (measured (station c (now chars)) w) ≡ true ⌝ }
     requires { ⌜ length (now chars) ≡ 256 ⌝ }
@@ -107,22 +126,14 @@ pub fn report_after(c: Core, w: Edges, chars: &[u8], r: Report, heard: &[u8]) ->
     if edges::element(mode) == 0 {
         return r;
     }
-    let mut core = c;
-    let mut edges = w;
-    let mut report = r;
-    let mut i: usize = 0;
-    while i < heard.len() {
-        if only_hears(core) {
-            let reader = core.reader;
-            let f = reader.frame;
-            return edges_runs::measure(mode, f, edges, report, &heard[i..]);
-        }
-        let front = queue::front_after(chars, (c.waiting - core.waiting) as usize);
-        let x = step(mode, core, edges, report, front, heard[i]);
-        core = x.core;
-        edges = x.edges;
-        report = x.report;
-        i += 1;
+    let reader = c.reader;
+    let f = reader.frame;
+    let len = heard.len();
+    let to = burst_at(c, heard);
+    let before = heard_in(mode, f, w, r, heard, c.inhibited as usize, to);
+    if to == len {
+        return before;
     }
-    report
+    let from = to + burst_ms(c, chars) as usize + rules::INHIBITED as usize;
+    heard_in(mode, f, w, before, heard, from, len)
 }

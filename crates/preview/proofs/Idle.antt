@@ -35,11 +35,11 @@ use Rattle.preview.proofs.Lowers.{burstLeft, some-is, left-burst, some-
 
 -- ---- one ms of a station
 
-no-part : (mode : Mode) (l : OnLine) → inBurst l ≡ false → length (partMs mode l) ≡ 0
+pub no-part : (mode : Mode) (l : OnLine) → inBurst l ≡ false → length (partMs mode l) ≡ 0
 unfolding partMs
 no-part mode l e = let z = eqb-true (l .part) 0 (not-false (eqb (l .part) 0) e) in rw z refl
 
-no-over : (mode : Mode) (l : OnLine) → inBurst l ≡ false → isOver mode l ≡ false
+pub no-over : (mode : Mode) (l : OnLine) → inBurst l ≡ false → isOver mode l ≡ false
 unfolding isOver
 no-over mode l e = rw e refl
 
@@ -164,7 +164,7 @@ module _ (s : Station) (full : length (s .chars) ≡ 256) (i : inRange s ≡ tru
       rw (e, g, r) (waits-lower b may (isInhibited (inBurst l) (s .core .inhibited)))
 
   -- a ms of a quiet line
-  lowers : msLeft (stationMs s quiet) ≡ msLeft s - 1
+  pub lowers : msLeft (stationMs s quiet) ≡ msLeft s - 1
   unfolding stationMs coreFrom settled
   lowers =
       let may = mayBegin n silence in
@@ -178,10 +178,10 @@ module _ (s : Station) (full : length (s .chars) ≡ 256) (i : inRange s ≡ tru
 
 -- ---- any number of ms
 
-idle-none : (s : Station) → isIdle s ≡ true → msLeft s ≡ 0
+pub idle-none : (s : Station) → isIdle s ≡ true → msLeft s ≡ 0
 idle-none s e = rw e refl
 
-busy-some : (s : Station) → isIdle s ≡ false → 1 ≤ msLeft s
+pub busy-some : (s : Station) → isIdle s ≡ false → 1 ≤ msLeft s
 busy-some s e =
     rw e
     (some-more (aheadMs (modeOfStation s) (s .core .line) (s .core .silence)

@@ -139,8 +139,7 @@ module _ (s : Station) (text : List ℕ) (waiting : ℕ) (w : waiting ≡ offere
         let b = behind-same s text full z (begun true (s .core .line)) (s .core .sender) in
         rw (idle-is ∙ e) (ap (λ (n : ℕ). someMs (aheadOf + n)) (sym b))
 
-    pub idle-later : idleAt ≡ false → (ahead : ℕ) → ahead ≡ aheadOf → (codes : ℕ) → codes ≡ codesOf
-        → (ms : ℕ) → ms ≡ someMs (ahead + codes) → IdleIn (offeredTo s text) ms
-    idle-later e ahead f codes g ms h =
-        subst (IdleIn (offeredTo s text)) (left-is e ∙ sym (h ∙ (λ j. someMs (f j + g j))))
+    pub idle-later : idleAt ≡ false → (ms : ℕ) → ms ≡ someMs (aheadOf + codesOf) → IdleIn (offeredTo s text) ms
+    idle-later e ms h =
+        subst (IdleIn (offeredTo s text)) (left-is e ∙ sym h)
         (idle-in (offeredTo s text) (offered-full s text full) (offered-in s text full z))

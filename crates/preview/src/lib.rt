@@ -18,13 +18,14 @@ ghost use Rattle.alphabet.specs.Modes.{alphabetOf};
 ghost use Rattle.alphabet.specs.Normal.{isCode, allChars};
 ghost use Rattle.alphabet.specs.code.Packing.{sendTable};
 ghost use Rattle.baudot.specs.code.Bounds.{SenderIn};
+ghost use Rattle.burst.specs.Line.{begun};
 ghost use Rattle.half_duplex.specs.Core.{modeIn};
 ghost use Rattle.half_duplex.specs.code.Bounds.{CoreIn};
 ghost use Rattle.station.specs.Station.{station, offeredTo};
 ghost use Rattle.station.specs.Measured.{measured};
 ghost use Rattle.station.specs.code.Accepted.{Accepted};
 ghost use Rattle.preview.specs.Preview.{IdleIn, Previews};
-ghost use Rattle.preview.specs.code.Count.{charsMs, behindMs, aheadMs, someMs};
+ghost use Rattle.preview.specs.code.Count.{charsMs, behindMs, aheadMs, someMs, busyMs};
 
 // What a preview gives: 0 or the number of the refusal, and the ms.
 #[repr(C)]
@@ -149,6 +150,23 @@ fn some_ms(n: u32) -> u32
     n
 }
 
+// The ms until a station is idle that is not, by its core and those that wait in it, one text behind the other.
+pub fn busy_ms(c: Core, own: &[u8], text: &[u8]) -> u32
+    requires { ⌜ CoreIn c ⌝ }
+    requires { ⌜ allChars (now own ++ now text) ≡ true ⌝ }
+    requires { ⌜ behindMs (modeIn c) (begun true (c .line)) (c .sender) (now own ++ now text) ≤ 250_000 ⌝ }
+    ensures { λ r. ⌜ r ≡ busyMs (modeIn c) (c .line) (c .sender) (c .silence)
+        (now (own .entry) ++ now (text .entry)) ⌝ }
+{
+    let mode = Mode::of(c.mode);
+    let table = alphabet::table::send_table();
+    let l = c.line;
+    let s = c.sender;
+    let first = opened(mode, burst::begun(true, l), s);
+    let behind = codes_in(mode, &table, own, text, first);
+    some_ms(ahead_ms(c) as u32 + behind)
+}
+
 // The ms until a station is idle that was offered a text, with so many waiting then.
 fn ms_left(c: Core, chars: &[u8; 256], text: &[u8], waiting: u16) -> u32
     requires { ⌜ Accepted (station c (now chars)) (now text) ⌝ }
@@ -159,14 +177,9 @@ fn ms_left(c: Core, chars: &[u8; 256], text: &[u8], waiting: u16) -> u32
     if (l.part == burst::IDLE) & (waiting == 0) {
         return 0;
     }
-    let mode = Mode::of(c.mode);
-    let table = alphabet::table::send_table();
-    let s = c.sender;
-    let first = opened(mode, burst::begun(true, l), s);
     let all = &chars[..];
     let n = c.waiting as usize;
-    let behind = codes_in(mode, &table, &all[..n], text, first);
-    some_ms(ahead_ms(c) as u32 + behind)
+    busy_ms(c, &all[..n], text)
 }
 
 // A preview: the questions of the offer, and the ms until a copy that was offered the text is idle.

@@ -1,224 +1,203 @@
--- `report_after` meets its contract. The invariant: what is left.
+-- `report_after` meets its contract.
 use mathlib.Core.Path.{_≡_, _∙_, sym, ap, subst}
 use mathlib.Core.Bool.{true}
-use Prim.Native.Nat.{ℕ, _-_, _≤_, _<_}
+use mathlib.Core.List.{List}
+use Prim.Native.Nat.{ℕ, _+_, _≤_, _<_}
 use native.Mathlib.Omega.{arith}
-use lib.ListN.{length, drop, length-take, length-drop}
-use lib.Seq.{take-all}
+use lib.ListN.{length}
 use Rattle.alphabet.specs.declared.Mode.{Mode}
 use Rattle.alphabet.specs.Modes.{elementOf}
 use Rattle.frames.specs.code.Bounds.{FrameOf}
+use Rattle.edges.specs.Edges.{isMeasured}
 use Rattle.edges.specs.code.Bounds.{ReportOf, EdgesOf}
-use Rattle.edges.specs.code.Measuring.{reportOver}
 use Rattle.edges.proofs.Range.{more-of, is-unmeasured, is-measured}
 use Rattle.edges.proofs.Bound.{fine-of}
 use Rattle.half_duplex.specs.Core.{modeIn}
-use Rattle.half_duplex.specs.code.Bounds.{CoreIn}
-use Rattle.queue.proofs.Moves.{moved-by-length}
 use Rattle.station.specs.declared.Measured.{Measured}
-use Rattle.station.specs.Measured.{stationOf}
+use Rattle.station.specs.Station.{station}
+use Rattle.station.specs.Measured.{measured, stationOf}
 use Rattle.station.specs.Range.{inRange}
-use Rattle.station.proofs.Range.{core-in, front-in}
-use Rattle.station.proofs.Edged.{Edged, measured-in}
-use Rattle.drift.proofs.Hearing.{hears-all, unmeasured-report}
-use Rattle.drift.proofs.Left.{Left, held, left-start, left-step, left-end}
+use Rattle.station.proofs.Edged.{Edged, measured-in, frame-of}
+use Rattle.station.proofs.Reports.{waiting-fine}
+use Rattle.drift.specs.code.Moments.{burstAt, deafMs, heardIn}
+use Rattle.drift.proofs.Hearing.{unmeasured-report}
+use Rattle.drift.proofs.Freeing.{burst-within}
+use Rattle.drift.proofs.Whole.{Told, whole, none-behind, some-behind, heard-kept}
 use borrow.Author.Needs.{needs}
 use Rattle.drift.proofs.report_after.Statement.{statement}
 use Rattle.drift.proofs.report_after.Tie as tie
 
-abbrev Inv-loop : tie.InvT-loop
-Inv-loop c chars heard mode core₀ edges₀ report₀ i₀ core edges report i =
-    Left heard chars core₀ edges₀ report₀ core edges report i
-
-abbrev μ-loop : tie.MeasureT-loop
-μ-loop c chars heard mode core₀ edges₀ report₀ i₀ core edges report i = length heard - i
-
 -- ---- the moments of the walk
 
-abbrev else-of : tie.At-loop Inv-loop μ-loop → tie.Else1 Inv-loop μ-loop
-else-of c = c .before
+abbrev burst-of : tie.After-heard-in → tie.After-burst-at
+burst-of c = c .before .before
 
-abbrev of-of : tie.Else1 Inv-loop μ-loop → tie.After-of Inv-loop μ-loop
+abbrev else-of : tie.After-burst-at → tie.Else1
+else-of c = c .before .before .before
+
+abbrev of-of : tie.Else1 → tie.After-of
 of-of c = c .before .before
 
-abbrev start-of : tie.Else1 Inv-loop μ-loop → tie.Start Inv-loop μ-loop
-start-of c = c .before .before .before .before .before
-
-abbrev hears-of : tie.After-measure-arg Inv-loop μ-loop → tie.After-only-hears Inv-loop μ-loop
-hears-of c = c .before .before .before .before
-
-abbrev slice-of : tie.After-report Inv-loop μ-loop → tie.After-shared-slice-known3 Inv-loop μ-loop
-slice-of c = c .before .before .before .before
-
-abbrev turn-of : tie.After-shared-slice-known3 Inv-loop μ-loop → tie.In-loop Inv-loop μ-loop
-turn-of c = c .before .before .before .before .before .before
+abbrev start-of : tie.After-of → tie.Start
+start-of c = c .before .before .before
 
 -- ---- what is known then
 
--- the mode of the core in hand is the run's
-mode-is : (c : tie.At-loop Inv-loop μ-loop) → of-of (else-of c) .of .result ≡ modeIn (c .loop .core)
-mode-is c = of-of (else-of c) .of .ensures ∙ sym (c .loop .inv .mode)
+module _ (c : tie.After-burst-at) where
+  abbrev o : tie.After-of
+  o = of-of (else-of c)
 
--- the station in hand
-abbrev held-of : tie.At-loop Inv-loop μ-loop → Measured
-held-of c =
-    let s = start-of (else-of c) in held (s .args .c) (s .args .chars .now) (c .loop .core) (c .loop .edges)
+  abbrev s : tie.Start
+  s = start-of o
 
-facts : (c : tie.At-loop Inv-loop μ-loop) → (inRange (stationOf (held-of c)) ≡ true) × Edged (held-of c)
-facts c = measured-in (held-of c) (c .loop .inv .in-range)
+  abbrev y : Measured
+  y = measured (station (s .args .c) (s .args .chars .now)) (s .args .w)
 
-edges-of : (c : tie.At-loop Inv-loop μ-loop)
-    → EdgesOf (of-of (else-of c) .of .result) (c .loop .core .reader .frame) (c .loop .edges)
-edges-of c =
-    subst (λ (m : Mode). EdgesOf m (c .loop .core .reader .frame) (c .loop .edges)) (sym (mode-is c)) (facts c .1)
+  abbrev heard : List ℕ
+  heard = s .args .heard .now
 
-core-of : (c : tie.At-loop Inv-loop μ-loop) → CoreIn (c .loop .core)
-core-of c = core-in (stationOf (held-of c)) (facts c .0)
+  in-range : (inRange (stationOf y) ≡ true) × Edged y
+  in-range = measured-in y (s .pre .0)
 
-report-of : (c : tie.At-loop Inv-loop μ-loop) → c .loop .i ≤ 4_096 → ReportOf 70_000 (c .loop .report)
-report-of c l = let f = c .loop .inv .few in more-of (omega arith) (c .loop .inv .fine)
+  frame-in : FrameOf (o .of .result) (y .core .reader .frame)
+  frame-in = subst (λ (m : Mode). FrameOf m (y .core .reader .frame)) (sym (o .of .ensures)) (frame-of y (in-range .0))
 
-place-of : (c : tie.At-loop Inv-loop μ-loop) → c .loop .i ≤ 4_096
-place-of c =
-    let w = c .loop .inv .within in
-    let l = start-of (else-of c) .pre .1 .1 .1 .0 in
+  edges-in : EdgesOf (o .of .result) (y .core .reader .frame) (y .edges)
+  edges-in =
+      subst (λ (m : Mode). EdgesOf m (y .core .reader .frame) (y .edges)) (sym (o .of .ensures)) (in-range .1)
+
+  within : c .burst-at .result ≤ length heard
+  within = subst (λ (n : ℕ). n ≤ length heard) (sym (c .burst-at .ensures)) (burst-within (y .core) heard)
+
+  is : isMeasured (modeIn (y .core)) ≡ true
+  is =
+      is-measured (modeIn (y .core))
+      (λ z. else-of c .if1 .left (else-of c .before .element .ensures ∙ ap elementOf (o .of .ensures) ∙ z))
+
+  told : Told y (s .args .r) heard (burstAt (y .core) heard)
+  told =
+      let p = s .pre .1 in
+      whole y (s .args .r) heard (p .0) (in-range .0) (p .1 .1 .1) (fine-of (waiting-fine y (s .pre .0)))
+      (fine-of (p .1 .0)) is
+
+-- the report before a burst
+before-is : (c : tie.After-heard-in)
+    → c .heard-in .result
+    ≡ heardIn (modeIn (y (burst-of c) .core)) (y (burst-of c) .core .reader .frame) (y (burst-of c) .edges)
+    (s (burst-of c) .args .r) (heard (burst-of c)) (y (burst-of c) .core .inhibited)
+    (burstAt (y (burst-of c) .core) (heard (burst-of c)))
+before-is c =
+    let b = burst-of c in
+    c .heard-in .ensures
+    ∙ (λ j.
+    heardIn (o b .of .ensures j) (y b .core .reader .frame) (y b .edges) (s b .args .r) (heard b)
+    (y b .core .inhibited) (b .burst-at .ensures j))
+
+-- the place behind it is no large number
+few : (c : tie.After-burst-ms)
+    → burst-of (c .before .before) .burst-at .result + c .burst-ms .result < 4_096 + 4_294_967_296
+few c =
+    let b = burst-of (c .before .before) in
+    let w = within b in
+    let l = s b .pre .1 .1 .1 .0 in
+    let f : c .burst-ms .result < 4_294_967_296 = search needs in
     omega arith
 
 -- ---- the needs
 
-of-requires : tie.Need-of-requires Inv-loop μ-loop
+of-requires : tie.Need-of-requires
 of-requires c κs = search needs
 
-element-requires : tie.Need-element-requires Inv-loop μ-loop
+element-requires : tie.Need-element-requires
 element-requires c κs = search needs
 
-returns : tie.Need-returns Inv-loop μ-loop
+returns : tie.Need-returns
 returns c =
     let s = c .before .before .before .before .before in
     let m = c .before .before .of .ensures in
     let e = sym (ap elementOf m) ∙ sym (c .before .element .ensures) ∙ c .if1 .taken in
     sym (unmeasured-report _ _ _ (is-unmeasured (modeIn (s .args .c)) e) (s .pre .1 .1 .0 .none))
 
-loop-holds : tie.Need-loop-holds Inv-loop μ-loop
-loop-holds c =
-    let p = start-of c .pre in
-    left-start _ _ (p .1 .0) _ _ _ (p .0) (fine-of (p .1 .1 .0)) (p .1 .1 .0 .few)
+burst-at-requires : tie.Need-burst-at-requires
+burst-at-requires c κs = search needs
 
-only-hears-requires : tie.Need-only-hears-requires Inv-loop μ-loop
-only-hears-requires c κs = search needs
+cast-heard-in : tie.Need-cast-heard-in
+cast-heard-in c = search needs
 
-sub-measure : tie.Need-sub-measure Inv-loop μ-loop
-sub-measure c = search needs
+heard-in-requires : tie.Need-heard-in-requires
+heard-in-requires c κs =
+    let b = c .before in
+    let p = s b .pre .1 .1 in
+    (frame-in b, (edges-in b, (more-of (omega arith) (p .0), (p .1 .0, within b))))
 
-part-measure-start : tie.Need-part-measure-start Inv-loop μ-loop
-part-measure-start c = search needs
-
-part-measure-end : tie.Need-part-measure-end Inv-loop μ-loop
-part-measure-end c = search needs
-
-measure-requires : tie.Need-measure-requires Inv-loop μ-loop
-measure-requires c κs =
-    let l = hears-of c .before .before in
-    let f = subst (λ (m : Mode). FrameOf m (l .loop .core .reader .frame)) (sym (mode-is l))
-    (core-of l .reader-in .frame-in) in
-    let heard = start-of (else-of l) .args .heard .now in
-    let p = start-of (else-of l) .pre .1 .1 .1 .0 in
-    let n = length-take (length heard - l .loop .i) (drop (l .loop .i) heard) in
-    let d = length-drop (l .loop .i) heard in
-    (f, (edges-of l, (report-of l (place-of l), omega arith)))
-
-returns-2 : tie.Need-returns-2 Inv-loop μ-loop
+returns-2 : tie.Need-returns-2
 returns-2 c =
-    let l = hears-of (c .before) .before .before in
-    let heard = start-of (else-of l) .args .heard .now in
-    let i = l .loop .i in
-    let d = length-drop i heard in
-    let xs = take-all (length heard - i) (drop i heard) (omega arith) in
-    let x = held-of l in
-    let on = hears-of (c .before) .only-hears .ensures (x .chars) (c .before .before .before .before .if2 .taken) in
-    let m = of-of (else-of l) .of .ensures in
-    let e = else-of l .before .element .ensures in
-    let measured = is-measured (modeIn (x .core)) (λ z. else-of l .if1 .left (e ∙ ap elementOf (mode-is l) ∙ z)) in
-    c .measure .ensures
-    ∙ (λ j. reportOver (mode-is l j) (x .core .reader .frame) (x .edges) (l .loop .report) (xs j))
-    ∙ sym (hears-all x (l .loop .report) (drop i heard) on measured)
-    ∙ l .loop .inv .left
+    let h = c .before in
+    let b = burst-of h in
+    let e = b .burst-at .ensures in
+    let t = c .if2 .taken in
+    let all : length (heard b) ≤ burstAt (y b .core) (heard b) = omega arith in
+    before-is h ∙ sym (none-behind (y b) (s b .args .r) (heard b) (burstAt (y b .core) (heard b)) all (told b))
 
-sub-front-after : tie.Need-sub-front-after Inv-loop μ-loop
-sub-front-after c = c .before .before .before .before .before .loop .inv .fewer
+burst-ms-requires : tie.Need-burst-ms-requires
+burst-ms-requires c κs =
+    let b = burst-of (c .before) in
+    (in-range b .0, s b .pre .1 .0)
 
-cast-front-after : tie.Need-cast-front-after Inv-loop μ-loop
-cast-front-after c = search needs
+cast-from : tie.Need-cast-from
+cast-from c = search needs
 
-front-after-requires : tie.Need-front-after-requires Inv-loop μ-loop
-front-after-requires c κs = search needs
+add-from : tie.Need-add-from
+add-from c = let f = few c in omega arith
 
-shared-slice-read-step : tie.Need-shared-slice-read-step Inv-loop μ-loop
-shared-slice-read-step c = search needs
+cast-from-2 : tie.Need-cast-from-2
+cast-from-2 c = search needs
 
-step-requires : tie.Need-step-requires Inv-loop μ-loop
-step-requires c κs =
-    let l = turn-of c .before in
-    let x = held-of l in
-    let s = start-of (else-of l) in
-    let full = moved-by-length (s .args .c .waiting - x .core .waiting) (s .args .chars .now) ∙ s .pre .1 .0 in
-    let e = c .before .front-after .ensures in
-    let in-128 = front-in (stationOf x) full (facts l .0) in (
-      mode-is l,
-      (
-        core-of l,
-        (
-          λ o. subst (λ (n : ℕ). n < 128) (sym e) (in-128 o),
-          (edges-of l, more-of (omega arith) (report-of l (place-of l))),
-        ),
-      ),
+add-from-2 : tie.Need-add-from-2
+add-from-2 c = let f = few c in omega arith
+
+heard-in-requires-2 : tie.Need-heard-in-requires-2
+heard-in-requires-2 c κs =
+    let h = c .before .before in
+    let b = burst-of h in
+    let p = s b .pre .1 .1 in
+    let at = b .burst-at .result in
+    let deaf = y b .core .inhibited in
+    let kept = heard-kept _ _ _ _ (heard b) deaf at (frame-in b) (edges-in b) (p .0) (p .1 .0) in (
+      frame-in b,
+      (edges-in b, (subst (ReportOf 70_000) (sym (h .heard-in .ensures)) kept, (p .1 .0, omega arith))),
     )
 
-add-i : tie.Need-add-i Inv-loop μ-loop
-add-i c =
-    let t = turn-of (slice-of c) in
-    let l = place-of (t .before) in
-    search (needs, l)
-
-loop-less : tie.Need-loop-less Inv-loop μ-loop
-loop-less c = let t = turn-of (slice-of c) .loop-test .taken in omega arith
-
-loop-again : tie.Need-loop-again Inv-loop μ-loop
-loop-again c =
-    let b = slice-of c in
-    let t = turn-of b in
-    let s = start-of (else-of (t .before)) in
-    let x = c .before .before .before .step .ensures in
-    left-step _ _ (s .pre .1 .0) _ _ _ _ _ _ _ (t .before .loop .inv) (t .loop-test .taken) (s .pre .1 .1 .1 .1)
-    _ (b .before .front-after .ensures) _ (mode-is (t .before)) _ (x .0) _ (x .1 .0) _ (x .1 .1)
-
-returns-3 : tie.Need-returns-3 Inv-loop μ-loop
+returns-3 : tie.Need-returns-3
 returns-3 c =
-    let s = start-of (else-of (c .before)) in
-    left-end _ _ (s .pre .1 .0) _ _ _ _ _ _ _ (c .before .loop .inv) (c .loop-test .left)
+    let m = c .before in
+    let h = m .before .before in
+    let b = burst-of h in
+    let at = b .burst-at .ensures in
+    let ms = m .burst-ms .ensures in
+    let from = b .burst-at .result + m .burst-ms .result + 300 in
+    let e : from ≡ burstAt (y b .core) (heard b) + deafMs (y b .core) (y b .chars) = omega arith in
+    c .heard-in2 .ensures
+    ∙ (λ j.
+    heardIn (o b .of .ensures j) (y b .core .reader .frame) (y b .edges) (h .heard-in .result) (heard b) from
+    (length (heard b)))
+    ∙ some-behind (y b) (s b .args .r) (heard b) _ from e (h .heard-in .result) (before-is h) (told b)
 
 pub report-after-spec : {M : Type 1} → statement M
 report-after-spec =
     tie.close
     (tie.spec
-    Inv-loop
-    μ-loop
     of-requires
     element-requires
     returns
-    loop-holds
-    only-hears-requires
-    sub-measure
-    part-measure-start
-    part-measure-end
-    measure-requires
+    burst-at-requires
+    cast-heard-in
+    heard-in-requires
     returns-2
-    sub-front-after
-    cast-front-after
-    front-after-requires
-    shared-slice-read-step
-    step-requires
-    add-i
-    loop-less
-    loop-again
+    burst-ms-requires
+    cast-from
+    add-from
+    cast-from-2
+    add-from-2
+    heard-in-requires-2
     returns-3)

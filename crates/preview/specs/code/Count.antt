@@ -44,12 +44,14 @@ aheadMs mode l silence = cond (inBurst l) (partLeft mode l) (freeMs - silence + 
 abbrev pub someMs : ℕ → ℕ
 someMs n = cond (eqb n 0) 1 n
 
--- The ms until a station is idle: by its mode, what is on the line, its sender, how many wait, its silence, and those
--- that wait.
+-- The ms until a station is idle that is not: by its mode, what is on the line, its sender, its silence, and those that
+-- wait.
+abbrev pub busyMs : Mode → OnLine → Sender → ℕ → List ℕ → ℕ
+busyMs mode l s silence cs = someMs (aheadMs mode l silence + behindMs mode (begun true l) s cs)
+
+-- .. of any station, with how many wait.
 abbrev pub leftOf : Mode → OnLine → Sender → ℕ → ℕ → List ℕ → ℕ
-leftOf mode l s n silence cs =
-    cond (not (inBurst l) && eqb n 0) 0
-    (someMs (aheadMs mode l silence + behindMs mode (begun true l) s cs))
+leftOf mode l s n silence cs = cond (not (inBurst l) && eqb n 0) 0 (busyMs mode l s silence cs)
 
 abbrev pub msLeft : Station → ℕ
 msLeft s =
