@@ -172,6 +172,20 @@ fn all_in_range(c: Core, w: Edges, chars: &[u8; 256], heard: &[u8]) -> bool
     lists::checks::all_at_most(heard, mode.highest_level())
 }
 
+// Does a station hear every ms to come? It is in no burst, none waits, and no inhibited ms is to come.
+fn only_hears(c: Core) -> bool
+    ensures { λ r. ⌜ ((chars : List ℕ) → r ≡ true → Listens (station c chars)) ⌝ }
+{
+    let line = c.line;
+    if line.part != burst::IDLE {
+        return false;
+    }
+    if c.waiting != 0 {
+        return false;
+    }
+    c.inhibited == 0
+}
+
 // The report after a run of a station that only listens.
 fn report_heard(c: Core, w: Edges, r: Report, heard: &[u8]) -> Report
     requires { ⌜ ((chars : List ℕ) → Listens (station c chars)) ⌝ }
@@ -212,7 +226,7 @@ fn report_after(c: Core, w: Edges, chars: &[u8; 256], r: Report, heard: &[u8]) -
     ensures { λ q. ⌜ (allIn (measured (station c (now (chars .entry))) w) (now (heard .entry)) ≡ true
         → q ≡ reportAfter (measured (station c (now (chars .entry))) w) r (now (heard .entry))) ⌝ }
 {
-    if drift::only_hears(c) {
+    if only_hears(c) {
         return report_heard(c, w, r, heard);
     }
     report_run(c, w, chars, r, heard)
