@@ -39,13 +39,17 @@ module _ (x : Measured) (heard sent words : List ℕ) where
       pub runs : Runs g y zs ws
       pub report : p ≡ drifts .report
 
+    -- by whether the answer a is 0
+    abbrev ends : ℕ → Bool → Entered
+    ends a b =
+        cond b (ran (measuredAfter x heard) (reportAfter x r heard) 0 (length (wordsBy (stationOf x) heard)))
+        (ran x r a 0)
+
     answer-is : drifts .answer ≡ answer
     unfolding ranOf
     answer-is = go (eqb answer 0) refl
       where
-        go : (b : Bool) → eqb answer 0 ≡ b
-            → cond b (ran (measuredAfter x heard) (reportAfter x r heard) 0 (length (wordsBy (stationOf x) heard)))
-            (ran x r answer 0) .answer ≡ answer
+        go : (b : Bool) → eqb answer 0 ≡ b → ends answer b .answer ≡ answer
         go true e = sym (eqb-true answer 0 e)
         go false e = refl
 
@@ -69,11 +73,6 @@ module _ (x : Measured) (heard sent words : List ℕ) where
 
   -- two runs that answer the same differ in the report alone
   module _ (r q : Report) (e : answer r ≡ answer q) where
-    abbrev by : Bool → Report → Entered
-    by b p =
-        cond b (ran (measuredAfter x heard) (reportAfter x p heard) 0 (length (wordsBy (stationOf x) heard)))
-        (ran x p (answer q) 0)
-
     abbrev told : Entered → StationRan × Measured
     told k = (record { answer = k .answer; words = k .words }, k .station)
 
@@ -81,7 +80,7 @@ module _ (x : Measured) (heard sent words : List ℕ) where
     unfolding ranOf
     same-told = rw e (go (eqb (answer q) 0))
       where
-        go : (b : Bool) → told (by b q) ≡ told (by b r)
+        go : (b : Bool) → told (ends q (answer q) b) ≡ told (ends r (answer q) b)
         go true = refl
         go false = refl
 

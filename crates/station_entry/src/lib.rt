@@ -219,7 +219,7 @@ fn report_run(c: Core, w: Edges, chars: &[u8; 256], r: Report, heard: &[u8]) -> 
     drift::report_after(c, w, chars, r, heard)
 }
 
-// The report after a run that succeeds. The questions that it takes are asked only where not all is heard.
+// The report after a run that succeeds. A station that only listens is asked about its frame and its edges alone.
 fn report_after(c: Core, w: Edges, chars: &[u8; 256], r: Report, heard: &[u8]) -> Report
     requires { ⌜ ReportOf 65_536 r ⌝ }
     requires { ⌜ length (now heard) ≤ 4_096 ⌝ }

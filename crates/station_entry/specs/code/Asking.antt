@@ -1,4 +1,4 @@
--- The questions of a run but the last.
+-- The questions of a run but the last, and what a count tells of a run.
 use Prim.Native.Nat.{ℕ, _≤_}
 use mathlib.Core.Path.{_≡_}
 use mathlib.Core.Bool.{Bool, true, _&&_}
