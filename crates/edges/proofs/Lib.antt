@@ -3,4 +3,3 @@ pub mod Places
 pub mod Range
 pub mod Joining
 pub mod Bound
-pub mod Ends

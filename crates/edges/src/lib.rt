@@ -2,19 +2,15 @@
 use alphabet::Mode;
 use frames::Frame;
 ghost use mathlib.Core.Path.{_≡_};
-ghost use mathlib.Core.Bool.{true, cond, _&&_};
+ghost use mathlib.Core.Bool.{true, _&&_};
 ghost use Prim.Native.Nat.{_+_, _-_, _≤_, _<_};
 ghost use lib.Dec.{eqb, leb, ltb};
 ghost use lib.IntN.{natAbs};
 ghost use Rattle.alphabet.specs.Modes.{elementOf};
-ghost use Rattle.frames.specs.Samples.{samplesOf};
-ghost use Rattle.frames.specs.Range.{lastMs};
-ghost use Rattle.frames.specs.Frames.{frameNext};
-ghost use Rattle.frames.specs.code.Bounds.{FrameOf};
 ghost use Rattle.signal.specs.Signal.{quiet};
-ghost use Rattle.edges.specs.Edges.{noEdge, oneEdge, noEdges, smaller, larger, joined, isEdge, displacement, withMs, isMeasured, edgesMs, countedMs};
+ghost use Rattle.edges.specs.Edges.{noEdge, oneEdge, noEdges, smaller, larger, joined, isEdge, displacement, withMs};
 ghost use Rattle.edges.specs.Range.{mostEdges, isEmpty, isDisplaced, reportIn, edgesIn};
-ghost use Rattle.edges.specs.code.Bounds.{ReportOf, EdgesOf};
+ghost use Rattle.edges.specs.code.Bounds.{ReportOf};
 
 // A report: how many edges, the sum of their displacements in ms, the smallest and the largest; negative if early.
 #[repr(C)]
@@ -30,12 +26,6 @@ pub struct Report {
 pub struct Edges {
     pub seen: Report,
     pub level: u8,
-}
-
-// The edges that wait after a ms, and those that count in it.
-pub struct EdgesRead {
-    pub edges: Edges,
-    pub counted: Report,
 }
 
 // The most edges of a report.
@@ -179,58 +169,6 @@ pub fn ms_at(place: u8) -> usize
         return 0;
     }
     (place - 1) as usize
-}
-
-// The edges of a frame wait while it goes on.
-fn going_on(place: u8, w: Edges) -> Edges
-    ensures { λ r. ⌜ r ≡ cond (leb 2 place) w noEdges ⌝ }
-{
-    if 2 <= place {
-        return w;
-    }
-    none()
-}
-
-// They count where a code is found.
-fn ending(code: bool, w: Edges) -> Report
-    ensures { λ r. ⌜ r ≡ cond code (w .seen) noEdge ⌝ }
-{
-    if code {
-        return w.seen;
-    }
-    no_edge()
-}
-
-// Does a ms find a code? It does if the reader stood before its frame's last sample, and hunts after it.
-fn finds_code(mode: Mode, before: u8, after: u8) -> bool
-    ensures { λ r. ⌜ r ≡ (eqb before (lastMs (samplesOf mode) + 1) && eqb after 0) ⌝ }
-{
-    if before != mode.last_sample() + 1 {
-        return false;
-    }
-    after == 0
-}
-
-// The edges that wait after a ms that was heard, and those that count in it, by the frame before the ms and after it.
-// `frames::frame_step` is not called for the latter: the reader has it inlined as long as it is its only caller.
-pub fn hear(mode: Mode, f: Frame, after: Frame, w: Edges, heard: u8) -> EdgesRead
-    requires { ⌜ FrameOf mode f ⌝ }
-    requires { ⌜ EdgesOf mode f w ⌝ }
-    requires { ⌜ (isMeasured mode ≡ true → after ≡ frameNext (samplesOf mode) f heard) ⌝ }
-    ensures { λ r. ⌜ r .edges ≡ edgesMs mode f w heard ⌝ }
-    ensures { λ r. ⌜ r .counted ≡ countedMs mode f w heard ⌝ }
-{
-    let e = element(mode);
-    if e == 0 {
-        return EdgesRead {
-            edges: none(),
-            counted: no_edge(),
-        };
-    }
-    let w = with_ms(e, ms_at(f.place), w, heard);
-    let edges = going_on(after.place, w);
-    let counted = ending(finds_code(mode, f.place, after.place), w);
-    EdgesRead { edges, counted }
 }
 
 // How far a displacement is, either way.
