@@ -7,3 +7,4 @@ pub mod Waits
 pub mod Whole
 pub mod Freeing
 pub mod Counting
+pub mod Least

@@ -96,7 +96,7 @@ module _ (y : Measured) (r : Report) (heard : List ℕ) where
         (c .reader) w r heard i levels few fine))
 
   -- no ms is left behind
-  pub none-behind : (to : ℕ) → length heard ≤ to → Told to
+  pub none-behind : (to : ℕ) → length heard ≤ to + deafMs c (y .chars) → Told to
       → reportAfter y r heard ≡ heardIn mode f w r heard (c .inhibited) to
   unfolding reportOver
   none-behind to h t =

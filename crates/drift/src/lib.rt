@@ -8,7 +8,7 @@ use frames::Frame;
 use half_duplex::Core;
 ghost use mathlib.Core.Path.{_≡_};
 ghost use mathlib.Core.Bool.{true};
-ghost use Prim.Native.Nat.{_≤_};
+ghost use Prim.Native.Nat.{_+_, _*_, _≤_};
 ghost use lib.ListN.{length};
 ghost use Rattle.lists.specs.Lists.{allAtMost};
 ghost use Rattle.alphabet.specs.Modes.{highestLevel};
@@ -19,6 +19,9 @@ ghost use Rattle.station.specs.Station.{station};
 ghost use Rattle.station.specs.Measured.{measured, reportAfter};
 ghost use Rattle.station.specs.Range.{inRange, measuredIn};
 ghost use Rattle.drift.specs.code.Moments.{freeAt, burstAt, burstMs, frameBehind, edgesBehind, heardIn};
+
+// The fewest ms of a Baudot code.
+const LEAST_CODE: usize = 150;
 
 // The first ms in which the line is free, after some silence and with so many inhibited ms to come; the length if it
 // stays busy.
@@ -65,6 +68,13 @@ fn burst_ms(c: Core, chars: &[u8]) -> u32
     preview::busy_ms(free, &chars[..n], &chars[..0])
 }
 
+// The fewest ms of a burst that characters wait for, and the inhibited ms after it.
+fn least_ms(waiting: u16) -> usize
+    ensures { λ r. ⌜ r ≡ 150 * waiting + 300 ⌝ }
+{
+    LEAST_CODE * waiting as usize + rules::INHIBITED as usize
+}
+
 // A frame behind so many inhibited ms, and its edges: one such ms drops both.
 fn frame_behind(n: usize, f: Frame) -> Frame
     ensures { λ r. ⌜ r ≡ frameBehind n f ⌝ }
@@ -87,8 +97,7 @@ fn edges_behind(n: usize, w: Edges) -> Edges
     w
 }
 
-// A report with the edges of the ms from one place to another, which are heard. Those before the first place are
-// inhibited, up to a burst or from its first ms on.
+// A report with the edges of the ms from one place to another, which are heard; those right before them are inhibited.
 fn heard_in(
     mode: Mode,
     f: Frame,
@@ -113,7 +122,8 @@ fn heard_in(
     edges_runs::measure(mode, frame, edges, r, &heard[from..to])
 }
 
-// A report with the edges that count in a run: of what is heard before a burst, and of what is heard after it.
+// A report with the edges that count in a run: of what is heard before a burst, and of what is heard after it. Where
+// the characters that wait take all ms, those of the burst are not counted.
 pub fn report_after(c: Core, w: Edges, chars: &[u8], r: Report, heard: &[u8]) -> Report
     requires { ⌜ measuredIn (measured (station c (now chars)) w) ≡ true ⌝ }
     requires { ⌜ length (now chars) ≡ 256 ⌝ }
@@ -131,7 +141,7 @@ pub fn report_after(c: Core, w: Edges, chars: &[u8], r: Report, heard: &[u8]) ->
     let len = heard.len();
     let to = burst_at(c, heard);
     let before = heard_in(mode, f, w, r, heard, c.inhibited as usize, to);
-    if to == len {
+    if len <= to + least_ms(c.waiting) {
         return before;
     }
     let from = to + burst_ms(c, chars) as usize + rules::INHIBITED as usize;

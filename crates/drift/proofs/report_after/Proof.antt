@@ -17,17 +17,22 @@ use Rattle.station.specs.declared.Measured.{Measured}
 use Rattle.station.specs.Station.{station}
 use Rattle.station.specs.Measured.{measured, stationOf}
 use Rattle.station.specs.Range.{inRange}
+use Rattle.station.proofs.Range.{core-in}
 use Rattle.station.proofs.Edged.{Edged, measured-in, frame-of}
 use Rattle.station.proofs.Reports.{waiting-fine}
 use Rattle.drift.specs.code.Moments.{burstAt, deafMs, heardIn}
 use Rattle.drift.proofs.Hearing.{unmeasured-report}
 use Rattle.drift.proofs.Freeing.{burst-within}
+use Rattle.drift.proofs.Least.{burst-least}
 use Rattle.drift.proofs.Whole.{Told, whole, none-behind, some-behind, heard-kept}
 use borrow.Author.Needs.{needs}
 use Rattle.drift.proofs.report_after.Statement.{statement}
 use Rattle.drift.proofs.report_after.Tie as tie
 
 -- ---- the moments of the walk
+
+abbrev heard-of : tie.Else2 → tie.After-heard-in
+heard-of c = c .before .before
 
 abbrev burst-of : tie.After-heard-in → tie.After-burst-at
 burst-of c = c .before .before
@@ -95,9 +100,9 @@ before-is c =
 
 -- the place behind it is no large number
 few : (c : tie.After-burst-ms)
-    → burst-of (c .before .before) .burst-at .result + c .burst-ms .result < 4_096 + 4_294_967_296
+    → burst-of (heard-of (c .before)) .burst-at .result + c .burst-ms .result < 4_096 + 4_294_967_296
 few c =
-    let b = burst-of (c .before .before) in
+    let b = burst-of (heard-of (c .before)) in
     let w = within b in
     let l = s b .pre .1 .1 .1 .0 in
     let f : c .burst-ms .result < 4_294_967_296 = search needs in
@@ -130,18 +135,33 @@ heard-in-requires c κs =
     let p = s b .pre .1 .1 in
     (frame-in b, (edges-in b, (more-of (omega arith) (p .0), (p .1 .0, within b))))
 
+least-ms-requires : tie.Need-least-ms-requires
+least-ms-requires c κs = search needs
+
+add-if2 : tie.Need-add-if2
+add-if2 c =
+    let b = burst-of (c .before) in
+    let w = within b in
+    let l = s b .pre .1 .1 .1 .0 in
+    let e = c .least-ms .ensures in
+    let n = core-in (stationOf (y b)) (in-range b .0) .waiting-in in
+    omega arith
+
 returns-2 : tie.Need-returns-2
 returns-2 c =
-    let h = c .before in
+    let m = c .before in
+    let h = m .before in
     let b = burst-of h in
     let e = b .burst-at .ensures in
+    let l = m .least-ms .ensures in
+    let n = burst-least (stationOf (y b)) (s b .pre .1 .0) (in-range b .0) (is b) in
     let t = c .if2 .taken in
-    let all : length (heard b) ≤ burstAt (y b .core) (heard b) = omega arith in
+    let all : length (heard b) ≤ burstAt (y b .core) (heard b) + deafMs (y b .core) (y b .chars) = omega arith in
     before-is h ∙ sym (none-behind (y b) (s b .args .r) (heard b) (burstAt (y b .core) (heard b)) all (told b))
 
 burst-ms-requires : tie.Need-burst-ms-requires
 burst-ms-requires c κs =
-    let b = burst-of (c .before) in
+    let b = burst-of (heard-of c) in
     (in-range b .0, s b .pre .1 .0)
 
 cast-from : tie.Need-cast-from
@@ -158,7 +178,7 @@ add-from-2 c = let f = few c in omega arith
 
 heard-in-requires-2 : tie.Need-heard-in-requires-2
 heard-in-requires-2 c κs =
-    let h = c .before .before in
+    let h = heard-of (c .before) in
     let b = burst-of h in
     let p = s b .pre .1 .1 in
     let at = b .burst-at .result in
@@ -171,7 +191,7 @@ heard-in-requires-2 c κs =
 returns-3 : tie.Need-returns-3
 returns-3 c =
     let m = c .before in
-    let h = m .before .before in
+    let h = heard-of (m .before) in
     let b = burst-of h in
     let at = b .burst-at .ensures in
     let ms = m .burst-ms .ensures in
@@ -193,6 +213,8 @@ report-after-spec =
     burst-at-requires
     cast-heard-in
     heard-in-requires
+    least-ms-requires
+    add-if2
     returns-2
     burst-ms-requires
     cast-from

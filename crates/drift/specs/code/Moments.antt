@@ -49,8 +49,7 @@ abbrev pub edgesBehind : ℕ → Edges → Edges
 edgesBehind zero w = w
 edgesBehind (suc n) w = noEdges
 
--- A report with the edges of the ms from one place to another, all of which are heard, where those before them are
--- inhibited.
+-- A report with the edges of the ms from one place to another, which are heard; those right before them are inhibited.
 abbrev pub heardIn : Mode → Frame → Edges → Report → List ℕ → ℕ → ℕ → Report
 heardIn mode f w r heard from to =
     reportOver mode (frameBehind from f) (edgesBehind from w) r (take (to - from) (drop from heard))
