@@ -174,7 +174,7 @@ static void layout(void)
     check(CQ_LEVEL_MAX(CQ_MODE_DTMF) == 16 && CQ_LEVEL_MAX(CQ_MODE_EDT) == 2, "CQ_LEVEL_MAX", "macros");
     check(CQ_STATION_MS_MAX == 4096 && CQ_STATION_WAITING_MAX == 256, "most ms, most waiting", "macros");
     check(CQ_DRIFT_EDGES_MAX == 65536, "most edges of a report", "macros");
-    check(CQ_VERSION_MAJOR == 6 && CQ_VERSION == 60000, "version", "macros");
+    check(CQ_VERSION_MAJOR == 6 && CQ_VERSION == 60001, "version", "macros");
     check(sizeof(constant_size) == 1 && CONSTANT == 122880 && sizeof(CQ_SENDING_MS_MAX(1, 1)) == sizeof(uint32_t) &&
               1000 - CQ_SENDING_MS_MAX(CQ_MODE_DTMF | 0, 1 + 1) / 2 == 520 && CQ_SENDING_MS_MAX(0, 1) == 0 &&
               CQ_SENDING_MS_MAX(5, 1) == 0,
