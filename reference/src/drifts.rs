@@ -42,6 +42,8 @@ enum Thing {
     EdgesWait,
     QuietLatest,
     TwoStops,
+    AheadOfABurst,
+    BehindABurst,
     BegunWithout,
     EndedWithout,
     Forged,
@@ -64,7 +66,7 @@ enum Thing {
     ThroughQuiet,
 }
 
-const THINGS: [(Thing, &str, &[u8]); 30] = [
+const THINGS: [(Thing, &str, &[u8]); 32] = [
     (Thing::WithReport, "runs with a report", ALL),
     (Thing::Without, "without one", ALL),
     (Thing::Of0, "runs of 0 ms", ALL),
@@ -75,6 +77,8 @@ const THINGS: [(Thing, &str, &[u8]); 30] = [
     (Thing::EdgesWait, "with edges waiting", BAUDOT),
     (Thing::QuietLatest, "with quiet as its latest level", BAUDOT),
     (Thing::TwoStops, "with two frames that count", BAUDOT),
+    (Thing::AheadOfABurst, "with one ahead of its burst", BAUDOT),
+    (Thing::BehindABurst, "with one behind its burst", BAUDOT),
     (Thing::BegunWithout, "frames begun without a report and counted", BAUDOT),
     (Thing::EndedWithout, "ended without one", BAUDOT),
     (Thing::Forged, "lists from a forged station", BAUDOT),
@@ -489,9 +493,16 @@ impl List<'_> {
 
     /// Counts what the frames that count meet among the calls.
     fn met_calls(&mut self, counted: &[(usize, Report)]) {
-        for call in &self.calls {
-            let number = counted.iter().filter(|(ms, _)| call.ms.contains(ms)).take(2).count();
-            self.met.add_if(number == 2 && call.reports.is_some(), Thing::TwoStops);
+        for call in self.calls.iter().filter(|call| call.reports.is_some()) {
+            let mut stops = counted.iter().map(|&(ms, _)| ms).filter(|ms| call.ms.contains(ms));
+            let (first, last) = (stops.next(), stops.last());
+            self.met.add_if(last.is_some(), Thing::TwoStops);
+            let mut bursts = call.ms.clone().filter(|&ms| self.line.in_burst(ms));
+            if let (Some(first), Some(begin)) = (first, bursts.next()) {
+                let end = bursts.last().unwrap_or(begin);
+                self.met.add_if(first < begin, Thing::AheadOfABurst);
+                self.met.add_if(last.unwrap_or(first) > end, Thing::BehindABurst);
+            }
         }
     }
 

@@ -393,7 +393,7 @@ fn is_blank(l: OnLine) -> bool
     (l.part == IDLE) & (l.code.0 == 0) & (l.at == 0)
 }
 
-// Question 1 of what is on the line; first of a station in no burst.
+// Question 1 of what is on the line. A station in no burst, the most frequent one, is told by one test.
 pub fn in_range(mode: Mode, l: OnLine) -> bool
     ensures { λ r. ⌜ r ≡ lineIn mode l ⌝ }
 {

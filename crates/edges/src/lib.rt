@@ -117,7 +117,7 @@ pub fn joined(a: Report, b: Report) -> Report
     }
 }
 
-// Is a change of the level an edge? One number of mark and space tells it, so that there is one branch.
+// Is a change of the level an edge? Mark is 1 and space 2: their product is 2, either way, and no other product is.
 fn is_edge(before: u8, heard: u8) -> bool
     ensures { λ r. ⌜ r ≡ isEdge before heard ⌝ }
 {
