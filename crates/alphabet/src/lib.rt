@@ -1,4 +1,6 @@
 // T.50 characters, line codes and modes: what a character sends, what a code reads as.
+#![tactic(auto)]
+
 ghost use Rattle.std.specs.Prelude.{◌≡◌};
 ghost use Rattle.alphabet.specs.Modes.{mode_number, mode_of, preamble_of, alphabet_of, frame_codes, highest_level, longest};
 ghost use Rattle.alphabet.specs.code.Numbers.{last_sample};
@@ -9,23 +11,23 @@ pub mod table;
 
 // A T.50 character, 00 to 7F.
 #[repr(C)]
-#[derive(Drop)]
+#[derive(Clone, Copy)]
 pub struct Char(pub u8);
 
 // A line code: a five-bit Baudot code; a DTMF code, 16 times the prefix plus the digit's key; the seven bits of an EDT
 // code.
 #[repr(C)]
-#[derive(Drop)]
+#[derive(Clone, Copy)]
 pub struct LineCode(pub u8);
 
-#[derive(Drop)]
+#[derive(Clone, Copy)]
 pub enum Alphabet {
     Baudot,
     Dtmf,
     Edt,
 }
 
-#[derive(Drop)]
+#[derive(Clone, Copy)]
 pub enum Mode {
     Baudot45,
     Baudot50,
@@ -34,14 +36,14 @@ pub enum Mode {
 }
 
 // What a character sends: nothing, or a code of a shift (1 letters, 2 figures, 3 both, as every code of DTMF and EDT).
-#[derive(Drop)]
+#[derive(Clone, Copy)]
 pub enum Sends {
     Nothing,
     Code { shift: u8, code: LineCode },
 }
 
 // What a code reads as: a character, a shift (1 letters, 2 figures), or, without a row in the tables, nothing.
-#[derive(Drop)]
+#[derive(Clone, Copy)]
 pub enum Reads {
     Character(Char),
     Shift(u8),

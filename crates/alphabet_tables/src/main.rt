@@ -1,7 +1,11 @@
 // Prints what each character sends and reads as in each alphabet, and what each code reads as.
+#![tactic(auto)]
+
 ghost use Rattle.std.specs.Prelude.{◌≤◌, ◌<◌};
 
 use alphabet::{Alphabet, Char, LineCode, Reads, Sends};
+use std::io;
+use std::io::Write;
 use test_io::{print, print_byte, print_five, print_key};
 
 fn hex_digit(n: u8) -> u8
@@ -10,130 +14,136 @@ fn hex_digit(n: u8) -> u8
     if n < 10 { 48 + n } else { 55 + n }
 }
 
-fn print_hex(n: u8) {
-    print_byte(hex_digit(n / 16));
-    print_byte(hex_digit(n % 16));
+fn print_hex<W: Write>(out: &mut W, n: u8) -> io::Result<()> {
+    print_byte(out, hex_digit(n / 16))?;
+    print_byte(out, hex_digit(n % 16))
 }
 
-fn print_seven(n: u8) {
-    print_byte(48 + n / 64 % 2);
-    print_byte(48 + n / 32 % 2);
-    print_five(n % 32);
+fn print_seven<W: Write>(out: &mut W, n: u8) -> io::Result<()> {
+    print_byte(out, 48 + n / 64 % 2)?;
+    print_byte(out, 48 + n / 32 % 2)?;
+    print_five(out, n % 32)
 }
 
-fn print_code_keys(code: LineCode) {
+fn print_code_keys<W: Write>(out: &mut W, code: LineCode) -> io::Result<()> {
     test_io::print_keys(
+        out,
         alphabet::dtmf::key(code, 0),
         alphabet::dtmf::key(code, 1),
         alphabet::dtmf::key(code, 2),
         alphabet::dtmf::key(code, 3),
-    );
+    )
 }
 
-fn print_reads(r: Reads) {
+fn print_reads<W: Write>(out: &mut W, r: Reads) -> io::Result<()> {
     match r {
-        Reads::Character(c) => print_hex(c.0),
+        Reads::Character(c) => print_hex(out, c.0),
         Reads::Shift(s) => {
             if s == 2 {
-                print(b"FIGS")
+                print(out, b"FIGS")
             } else {
-                print(b"LTRS")
+                print(out, b"LTRS")
             }
         }
-        Reads::NoRow => print(b"fault"),
+        Reads::NoRow => print(out, b"fault"),
     }
 }
 
-fn print_shift(shift: u8) {
+fn print_shift<W: Write>(out: &mut W, shift: u8) -> io::Result<()> {
     match shift {
-        1 => print(b"L "),
-        2 => print(b"F "),
-        _ => print(b"E "),
+        1 => print(out, b"L "),
+        2 => print(out, b"F "),
+        _ => print(out, b"E "),
     }
 }
 
-fn print_name(a: Alphabet) {
+fn print_name<W: Write>(out: &mut W, a: Alphabet) -> io::Result<()> {
     match a {
-        Alphabet::Baudot => print(b"baudot "),
-        Alphabet::Dtmf => print(b"dtmf "),
-        Alphabet::Edt => print(b"edt "),
+        Alphabet::Baudot => print(out, b"baudot "),
+        Alphabet::Dtmf => print(out, b"dtmf "),
+        Alphabet::Edt => print(out, b"edt "),
     }
 }
 
 // A sent code, and what it reads as in its own shift.
-fn print_code(a: Alphabet, shift: u8, code: LineCode) {
+fn print_code<W: Write>(out: &mut W, a: Alphabet, shift: u8, code: LineCode) -> io::Result<()> {
     match a {
         Alphabet::Baudot => {
-            print_shift(shift);
-            print_five(code.0);
-            print(b" reads ");
-            print_reads(alphabet::table::read_baudot(shift, LineCode(code.0 % 32)))
+            print_shift(out, shift)?;
+            print_five(out, code.0)?;
+            print(out, b" reads ")?;
+            print_reads(
+                out,
+                alphabet::table::read_baudot(shift, LineCode(code.0 % 32)),
+            )
         }
         Alphabet::Dtmf => {
-            print_code_keys(code);
-            print(b" reads ");
-            print_reads(alphabet::table::read_dtmf(code))
+            print_code_keys(out, code)?;
+            print(out, b" reads ")?;
+            print_reads(out, alphabet::table::read_dtmf(code))
         }
         Alphabet::Edt => {
-            print_seven(code.0);
-            print(b" reads ");
-            print_hex(code.0)
+            print_seven(out, code.0)?;
+            print(out, b" reads ")?;
+            print_hex(out, code.0)
         }
     }
 }
 
-fn print_char(a: Alphabet, c: Char)
+fn print_char<W: Write>(out: &mut W, a: Alphabet, c: Char) -> io::Result<()>
     requires { c.0 < 128 }
 {
-    print_name(a);
-    print_hex(c.0);
-    print(b" sends ");
+    print_name(out, a)?;
+    print_hex(out, c.0)?;
+    print(out, b" sends ")?;
     let s = alphabet::table::lookup(a, c);
     let Sends::Code { shift, code } = s else {
-        print(b"- reads - normal -\n");
-        return;
+        return print(out, b"- reads - normal -\n");
     };
-    print_code(a, shift, code);
-    print(b" normal ");
-    print_reads(alphabet::table::normal(a, c));
-    print(b"\n")
+    print_code(out, a, shift, code)?;
+    print(out, b" normal ")?;
+    print_reads(out, alphabet::table::normal(a, c))?;
+    print(out, b"\n")
 }
 
-fn print_alphabet(a: Alphabet) {
+fn print_alphabet<W: Write>(out: &mut W, a: Alphabet) -> io::Result<()> {
     let mut c: u8 = 0;
     while c < 128 {
-        print_char(a, Char(c));
+        print_char(out, a, Char(c))?;
         c += 1;
     }
+    Ok(())
 }
 
-fn print_row(k: LineCode)
+fn print_row<W: Write>(out: &mut W, k: LineCode) -> io::Result<()>
     requires { k.0 < 32 }
 {
-    print(b"code ");
-    print_five(k.0);
-    print(b" letters ");
-    print_reads(alphabet::table::read_baudot(1, k));
-    print(b" figures ");
-    print_reads(alphabet::table::read_baudot(2, k));
-    print(b"\n");
+    print(out, b"code ")?;
+    print_five(out, k.0)?;
+    print(out, b" letters ")?;
+    print_reads(out, alphabet::table::read_baudot(1, k))?;
+    print(out, b" figures ")?;
+    print_reads(out, alphabet::table::read_baudot(2, k))?;
+    print(out, b"\n")
 }
 
-fn print_codes() {
+fn print_codes<W: Write>(out: &mut W) -> io::Result<()> {
     let mut k: u8 = 0;
     while k < 32 {
-        print_row(LineCode(k));
+        print_row(out, LineCode(k))?;
         k += 1;
     }
+    Ok(())
 }
 
 // The marks of a number in binary, from the place d down: 0 is *, 1 is #.
-fn print_marks(m: u8, d: u8) {
+fn print_marks<W: Write>(out: &mut W, m: u8, d: u8) -> io::Result<()> {
     let mut e = d;
     while 0 < e {
-        print_key(11 + m / e % 2);
+        print_key(out, 11 + m / e % 2)?;
         e = e / 2;
     }
+    Ok(())
 }
 
 // The prefix of the same marks.
@@ -147,43 +157,53 @@ fn prefix_of(m: u8, d: u8) -> u8 {
     p
 }
 
-fn print_digit(m: u8, d: u8, k: u8)
+fn print_digit<W: Write>(out: &mut W, m: u8, d: u8, k: u8) -> io::Result<()>
     requires { k ≤ 10 }
 {
     let p = prefix_of(m, d);
-    print(b"key ");
-    print_marks(m, d);
-    print_key(k);
-    print(b" reads ");
-    print_reads(alphabet::table::read_dtmf(alphabet::dtmf::code(p % 16, k)));
-    print(b"\n");
+    print(out, b"key ")?;
+    print_marks(out, m, d)?;
+    print_key(out, k)?;
+    print(out, b" reads ")?;
+    print_reads(
+        out,
+        alphabet::table::read_dtmf(alphabet::dtmf::code(p % 16, k)),
+    )?;
+    print(out, b"\n")
 }
 
-fn print_digits(m: u8, d: u8) {
+fn print_digits<W: Write>(out: &mut W, m: u8, d: u8) -> io::Result<()> {
     let mut k: u8 = 1;
     while k <= 10 {
-        print_digit(m, d, k);
+        print_digit(out, m, d, k)?;
         k += 1;
     }
+    Ok(())
 }
 
 // All prefixes of as many marks as n has binary places.
-fn print_prefixes(n: u8) {
+fn print_prefixes<W: Write>(out: &mut W, n: u8) -> io::Result<()> {
     let mut m: u8 = 0;
     while m < n {
-        print_digits(m, n / 2);
+        print_digits(out, m, n / 2)?;
         m += 1;
     }
+    Ok(())
 }
 
-fn main() {
-    print_alphabet(Alphabet::Baudot);
-    print_alphabet(Alphabet::Dtmf);
-    print_alphabet(Alphabet::Edt);
-    print_codes();
-    print_prefixes(1);
-    print_prefixes(2);
-    print_prefixes(4);
-    print_prefixes(8);
-    print_prefixes(16)
+fn print_all<W: Write>(out: &mut W) -> io::Result<()> {
+    print_alphabet(out, Alphabet::Baudot)?;
+    print_alphabet(out, Alphabet::Dtmf)?;
+    print_alphabet(out, Alphabet::Edt)?;
+    print_codes(out)?;
+    print_prefixes(out, 1)?;
+    print_prefixes(out, 2)?;
+    print_prefixes(out, 4)?;
+    print_prefixes(out, 8)?;
+    print_prefixes(out, 16)
+}
+
+fn main(rt: HostRuntime) -> io::Result<()> {
+    let mut out = rt.stdout();
+    print_all(&mut out)
 }

@@ -44,6 +44,7 @@ not_null_code c = not (same_sends (send_dtmf c) (Code 3 (record { 0 = code_of_ke
 
 -- no character is sent as **0
 pub never-null : T (passes not_null_code 128 0)
-unfolding passes bits bits_from left_rows right_rows rows b1 b2 printed_at keys with_mark code_from marks_then_digit among
+unfolding passes bits bits_from left_rows right_rows rows b1 b2 printed_at keys with_mark code_from marks_then_digit
+    among
     not_struck remaining names first_sign named send_in has_row send_from send_dtmf
 never-null = tt

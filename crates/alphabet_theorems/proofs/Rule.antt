@@ -46,8 +46,10 @@ abbrev rule_at : ℕ → Bool
 rule_at i = asked rule (number_at i)
 
 rule-test : T (passes rule_at 358 0)
-unfolding passes char_of sends reads bits bits_from left_rows right_rows rows a1 a2 b1 b2 printed_at read_baudot send_baudot
-    keys with_mark code_from marks_then_digit among not_struck remaining names first_sign named read_in read_dtmf send_in has_row
+unfolding passes char_of sends reads bits bits_from left_rows right_rows rows a1 a2 b1 b2 printed_at read_baudot
+    send_baudot
+    keys with_mark code_from marks_then_digit among not_struck remaining names first_sign named read_in read_dtmf
+    send_in has_row
     send_from send_dtmf
 rule-test = tt
 

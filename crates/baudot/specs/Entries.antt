@@ -28,7 +28,8 @@ sent_of text shift count room =
 
 unfoldable pub codes_after : List ℕ → ℕ → ℕ → List ℕ → List ℕ
 codes_after text shift count codes =
-    cond (eqb (send_answer text shift count (length codes)) 0) (written (codes_of (sender shift count) text) codes) codes
+    cond (eqb (send_answer text shift count (length codes)) 0) (written (codes_of (sender shift count) text) codes)
+    codes
 
 abbrev pub read : ℕ → ℕ → ℕ → BaudotText
 read answer shift n = record { answer = answer; shift = shift; length = n }

@@ -1,9 +1,11 @@
 // Baudot senders and readers: the definitions of both directions, and the sending rule.
+#![tactic(auto)]
+
 pub mod sending;
 
 // A sender: its shift (0 fresh, 1 letters, 2 figures) and the characters that have gone since the last shift code.
 #[repr(C)]
-#[derive(Drop)]
+#[derive(Clone, Copy)]
 pub struct Sender {
     pub shift: u8,
     pub count: u8,
@@ -12,7 +14,7 @@ pub struct Sender {
 // What a conversion to codes gives back: 0 or the number of the refusal, the shift and count reached, the codes
 // written.
 #[repr(C)]
-#[derive(Drop)]
+#[derive(Clone, Copy)]
 pub struct BaudotSent {
     pub answer: u8,
     pub shift: u8,
@@ -22,7 +24,7 @@ pub struct BaudotSent {
 
 // What a conversion to text gives back: 0 or the number of the refusal, the shift reached, the characters written.
 #[repr(C)]
-#[derive(Drop)]
+#[derive(Clone, Copy)]
 pub struct BaudotText {
     pub answer: u8,
     pub shift: u8,

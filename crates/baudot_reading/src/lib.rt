@@ -1,4 +1,6 @@
 // Codes to text: the bare Baudot conversion of reading.
+#![tactic(auto)]
+
 ghost use Rattle.std.specs.Prelude.{◌≡◌, true, ℕ, ◌+◌, ◌≤◌, ◌<◌, leb, length};
 ghost use Rattle.std.proofs.lemmas.List.Edits.{sets};
 ghost use Rattle.alphabet.specs.Baudot.{read_baudot};
@@ -14,7 +16,7 @@ use alphabet::table::ReadTable;
 use baudot::BaudotText;
 
 // The shift in force, and the place of the next character.
-#[derive(Drop)]
+#[derive(Clone, Copy)]
 pub struct Taken {
     pub at: usize,
     pub shift: u8,

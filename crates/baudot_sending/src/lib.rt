@@ -1,4 +1,6 @@
 // Text to codes: the bare Baudot conversion of sending.
+#![tactic(auto)]
+
 ghost use Rattle.std.specs.Prelude.{◌≡◌, true, ◌++◌, ◌+◌, ◌^◌, ◌≤◌, ◌<◌, leb, length, drop};
 ghost use Rattle.std.proofs.lemmas.List.Edits.{sets};
 ghost use Rattle.alphabet.specs.declared.Alphabet.TheVariants.{Baudot};
@@ -13,14 +15,14 @@ use alphabet::{Alphabet, Char, Sends};
 use baudot::{BaudotSent, Sender};
 
 // A sender, and the place of its next code.
-#[derive(Drop)]
+#[derive(Clone, Copy)]
 pub struct Placed {
     pub at: usize,
     pub sender: Sender,
 }
 
 // Where a text is taken up, with the sender and the place of its next code.
-#[derive(Drop)]
+#[derive(Clone, Copy)]
 pub struct Opening {
     pub from: usize,
     pub at: usize,

@@ -7,7 +7,8 @@ use Rattle.alphabet.specs.Normal.{sends}
 use Rattle.baudot.specs.declared.Sender.{Sender}
 use Rattle.baudot.specs.Sending.{codes_for, sender_for, codes_of, sender_after}
 
-pub codes-append : (s : Sender) (xs ys : List ℕ) → codes_of s (xs ++ ys) ≡ codes_of s xs ++ codes_of (sender_after s xs) ys
+pub codes-append : (s : Sender) (xs ys : List ℕ) → codes_of s (xs ++ ys) ≡ codes_of s xs
+    ++ codes_of (sender_after s xs) ys
 unfolding codes_of sender_after
 codes-append s [] ys = refl
 codes-append s (x ∷ xs) ys =

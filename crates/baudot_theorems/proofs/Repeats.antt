@@ -98,7 +98,8 @@ module _ (shift : ℕ) (low : 1 ≤ shift) (high : shift ≤ 2) where
 -- What any number of characters of the shift in force send, from any count: their codes, and a shift code after each 72
 -- and nowhere else.
 pub repeats-exactly : (text : List ℕ) (shift count : ℕ) → 1 ≤ shift → shift ≤ 2 → count ≤ 72
-    → all_of_shift shift text ≡ true → codes_of (sender shift count) text ≡ with_repeats shift count (own_codes Baudot text)
+    → all_of_shift shift text ≡ true → codes_of (sender shift count) text
+    ≡ with_repeats shift count (own_codes Baudot text)
 repeats-exactly text shift count low high h t =
     exactly shift low high text t 0 count count
     (record { sum = omega arith; most = h; followed = (λ (l : 1 ≤ 0). absurd (omega arith)) })

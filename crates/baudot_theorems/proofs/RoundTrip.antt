@@ -3,7 +3,7 @@ use mathlib.Core.Path.{◌≡◌, ◌∙◌, refl, sym, ap, subst}
 use mathlib.Core.Bool.{Bool, true, false}
 use mathlib.Core.List.{List, [], ◌∷◌, ◌++◌, append_assoc}
 use mathlib.Core.Logic.{◌⊎◌, inl, inr, ⊎_elim}
-use Prim.Native.Nat.{ℕ, zero, suc, ◌+◌, ◌≤◌, ◌<◌}
+use Prim.Native.Nat.{ℕ, zero, suc, ◌≤◌, ◌<◌}
 use native.Mathlib.Omega.{arith}
 use lib.Dec.{eqb}
 use borrow.Author.Tests.{eqb-true}
@@ -30,7 +30,8 @@ text-append r [] ys = refl
 text-append r (x ∷ xs) ys =
     let q = chars_of (read_baudot r x) in
     let n = shift_by r (read_baudot r x) in
-    ap (λ (l : List ℕ). q ++ l) (text-append n xs ys) ∙ sym (append_assoc q (text_of n xs) (text_of (shift_after n xs) ys))
+    ap (λ (l : List ℕ). q ++ l) (text-append n xs ys) ∙ sym (append_assoc q (text_of n xs)
+    (text_of (shift_after n xs) ys))
 
 pub shift-append : (r : ℕ) (xs ys : List ℕ) → shift_after r (xs ++ ys) ≡ shift_after (shift_after r xs) ys
 unfolding shift_after

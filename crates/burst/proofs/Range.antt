@@ -207,7 +207,8 @@ module _ (mode : Mode) (l : OnLine) (s : Sender) (i : LineIn mode l) (j : Sender
 
 pub begun-in : (mode : Mode) (may : Bool) (l : OnLine) → LineIn mode l → LineIn mode (begun may l)
 unfolding begun
-begun-in mode may l i = either (LineIn mode) (may && not (in_burst l)) (on_line 1 0 0) l (blank-in mode 1 (omega arith)) i
+begun-in mode may l i = either (LineIn mode) (may && not (in_burst l)) (on_line 1 0 0) l (blank-in mode 1 (omega arith))
+    i
 
 -- ---- after a ms
 

@@ -1,4 +1,6 @@
 // A burst: what a station has on the line, part by part and ms by ms.
+#![tactic(auto)]
+
 ghost use Rattle.std.specs.Prelude.{◌≡◌, ◌+◌, ◌^◌, ◌≤◌, ◌<◌, cond, not, ◌&&◌, eqb, length};
 ghost use Rattle.alphabet.specs.declared.Alphabet.TheVariants.{Baudot};
 ghost use Rattle.alphabet.specs.Modes.{alphabet_of};
@@ -17,7 +19,7 @@ pub mod rules;
 
 // What is on the line. Part 0: no burst; 1: the preamble; 2: a code. `at` of the part's ms are sent.
 #[repr(C)]
-#[derive(Drop)]
+#[derive(Clone, Copy)]
 pub struct OnLine {
     pub at: u16,
     pub part: u8,
@@ -25,7 +27,7 @@ pub struct OnLine {
 }
 
 // What a ms starts with: what is on the line, the sender, and whether the front character is taken.
-#[derive(Drop)]
+#[derive(Clone, Copy)]
 pub struct Loaded {
     pub line: OnLine,
     pub sender: Sender,

@@ -1,4 +1,6 @@
 // Whole codes of a burst, one after the other.
+#![tactic(auto)]
+
 ghost use Rattle.std.specs.Prelude.{◌≡◌, true, ◌&&◌, List, ℕ, ◌+◌, ◌≤◌, leb, ltb, length};
 ghost use Rattle.alphabet.specs.Modes.{longest};
 ghost use Rattle.burst.specs.Line.{is_over};

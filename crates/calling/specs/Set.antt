@@ -1,16 +1,15 @@
--- Document 01, "The calling set (5.1)", and document 02, #113: one ms of a calling set, and any number of them.
-use Rattle.std.specs.Prelude.{ℕ, Bool, cond, not, ◌&&◌, ◌||◌, List, eqb, leb, ltb}
+-- Document 01, "The calling set (5.1)": one ms of a calling set, and any number of them.
+use Rattle.std.specs.Prelude.{ℕ, Bool, cond, ◌&&◌, List, eqb, leb, ltb}
 use Rattle.lists.specs.Steps.{state_after, outputs}
 use Rattle.calling.specs.declared.Calling.{Calling}
 use Rattle.calling.specs.Timetable.{nothing, period, value_at, place_after}
 use Rattle.calling.specs.Tones.{none, length_of, longest, last_tone}
-use Rattle.calling.specs.Timer.{tr_end, tr_with, held_back}
 use Rattle.calling.specs.Counting.{counted}
 
 -- A calling set's state (there: the chooser's): what was heard last and for how many ms in a row, the place in the
--- timetable, the choice, which reads 0 until one is made, and Tr.
-abbrev pub calling : ℕ → ℕ → ℕ → ℕ → ℕ → Calling
-calling tone ms place choice tr = record { ms = ms; place = place; tone = tone; choice = choice; tr = tr }
+-- timetable, and the choice, which reads 0 until one is made.
+abbrev pub calling : ℕ → ℕ → ℕ → ℕ → Calling
+calling tone ms place choice = record { ms = ms; place = place; tone = tone; choice = choice }
 
 -- 400 ms of none in a row after a tone make the next ms the timetable's first.
 abbrev pub pause : ℕ
@@ -18,14 +17,13 @@ pause = 400
 
 -- A fresh set starts as after the pause.
 unfoldable pub fresh : Calling
-fresh = calling none pause 0 0 0
+fresh = calling none pause 0 0
 
 -- Question 12, state in range: the choice and the tone are 0 to 11, the ms in a row 1 to 1,700 (the longest that a tone
--- must last), the place one of the timetable's, Tr below its end.
+-- must last), the place one of the timetable's.
 unfoldable pub in_range : Calling → Bool
 in_range s =
     leb s.choice last_tone && leb s.tone last_tone && leb 1 s.ms && leb s.ms longest && ltb s.place period
-    && ltb s.tr tr_end
 
 -- No tone was heard for so long that the timetable runs.
 abbrev pub pause_over : ℕ → ℕ → Bool
@@ -42,24 +40,12 @@ enough heard = cond (eqb heard none) pause (length_of heard)
 abbrev pub ms_after : Calling → ℕ → ℕ
 ms_after s heard = counted s.tone s.ms heard (enough heard)
 
--- A tone that lasts its length in a row is the choice, but for 1650 Hz while Tr runs.
-abbrev pub chosen : ℕ → ℕ → ℕ → ℕ
-chosen tr heard ms = cond (eqb heard none || held_back tr heard || ltb ms (length_of heard)) 0 heard
+-- A tone that lasts its length in a row is the choice.
+abbrev pub reached : ℕ → ℕ → ℕ → ℕ
+reached tone ms length = cond (ltb ms length) 0 tone
 
--- What a ms counts: what is heard, in a row; the timetable's ms; the choice; Tr.
-unfoldable pub counted_ms : Calling → ℕ → Calling
-counted_ms s heard =
-    let ms = ms_after s heard in
-    let tr = tr_with s.tr heard in
-    calling heard ms (cond (sends s heard) (place_after s.place) 0) (chosen tr heard ms) tr
-
--- A choice goes first, and stops Tr; so do 400 ms of none, which restart the timetable. If neither comes before it ends,
--- the counts are dropped as if no tone had been heard, and the next ms is the timetable's first.
-unfoldable pub tr_stopped : Calling → Calling
-tr_stopped s =
-    cond (not (eqb s.choice 0) || pause_over s.tone s.ms)
-    (calling s.tone s.ms s.place s.choice 0)
-    (cond (ltb s.tr tr_end) s fresh)
+abbrev pub chosen : ℕ → ℕ → ℕ
+chosen heard ms = cond (eqb heard none) 0 (reached heard ms (length_of heard))
 
 -- One ms, by what is heard in it: what is sent, and the state after it. The choice is for good, and nothing is sent any
 -- more.
@@ -67,7 +53,10 @@ unfoldable pub sent_ms : Calling → ℕ → ℕ
 sent_ms s heard = cond (eqb s.choice 0 && sends s heard) (value_at s.place) nothing
 
 unfoldable pub calling_ms : Calling → ℕ → Calling
-calling_ms s heard = cond (eqb s.choice 0) (tr_stopped (counted_ms s heard)) s
+calling_ms s heard =
+    cond (eqb s.choice 0)
+    (calling heard (ms_after s heard) (cond (sends s heard) (place_after s.place) 0) (chosen heard (ms_after s heard)))
+    s
 
 -- The ms of a list, one after the other: the state after them, and one sent ms for each.
 abbrev pub after : Calling → List ℕ → Calling

@@ -6,12 +6,6 @@ use Rattle.lists.specs.Lists.{all_at_most}
 abbrev pub none : ℕ
 none = 0
 
-abbrev pub tone1650 : ℕ
-tone1650 = 4
-
-abbrev pub tone980 : ℕ
-tone980 = 7
-
 -- A tone, and the ms that it must last in a row to be the choice.
 pub record Lasts : Type 0 where
   pub tone : ℕ

@@ -1,35 +1,38 @@
 // The calling set: what it sends, and the tone that it chooses among those it hears.
-ghost use Rattle.std.specs.Prelude.{◌≡◌, ◌<◌};
-ghost use Rattle.calling.specs.Timer.{tr_end};
-ghost use Rattle.calling.specs.Set.{fresh, in_range, sends, chosen, pause_over, counted_ms, enough, tr_stopped, calling_ms, sent_ms};
-ghost use Rattle.calling.specs.Entry.{choice_of};
+#![tactic(auto)]
+
+ghost use Rattle.std.specs.Prelude.{◌≡◌, ◌≤◌, length};
+ghost use Rattle.std.proofs.lemmas.List.Edits.{sets};
+ghost use Rattle.calling.specs.Set.{fresh, in_range, pause_over, reached, calling_ms, sent_ms, after, sent_of};
+ghost use Rattle.calling.specs.Entry.{ran_of, sent_after, choice_of};
 
 pub mod counting;
-pub mod timer;
 pub mod timetable;
 pub mod tones;
 
-// A calling set's state: the ms in a row of what was heard last, the place in the timetable, what was heard last, the
-// choice, 0 until one is made, and the timer Tr, 0 while it does not run.
+// The ms of none in a row after a tone that make the next ms the timetable's first.
+pub const PAUSE: u16 = 400;
+
+// A calling set's state: the ms in a row of what was heard last, the place in the timetable, what was heard last, and
+// the choice, 0 until one is made.
 #[repr(C)]
-#[derive(Drop)]
+#[derive(Clone, Copy)]
 pub struct Calling {
     pub ms: u16,
     pub place: u16,
     pub tone: u8,
     pub choice: u8,
-    pub tr: u16,
 }
 
 // The state after a ms, and what was sent in it.
-#[derive(Drop)]
+#[derive(Clone, Copy)]
 pub struct Stepped {
     pub state: Calling,
     pub sent: u8,
 }
 
 // The state after a run, and 0 or the number of the refusal.
-#[derive(Drop)]
+#[derive(Clone, Copy)]
 pub struct Ran {
     pub state: Calling,
     pub answer: u8,
@@ -37,7 +40,7 @@ pub struct Ran {
 
 // 0 and the choice, or the number of the refusal and 0.
 #[repr(C)]
-#[derive(Drop)]
+#[derive(Clone, Copy)]
 pub struct CallingChosen {
     pub answer: u8,
     pub choice: u8,
@@ -48,11 +51,10 @@ impl Calling {
         ensures { result ≡ fresh }
     {
         Calling {
-            ms: counting::PAUSE,
+            ms: PAUSE,
             place: 0,
             tone: tones::NONE,
             choice: 0,
-            tr: 0,
         }
     }
 }
@@ -64,70 +66,21 @@ fn pause_over(tone: u8, ms: u16) -> bool
     if tone != tones::NONE {
         return false;
     }
-    counting::PAUSE <= ms
+    PAUSE <= ms
 }
 
-// Is this ms one of the timetable's?
-pub fn sends(s: Calling, heard: u8) -> bool
-    ensures { result ≡ sends s heard }
-{
-    if heard != tones::NONE {
-        return false;
-    }
-    pause_over(s.tone, s.ms)
-}
-
-// The choice that a ms makes, or 0.
-fn chosen(tr: u16, heard: u8, ms: u16, length: u16) -> u8
-    requires { length ≡ enough heard }
-    ensures { result ≡ chosen tr heard ms }
+// The tone, if it has lasted its length, or 0.
+fn reached(tone: u8, ms: u16, length: u16) -> u8
+    ensures { result ≡ reached tone ms length }
 {
     if ms < length {
         return 0;
     }
-    if timer::holds_back(tr, heard) {
-        return 0;
-    }
-    heard
-}
-
-// What a ms counts that is none of the timetable's.
-fn counted(s: Calling, heard: u8) -> Calling
-    requires tr_lt_tr_end { s.tr < tr_end }
-    requires heard_value { sends s heard ≡ false }
-    ensures { result ≡ counted_ms s heard }
-{
-    let tr = timer::with_ms(s.tr, heard);
-    let length = counting::enough(heard);
-    let ms = counting::counted(s.tone, s.ms, heard, length);
-    Calling {
-        ms,
-        place: 0,
-        tone: heard,
-        choice: chosen(tr, heard, ms, length),
-        tr,
-    }
-}
-
-// What a choice, the pause and its end make of Tr.
-fn tr_stopped(s: Calling) -> Calling
-    ensures { result ≡ tr_stopped s }
-{
-    if s.choice != 0 {
-        return Calling { tr: 0, ..s };
-    }
-    if pause_over(s.tone, s.ms) {
-        return Calling { tr: 0, ..s };
-    }
-    if s.tr < timer::END {
-        return s;
-    }
-    Calling::fresh()
+    tone
 }
 
 // One ms.
 pub fn step(s: Calling, heard: u8) -> Stepped
-    requires { s.tr < tr_end }
     ensures { result ≡ record { state = calling_ms s heard; sent = sent_ms s heard } }
 {
     if s.choice != 0 {
@@ -136,21 +89,36 @@ pub fn step(s: Calling, heard: u8) -> Stepped
             sent: timetable::NOTHING,
         };
     }
-    if sends(s, heard) {
-        let now = timetable::section(s.place);
+    if heard != tones::NONE {
+        let length = tones::length(heard);
+        let ms = counting::counted(s.tone, s.ms, heard, length);
         return Stepped {
             state: Calling {
-                place: timetable::next(s.place),
-                tr: 0,
-                ..s
+                ms,
+                place: 0,
+                tone: heard,
+                choice: reached(heard, ms, length),
             },
-            sent: now.value,
+            sent: timetable::NOTHING,
         };
     }
-    let state = tr_stopped(counted(s, heard));
+    if !pause_over(s.tone, s.ms) {
+        return Stepped {
+            state: Calling {
+                ms: counting::counted(s.tone, s.ms, tones::NONE, PAUSE),
+                place: 0,
+                tone: tones::NONE,
+                ..s
+            },
+            sent: timetable::NOTHING,
+        };
+    }
     Stepped {
-        state,
-        sent: timetable::NOTHING,
+        state: Calling {
+            place: timetable::next(s.place),
+            ..s
+        },
+        sent: timetable::value(s.place),
     }
 }
 
@@ -167,13 +135,62 @@ pub fn in_range(s: Calling) -> bool
     if s.ms < 1 {
         return false;
     }
-    if counting::LONGEST < s.ms {
+    if tones::LONGEST < s.ms {
         return false;
     }
-    if timetable::PERIOD <= s.place {
-        return false;
+    s.place < timetable::PERIOD
+}
+
+// The ms of a run, one after the other.
+fn run_all(s: Calling, tones: &[u8], sent: &mut [u8]) -> Calling
+    requires { length tones.now ≤ length sent.old }
+    ensures value { result ≡ after s tones.now }
+    ensures sent_after { sent.new ≡ sets sent.old 0 (sent_of s tones.now) }
+{
+    let mut state = s;
+    let mut i: usize = 0;
+    while i < tones.len() {
+        let x = step(state, tones[i]);
+        sent[i] = x.sent;
+        state = x.state;
+        i += 1;
     }
-    s.tr < timer::END
+    state
+}
+
+// A run by value.
+pub fn run(s: Calling, tones: &[u8], sent: &mut [u8]) -> Ran
+    ensures { (result ≡ ran_of s tones.now (length sent.old))
+        × (sent.new ≡ sent_after s tones.now sent.old) }
+{
+    if !in_range(s) {
+        return Ran {
+            state: s,
+            answer: 12,
+        };
+    }
+    if lists::checks::MOST_MS < tones.len() {
+        return Ran {
+            state: s,
+            answer: 5,
+        };
+    }
+    if !lists::checks::all_at_most(tones, tones::LAST) {
+        return Ran {
+            state: s,
+            answer: 11,
+        };
+    }
+    if sent.len() < tones.len() {
+        return Ran {
+            state: s,
+            answer: 7,
+        };
+    }
+    Ran {
+        state: run_all(s, tones, sent),
+        answer: 0,
+    }
 }
 
 // The choice, 0 until one is made.

@@ -174,7 +174,8 @@ row-long : (n k t : ℕ) → (t ≡ none → ⊥) → suc (k + n) ≡ length_of 
 unfolding all_short
 row-long zero k t z h = simp (ne_eqb t none z, eq-eqb t t refl, le-ltb (k + 1) (length_of t) (omega arith))
 row-long (suc n) k t z h =
-    simp (ne_eqb t none z, eq-eqb t t refl, row-long n (k + 1) t z (omega arith)) (and-false (ltb (k + 1) (length_of t)))
+    simp (ne_eqb t none z, eq-eqb t t refl, row-long n (k + 1) t z (omega arith))
+    (and-false (ltb (k + 1) (length_of t)))
 
 -- the same of a tone that comes after something else
 first_short : (n u m t : ℕ) → (t ≡ u → ⊥) → n < length_of t → all_short u m (replicate n t) ≡ true

@@ -117,7 +117,8 @@ unfolding timetable total period lengths length_in length_of fresh in_range
 fresh-in-range = refl
 
 -- the tones of a run that succeeds keep range
-pub after-in-range : (s : Calling) (hs : List ℕ) → all_tones hs ≡ true → in_range s ≡ true → in_range (after s hs) ≡ true
+pub after-in-range : (s : Calling) (hs : List ℕ) → all_tones hs ≡ true → in_range s ≡ true → in_range (after s hs)
+    ≡ true
 after-in-range s hs e r =
     calling-is (after s hs) (after-keeps-most CallingIn calling_ms last_tone ms-in-range s hs e (calling-in s r))
 

@@ -31,8 +31,6 @@ module _ (x : Measured) (heard sent words : List ℕ) where
       pub station : y ≡ drifts.station
       pub sent_is : zs ≡ sent_after x r heard (length words) sent
       pub words_are : ws ≡ words_after x r heard (length sent) words
-      pub sent_long : length zs ≡ length sent
-      pub words_long : length ws ≡ length words
 
     -- and of the report
     pub record Drifts (g : StationRan) (y : Measured) (p : Report) (zs ws : List ℕ) : Type 0 where
@@ -65,8 +63,6 @@ module _ (x : Measured) (heard sent words : List ℕ) where
             station = sym (ap (λ (k : Entered). k.station) g);
             sent_is = sym (refused-sent x r heard (length words) sent ne);
             words_are = sym (refused-words x r heard (length sent) words ne);
-            sent_long = refl;
-            words_long = refl;
           };
           report = sym (ap (λ (k : Entered). k.report) g);
         }
@@ -96,8 +92,6 @@ module _ (x : Measured) (heard sent words : List ℕ) where
           station = k.station ∙ ap (λ (m : StationRan × Measured). m.1) same-told;
           sent_is = k.sent_is ∙ same-slices.0;
           words_are = k.words_are ∙ same-slices.1;
-          sent_long = k.sent_long;
-          words_long = k.words_long;
         }
 
   -- a run with the report r, whose count answers n and gives the report p

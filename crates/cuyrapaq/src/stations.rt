@@ -10,7 +10,7 @@ use station::Measured;
 
 // What a run gives: 0 or the number of the refusal, and how many words were written.
 #[repr(C)]
-#[derive(Drop)]
+#[derive(Clone, Copy)]
 pub struct StationRan {
     pub answer: u8,
     pub words: usize,

@@ -87,7 +87,8 @@ module _ (mode : Mode) where
       let sent_fits = leb (length heard) (length sent) in
       let words_fit = leb (length heard) (length words) in
       let edges_few = leb (report_after s report heard).edges 65_536 in
-      let levels : all_at_most (highest_level (mode_of_station (station_of s))) heard ≡ all_at_most (highest_level mode) heard =
+      let levels : all_at_most (highest_level (mode_of_station (station_of s))) heard
+      ≡ all_at_most (highest_level mode) heard =
       λ i. all_at_most (highest_level (mode-same mode (station_of s) m r h.like i)) heard in
       run-succeeds s report heard sent words
       ∙ (λ i. eqb (cond (h.ranged i && report_in report)

@@ -48,7 +48,8 @@ use Rattle.demand3.proofs.StationLike.{Like, Matches, mode-same, sent-same, even
 abbrev offered_text : Measured → List ℕ → Measured
 offered_text s text = measured (offered_to (station_of s) text) s.edges
 
-offer-yes : (s : Measured) (text : List ℕ) → offer_answer s text ≡ 0 → offer_of s text ≡ answered (offered_text s text) 0
+offer-yes : (s : Measured) (text : List ℕ) → offer_answer s text ≡ 0 → offer_of s text
+    ≡ answered (offered_text s text) 0
 unfolding offer_of
 offer-yes s text e = rw e refl
 
@@ -281,7 +282,8 @@ module _ (mode : Mode) where
       → CallLike c s m r (told_for m s c)
   call-like (OfferCall text) s m r h = go (eqb (offer_answer s text) 0) refl
     where
-      go : (b : Bool) → eqb (offer_answer s text) 0 ≡ b → CallLike (OfferCall text) s m r (told_for m s (OfferCall text))
+      go : (b : Bool) → eqb (offer_answer s text) 0 ≡ b → CallLike (OfferCall text) s m r
+          (told_for m s (OfferCall text))
       go true e = offers text s m r (eqb-true (offer_answer s text) 0 e) h
       go false e = refused (OfferCall text) s m r (offer-succeeds s text ∙ e) h
   call-like (RunCall report heard sent words) s m r h = go (eqb (answer_to s report heard sent words) 0) refl

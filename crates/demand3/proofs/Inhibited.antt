@@ -76,7 +76,8 @@ module _ (mode : Mode) where
       inhibited-less steps (ms_by mode begins ends m x) n b.1 (omega arith)
 
   -- the reader stays in range
-  pub told_in : (steps : List Told) (m : Model) (r : Reader) → all_at_most 16 (told_heard steps) ≡ true → ReaderIn mode r
+  pub told_in : (steps : List Told) (m : Model) (r : Reader) → all_at_most 16 (told_heard steps) ≡ true
+      → ReaderIn mode r
       → ReaderIn mode (told_reader mode m r steps)
   unfolding told_reader told_heard
   told_in [] m r l h = h

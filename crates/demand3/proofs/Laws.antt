@@ -18,7 +18,6 @@ use Rattle.alphabet.specs.declared.Mode.TheVariants.{Baudot45, Baudot50, Dtmf, E
 use Rattle.alphabet.specs.declared.Reads.TheVariants.{Character}
 use Rattle.alphabet.specs.declared.Sends.{Sends}
 use Rattle.alphabet.specs.declared.Sends.TheVariants.{Code}
-use Rattle.alphabet.specs.Print.{keys}
 use Rattle.alphabet.specs.Dtmf.{keys_of, read_dtmf}
 use Rattle.alphabet.specs.Modes.{preamble_of, alphabet_of, codes}
 use Rattle.alphabet.specs.Normal.{sends, reads, chars_of, read_back, normal, normal_form}

@@ -39,7 +39,8 @@ part-some preamble-1 = refl
 part-some shift-2 = refl
 part-some own-2 = refl
 
-opening-same : {part : Part} {n : ℕ} → PartNo part n → (a : Alphabet) → (eqb n 1 && opens_with_shift a) ≡ is_opening a part
+opening-same : {part : Part} {n : ℕ} → PartNo part n → (a : Alphabet) → (eqb n 1 && opens_with_shift a)
+    ≡ is_opening a part
 opening-same preamble-1 a = refl
 opening-same shift-2 a = refl
 opening-same own-2 a = refl

@@ -230,7 +230,8 @@ module _ (mode : Mode) (s : Station) (m : Model) (r : Reader) (h : Like mode s m
         ∙ ap (λ (b : Bool). event_ms mode (inhibited_by mode b m) r heard) begins-same
 
     abbrev LikeBy : Bool → Bool → Type 0
-    LikeBy begins ends = Like mode (station_ms s heard) (ms_by mode begins ends m heard) (reader_by mode begins m r heard)
+    LikeBy begins ends = Like mode (station_ms s heard) (ms_by mode begins ends m heard)
+        (reader_by mode begins m r heard)
 
     pub ms-like : heard ≤ highest_level mode → LikeBy (begins_in m) (ends_in mode m)
     unfolding station_ms settled core_from
@@ -240,7 +241,8 @@ module _ (mode : Mode) (s : Station) (m : Model) (r : Reader) (h : Like mode s m
         let b = core.begins_in s.core in
         let e = core.ends_in s.core (settled_of b s) in
         let told = ms-like-by b e heard i (ms-full s heard h.full) in
-        subst (λ (begins : Bool). LikeBy begins (ends_in mode m)) begins-same (subst (LikeBy b) (ends_same heard i) told)
+        subst (λ (begins : Bool). LikeBy begins (ends_in mode m)) begins-same
+        (subst (LikeBy b) (ends_same heard i) told)
 
   -- an offer that succeeds
   pub offer-like : (cs : List ℕ) → Accepted s cs

@@ -67,7 +67,8 @@ abbrev pub shift_begins : Mode → List ℕ → ℕ → Loaded
 shift_begins mode waiting w = loaded waiting (Sending ShiftCode (signal mode (shift_code w))) (sender w 0) []
 
 abbrev pub own_begins : Mode → ℕ → List ℕ → Sender → LineCode → Loaded
-own_begins mode c cs s k = loaded cs (Sending OwnCode (signal mode k.0)) (sender_after_own (alphabet_of mode) s) (c ∷ [])
+own_begins mode c cs s k = loaded cs (Sending OwnCode (signal mode k.0)) (sender_after_own (alphabet_of mode) s)
+    (c ∷ [])
 
 -- The front character is next: a shift code where one is wanted ahead of it, else its own code. (A character that sends
 -- nothing never waits.)

@@ -48,7 +48,8 @@ pub record HandsOut (e : Example) (k : ℕ) : Type 0 where
 pub words-45 : HandsOut baudot45 315
 unfolding baudot45 calls_b45 line45
     chars all_at_most state_after outputs joined sends reads signal signals
-    waiters all_wait room offered queue_in may_begin may_end part_ms is_over begun code_begins next_code level_on one_gone closed
+    waiters all_wait room offered queue_in may_begin may_end part_ms is_over begun code_begins next_code level_on
+    one_gone closed
     silence_after settled core_from core_in fresh_station has_del offered_to station_ms event_of in_range
     waiting_ms counted_in measured_ms measured_in report_in edges_in joined_edges edges_ms counted_ms is_edge with_ms
     open_of offer_answer offer_of run_answer ran_of words_after heard_in up_to
@@ -60,19 +61,23 @@ words-45 = record { earlier = refl; all = refl }
 pub words-dtmf : HandsOut dtmf 120
 unfolding dtmf calls_bkeys
     chars all_at_most state_after outputs joined sends reads signal signals
-    waiters all_wait room offered queue_in may_begin may_end part_ms is_over begun code_begins next_code level_on one_gone closed
+    waiters all_wait room offered queue_in may_begin may_end part_ms is_over begun code_begins next_code level_on
+    one_gone closed
     silence_after settled core_from core_in fresh_station has_del offered_to station_ms event_of in_range
     waiting_ms counted_in measured_ms measured_in report_in edges_in joined_edges edges_ms counted_ms
     open_of offer_answer offer_of run_answer ran_of words_after heard_in up_to
     placed sample_at samples_of sampled frame_step last_ms key_step hear inhibited words_of
-    keys prefixes keys_of held_keys with_mark code_from marks_then_digit among not_struck remaining names first_sign named
-    read_in read_dtmf send_in has_row send_from send_dtmf left_rows right_rows rows b1 b2 printed_at key_event prefix_after
+    keys prefixes keys_of held_keys with_mark code_from marks_then_digit among not_struck remaining names first_sign
+    named
+    read_in read_dtmf send_in has_row send_from send_dtmf left_rows right_rows rows b1 b2 printed_at key_event
+    prefix_after
 words-dtmf = record { earlier = refl; all = refl }
 
 pub words-edt : HandsOut edt 0
 unfolding edt calls_bedt
     chars all_at_most state_after outputs joined sends reads signal signals
-    waiters all_wait room offered queue_in may_begin may_end part_ms is_over begun code_begins next_code level_on one_gone closed
+    waiters all_wait room offered queue_in may_begin may_end part_ms is_over begun code_begins next_code level_on
+    one_gone closed
     silence_after settled core_from core_in fresh_station has_del offered_to station_ms event_of in_range
     waiting_ms counted_in measured_ms measured_in report_in edges_in joined_edges edges_ms counted_ms
     open_of offer_answer offer_of run_answer ran_of words_after heard_in up_to

@@ -267,7 +267,8 @@ module _ (e : Example) (k : ℕ) (c : Passes e k) where
 -- ---- the instances
 
 passes-45 : Passes baudot45 315
-unfolding all_true tests premise_tests no_burst ends_idle same offers_none front_ms back_ms is_plain all_plain accepts model_steps
+unfolding all_true tests premise_tests no_burst ends_idle same offers_none front_ms back_ms is_plain all_plain accepts
+    model_steps
     baudot45 calls_a45 line45 calls_b45
     chars waiters heard_in offered may_begin may_end begun code_begins next_code load level_on one_gone ended closed did
     ms_after model_after does taken_in all_at_most sends signal signals synchronizes until_synchronized
@@ -275,7 +276,8 @@ unfolding all_true tests premise_tests no_burst ends_idle same offers_none front
 passes-45 = (refl, refl)
 
 passes-50 : Passes baudot50 300
-unfolding all_true tests premise_tests no_burst ends_idle same offers_none front_ms back_ms is_plain all_plain accepts model_steps
+unfolding all_true tests premise_tests no_burst ends_idle same offers_none front_ms back_ms is_plain all_plain accepts
+    model_steps
     baudot50 calls_a50 line50 later_line50 last_line50 calls_b50
     chars waiters heard_in offered may_begin may_end begun code_begins next_code load level_on one_gone ended closed did
     ms_after model_after does taken_in all_at_most sends signal signals synchronizes until_synchronized
@@ -283,16 +285,19 @@ unfolding all_true tests premise_tests no_burst ends_idle same offers_none front
 passes-50 = (refl, refl)
 
 passes-dtmf : Passes dtmf 120
-unfolding all_true tests premise_tests no_burst ends_idle same offers_none front_ms back_ms is_plain all_plain accepts model_steps
+unfolding all_true tests premise_tests no_burst ends_idle same offers_none front_ms back_ms is_plain all_plain accepts
+    model_steps
     dtmf calls_akeys calls_bkeys
     chars waiters heard_in offered may_begin may_end begun code_begins next_code load level_on one_gone ended closed did
     ms_after model_after does taken_in all_at_most sends signal signals synchronizes until_synchronized
-    keys prefixes keys_of held_keys with_mark code_from marks_then_digit among not_struck remaining names first_sign named
+    keys prefixes keys_of held_keys with_mark code_from marks_then_digit among not_struck remaining names first_sign
+    named
     send_in has_row send_from send_dtmf left_rows right_rows rows b1 b2 printed_at
 passes-dtmf = (refl, refl)
 
 passes-edt : Passes edt 0
-unfolding all_true tests premise_tests no_burst ends_idle same offers_none front_ms back_ms is_plain all_plain accepts model_steps
+unfolding all_true tests premise_tests no_burst ends_idle same offers_none front_ms back_ms is_plain all_plain accepts
+    model_steps
     edt calls_aedt calls_bedt
     chars waiters heard_in offered may_begin may_end begun code_begins next_code load level_on one_gone ended closed did
     ms_after model_after does taken_in all_at_most sends signal signals synchronizes until_synchronized
@@ -306,7 +311,8 @@ inhibited-model : (all_plain (take 5 calls_bkeys) ≡ true)
 unfolding is_plain all_plain accepts model_steps calls_bkeys
     chars waiters offered may_begin may_end begun code_begins next_code load level_on one_gone ended closed did
     ms_after model_after all_at_most sends signal
-    keys prefixes keys_of held_keys with_mark code_from marks_then_digit among not_struck remaining names first_sign named
+    keys prefixes keys_of held_keys with_mark code_from marks_then_digit among not_struck remaining names first_sign
+    named
     send_in has_row send_from send_dtmf left_rows right_rows rows b1 b2 printed_at
 inhibited-model = (refl, refl)
 
@@ -330,7 +336,8 @@ unfolding reads50 same accepts model_steps baudot50 line50 later_line50 last_lin
     chars waiters has_del offered may_begin may_end begun code_begins next_code load level_on one_gone ended closed did
     ms_after model_after all_at_most sends reads signal signals
     wanted send_baudot read_baudot printed_at left_rows right_rows rows bits bits_from a1 a2 digits held baudot_signal
-    told_of told_events ms_by inhibited_by hear inhibited words_of placed sample_at samples_of sampled frame_step baudot_kinds
+    told_of told_events ms_by inhibited_by hear inhibited words_of placed sample_at samples_of sampled frame_step
+    baudot_kinds
 reads-50 = refl
 
 words-50 : HandsOut baudot50 300

@@ -176,8 +176,10 @@ dtmf-computed : Computes (missed 299) 0 idle299 × Computes (missed 300) 10 hear
 unfolding outcome as_concluded missed own_burst opened_late idle299 hears39 idle40 opened
     premise_tests no_burst ends_idle same offers_none front_ms back_ms is_plain all_plain accepts model_steps
     chars waiters heard_in offered may_begin may_end begun code_begins next_code load level_on one_gone ended closed did
-    ms_after model_after does taken_in all_at_most sends reads signal signals normal_form synchronizes until_synchronized
-    keys prefixes keys_of held_keys with_mark code_from marks_then_digit among not_struck remaining names first_sign named
+    ms_after model_after does taken_in all_at_most sends reads signal signals normal_form synchronizes
+    until_synchronized
+    keys prefixes keys_of held_keys with_mark code_from marks_then_digit among not_struck remaining names first_sign
+    named
     read_in read_dtmf send_in has_row send_from send_dtmf left_rows right_rows rows b1 b2 printed_at
     told_of told_events ms_by inhibited_by hear inhibited words_of key_step key_event prefix_after
 dtmf-computed = ((refl, refl), (refl, refl), (refl, refl), (refl, refl))
@@ -223,10 +225,13 @@ later40 d ds steps = leb (d.start + 260) d.asked
 baudot-computed : Computes del_offered 9 none_waits × Computes in_frame 1 later40
 unfolding outcome as_concluded del_offered in_frame none_waits later40
     premise_tests no_burst ends_idle same offers_none front_ms back_ms is_plain all_plain accepts model_steps
-    chars waiters has_del heard_in offered may_begin may_end begun code_begins next_code load level_on one_gone ended closed did
-    ms_after model_after does taken_in all_at_most sends reads signal signals normal_form synchronizes until_synchronized
+    chars waiters has_del heard_in offered may_begin may_end begun code_begins next_code load level_on one_gone ended
+    closed did
+    ms_after model_after does taken_in all_at_most sends reads signal signals normal_form synchronizes
+    until_synchronized
     wanted send_baudot read_baudot printed_at left_rows right_rows rows bits bits_from a1 a2 digits held baudot_signal
-    told_of told_events ms_by inhibited_by hear inhibited words_of last_ms placed sample_at samples_of sampled frame_step
+    told_of told_events ms_by inhibited_by hear inhibited words_of last_ms placed sample_at samples_of sampled
+    frame_step
     baudot_kinds
 baudot-computed = ((refl, refl), (refl, refl))
 

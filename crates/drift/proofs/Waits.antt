@@ -95,7 +95,8 @@ module _ (n m : ℕ) (line : OnLine) (sender : Sender) (chars : List ℕ) where
         let low = (core-in s i).silence_in in
         let high = leb-true free_ms silence e in
         let free : silence ≡ free_ms = omega arith in
-        let left : ms_left s ≡ busy_ms mode line sender free_ms (waiting_of (queue n chars)) = rw (b, some, free) refl in
+        let left : ms_left s ≡ busy_ms mode line sender free_ms (waiting_of (queue n chars)) =
+        rw (b, some, free) refl in
         let from : 0 + after ≡ ms_left s + 300 = omega arith in
         let none : 0 - deaf ≡ 0 = omega arith in
         report-burst y r heard full i (burst-begins s b (may-begin silence e)) (rw (b, some) refl) is f.none
@@ -119,7 +120,8 @@ module _ (n m : ℕ) (line : OnLine) (sender : Sender) (chars : List ℕ) where
         abbrev one_less : suc deaf - 1 ≡ deaf
         one_less = omega arith
 
-        deaf-next : station_ms (station_of y) x ≡ station_of (at (silence_after true silence) deaf (inhibited q) no_edges)
+        deaf-next : station_ms (station_of y) x ≡ station_of (at (silence_after true silence) deaf (inhibited q)
+            no_edges)
         deaf-next =
             ms-still (station_of y) b (not_yet silence busy) x
             ∙ (λ j.

@@ -84,7 +84,8 @@ module _ (y : Measured) (r : Report) (heard : List ℕ) where
         let all = take_all (length heard - deaf) (drop deaf heard) (omega arith) in
         report-deaf deaf y r heard (deaf-idle deaf (station_of y) b (eqb-true c.waiting 0 e) refl) is fine.none
         ∙ sym (λ j.
-        report_over mode hunting no_edges (report_over mode (frame_behind deaf f) (edges_behind deaf w) r (all j)) (none j))
+        report_over mode hunting no_edges (report_over mode (frame_behind deaf f) (edges_behind deaf w) r (all j))
+        (none j))
 
     pub whole : Told (burst_at c heard)
     unfolding burst_at

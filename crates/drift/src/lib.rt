@@ -1,5 +1,7 @@
 // The report of a run: the edges that count in it, told before anything is written. What is heard before a burst and
 // after it is measured frame by frame.
+#![tactic(auto)]
+
 ghost use Rattle.std.specs.Prelude.{◌≡◌, true, ◌+◌, ◌*◌, ◌≤◌, length};
 ghost use Rattle.lists.specs.Lists.{all_at_most};
 ghost use Rattle.alphabet.specs.Modes.{highest_level};

@@ -6,7 +6,7 @@ use Prim.Native.Nat.{ℕ, ◌+◌, ◌-◌, ◌≤◌, ◌<◌}
 use native.Mathlib.Omega.{arith}
 use lib.Dec.{T, eqb, leb}
 use borrow.Author.Tests.{lt-leb}
-use Rattle.lists.proofs.Lists.{either, either-by, by-test}
+use Rattle.lists.proofs.Lists.{either, by-test}
 use Rattle.alphabet.specs.declared.Mode.{Mode}
 use Rattle.alphabet.specs.Modes.{element_of}
 use Rattle.signal.specs.Signal.{parity_of}
@@ -21,7 +21,7 @@ use Rattle.edges.specs.declared.Report.{Report}
 use Rattle.edges.specs.declared.Edges.{Edges}
 use Rattle.edges.specs.Edges.{no_edge, no_edges, one_edge, joined, is_edge, displacement, with_ms, is_measured, is_code, edges_ms, counted_ms}
 use Rattle.edges.specs.code.Bounds.{ReportOf}
-use Rattle.edges.proofs.Range.{more_of, none_of, one_of, joined_of, joined-edges, element-few, element-some, edges-measured, counted-measured, none-counted}
+use Rattle.edges.proofs.Range.{none_of, one_of, joined_of, joined-edges, element-few, element-some, edges-measured, counted-measured, none-counted}
 
 -- ---- a code ends its frame
 
@@ -38,7 +38,8 @@ sampled-ends Start m digits heard = either Ends (eqb heard 2) (goes_on m digits)
 sampled-ends (Digit top) m digits heard =
     either Ends (eqb heard 0) (faulty Quiet m) (goes_on m (with_digit top digits heard)) no_code no_code
 sampled-ends Parity m digits heard =
-    tested Ends m heard (eqb (parity_of digits) (parity_heard heard)) (goes_on m digits) OddParity no_code no_code no_code
+    tested Ends m heard (eqb (parity_of digits) (parity_heard heard)) (goes_on m digits) OddParity no_code no_code
+    no_code
 sampled-ends Stop m digits heard =
     tested Ends m heard (eqb heard 1) (goes_on m digits) StopNotMark no_code no_code no_code
 sampled-ends Last m digits heard =

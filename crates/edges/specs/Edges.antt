@@ -77,7 +77,8 @@ going_on mode q = is_measured mode && leb 2 q.frame.place
 
 unfoldable pub edges_ms : Mode → Frame → Edges → ℕ → Edges
 edges_ms mode f w heard =
-    cond (going_on mode (frame_step (samples_of mode) f heard)) (with_ms (element_of mode) (f.place - 1) w heard) no_edges
+    cond (going_on mode (frame_step (samples_of mode) f heard)) (with_ms (element_of mode) (f.place - 1) w heard)
+    no_edges
 
 -- They count in the ms of the stop sample, which finds the code.
 abbrev pub ending : Mode → FrameRead → Bool

@@ -1,4 +1,6 @@
 // Edges of Baudot frames: which are early and which late, and reports of them.
+#![tactic(auto)]
+
 ghost use Rattle.std.specs.Prelude.{◌≡◌, true, ◌&&◌, ◌+◌, ◌-◌, ◌≤◌, ◌<◌, eqb, leb, ltb, nat_abs};
 ghost use Rattle.alphabet.specs.Modes.{element_of};
 ghost use Rattle.signal.specs.Signal.{quiet};
@@ -11,7 +13,7 @@ use frames::Frame;
 
 // A report: how many edges, the sum of their displacements in ms, the smallest and the largest; negative if early.
 #[repr(C)]
-#[derive(Drop)]
+#[derive(Clone, Copy)]
 pub struct Report {
     pub edges: u32,
     pub sum: i32,
@@ -21,7 +23,7 @@ pub struct Report {
 
 // The edges of the frame so far, and the level of its latest ms.
 #[repr(C)]
-#[derive(Drop)]
+#[derive(Clone, Copy)]
 pub struct Edges {
     pub seen: Report,
     pub level: u8,

@@ -1,16 +1,12 @@
 -- Where a frame ends: from sample to sample, and from frame to frame.
 use mathlib.Core.Path.{◌≡◌, ◌∙◌, refl, ap}
-use mathlib.Core.List.{List, [], ◌∷◌}
-use mathlib.Core.Logic.{⊎_elim}
+use mathlib.Core.List.{List}
 use Prim.Native.Nat.{ℕ, ◌+◌, ◌-◌, ◌≤◌, ◌<◌}
 use native.Mathlib.Omega.{arith}
 use lib.ListN.{length, get_or}
-use types.Run.{OneOf}
-use denote.Enum.Declared
 use Rattle.alphabet.specs.declared.Mode.{Mode}
 use Rattle.frames.specs.declared.Frame.{Frame}
 use Rattle.frames.specs.declared.FrameRead.{FrameRead}
-use Rattle.frames.specs.contracts.samples.Effect as declared
 use Rattle.frames.specs.declared.samples.Effect.{Effect}
 use Rattle.frames.specs.declared.samples.Effect.TheVariants.{On, Hunts, Breaks, Ends}
 use Rattle.frames.specs.Samples.{samples_of}
@@ -32,8 +28,8 @@ Stopped (Breaks cause) = Unit {0}
 Stopped Ends = Unit {0}
 
 -- what is left if it is told that it does not
-pub stopped : (e : Effect) → OneOf (1 ∷ 2 ∷ 3 ∷ []) (Declared.tag_of declared.the_type e) → Stopped e
-stopped (On d) p = ⊎_elim (λ t. absurd (omega arith)) (⊎_elim (λ t. absurd (omega arith)) (λ t. absurd (omega arith))) p
+pub stopped : (e : Effect) → ((d : ℕ) → e ≡ On d → ⊥) → Stopped e
+stopped (On d) p = absurd (p d refl)
 stopped Hunts p = tt
 stopped (Breaks cause) p = tt
 stopped Ends p = tt

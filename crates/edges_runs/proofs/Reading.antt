@@ -79,7 +79,8 @@ module _ (mode : Mode) where
   -- ---- ms behind others
 
   pub edges-append : (f : Frame) (w : Edges) (xs ys : List ℕ)
-      → edges_over mode f w (xs ++ ys) ≡ edges_over mode (frame_after (samples_of mode) f xs) (edges_over mode f w xs) ys
+      → edges_over mode f w (xs ++ ys) ≡ edges_over mode (frame_after (samples_of mode) f xs) (edges_over mode f w xs)
+      ys
   unfolding edges_over state_after
   edges-append f w [] ys = refl
   edges-append f w (x ∷ xs) ys = edges-append (next f x) (edges_ms mode f w x) xs ys
@@ -120,7 +121,8 @@ module _ (mode : Mode) where
       → joined r (counted_ms mode f w x) ≡ r
   nothing-joined f w r x h n = ap (joined r) n ∙ joined-none r h
 
-  pub walks-after : (f g : Frame) (xs : List ℕ) → Walks (samples_of mode) f xs g → frame_after (samples_of mode) f xs ≡ g
+  pub walks-after : (f g : Frame) (xs : List ℕ) → Walks (samples_of mode) f xs g → frame_after (samples_of mode) f xs
+      ≡ g
   unfolding Walks state_after
   walks-after f g [] s = s
   walks-after f g (x ∷ xs) s = walks-after (next f x) g xs s.1

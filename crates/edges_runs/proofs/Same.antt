@@ -64,7 +64,8 @@ module _ (e m : ℕ) (heard : List ℕ) (from to : ℕ) (fits : to ≤ length he
 
   same_at : (x i j : ℕ) → Through heard i to x j → (k : ℕ) → k < j - i → get_or (part heard i j) k 0 ≡ x
   same_at x i j t k l =
-      rw (get_or-take (j - i) (drop i heard) k 0 l, get_or-drop i heard k 0) (t.same (i + k) (omega arith) (omega arith))
+      rw (get_or-take (j - i) (drop i heard) k 0 l, get_or-drop i heard k 0)
+      (t.same (i + k) (omega arith) (omega arith))
 
   left-same : (w : Edges) (x i j : ℕ) → from ≤ i → w.level ≡ x → Through heard i to x j → left w i ≡ left w j
   left-same w x i j l level t =

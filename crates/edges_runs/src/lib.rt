@@ -1,4 +1,6 @@
 // Edges over many ms: those of a frame that goes on, and those of all frames that end in a code.
+#![tactic(auto)]
+
 ghost use Rattle.std.specs.Prelude.{◌≡◌, true, ◌-◌, ◌≤◌, ◌<◌, length, get_or, take, drop};
 ghost use Rattle.frames.specs.code.Bounds.{Framed, FrameOf};
 ghost use Rattle.frames_runs.specs.code.Passing.{frame_at, Stays};
@@ -16,7 +18,7 @@ use frames::samples::Effect;
 
 // Where a frame ends: its reader's place before the ms that ends it, that ms, the place behind it, and whether a code
 // is found.
-#[derive(Drop)]
+#[derive(Clone, Copy)]
 pub struct Ended {
     pub place: u8,
     pub to: usize,

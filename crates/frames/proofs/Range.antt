@@ -153,7 +153,8 @@ module _ (samples : List Placed) (n : ℕ) (pos : 1 ≤ n) (weigh : (m : ℕ) �
       either Kept (eqb heard 0) (faulty Quiet m) (goes_on m (with_digit top digits heard)) waiting-in
       (on_in m (with_digit top digits heard) h (digit-in top digits heard (eqb-true (2 * top) n w) d))
   ahead Parity m digits heard w h d =
-      tested Kept m heard (eqb (parity_of digits) (parity_heard heard)) (goes_on m digits) OddParity waiting-in waiting-in
+      tested Kept m heard (eqb (parity_of digits) (parity_heard heard)) (goes_on m digits) OddParity waiting-in
+      waiting-in
       (on_in m digits h d)
   ahead Stop m digits heard w h d =
       tested Kept m heard (eqb heard 1) (goes_on m digits) StopNotMark waiting-in waiting-in (on_in m digits h d)
@@ -231,7 +232,8 @@ in-frame-none samples f heard h e =
     ∙ ap (λ (p : ℕ). gives (record { place = p; digits = f.digits }) Nothing) (sym (place-on f.place (omega arith)))
 
 -- the next sample is one of the mode's
-pub number_in : (mode : Mode) (m : ℕ) → 1 ≤ m → m ≤ last_ms (samples_of mode) → number_at mode m < length (samples_of mode)
+pub number_in : (mode : Mode) (m : ℕ) → 1 ≤ m → m ≤ last_ms (samples_of mode)
+    → number_at mode m < length (samples_of mode)
 unfolding number_at last_ms samples_of placed baudot_kinds edt_kinds
 number_in Baudot45 m o h = omega arith
 number_in Baudot50 m o h = omega arith

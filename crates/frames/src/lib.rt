@@ -1,4 +1,6 @@
 // Reading Baudot and EDT: frames, sampled at set places.
+#![tactic(auto)]
+
 ghost use Rattle.std.specs.Prelude.{◌≡◌, ◌-◌, ◌≤◌, ◌<◌};
 ghost use Rattle.frames.specs.Samples.{samples_of};
 ghost use Rattle.frames.specs.Range.{frame_in};
@@ -13,7 +15,7 @@ use alphabet::{LineCode, Mode};
 pub mod samples;
 
 // Why something that was heard gives a fault. A frame has the first three, DTMF the last two.
-#[derive(Drop)]
+#[derive(Clone, Copy)]
 pub enum Cause {
     Quiet,
     StopNotMark,
@@ -25,21 +27,21 @@ pub enum Cause {
 // A reader of frames. Place 0: hunting; 1: waiting after a fault; m + 1: in a frame whose ms m is to come. The digits
 // so far, the latest one at the top.
 #[repr(C)]
-#[derive(Drop)]
+#[derive(Clone, Copy)]
 pub struct Frame {
     pub place: u8,
     pub digits: u8,
 }
 
 // What a ms of a frame ends in: a fault has its cause and its ms.
-#[derive(Drop)]
+#[derive(Clone, Copy)]
 pub enum Found {
     Nothing,
     Fault(Cause, u8),
     Code(LineCode),
 }
 
-#[derive(Drop)]
+#[derive(Clone, Copy)]
 pub struct FrameRead {
     pub frame: Frame,
     pub found: Found,

@@ -8,7 +8,7 @@ use crate::Cause;
 use alphabet::Mode;
 
 // What a sample does: the frame goes on with some digits; the reader hunts; the frame breaks off; its code is found.
-#[derive(Drop)]
+#[derive(Clone, Copy)]
 pub enum Effect {
     On(usize),
     Hunts,

@@ -17,7 +17,7 @@ use Rattle.frames.specs.declared.Found.TheVariants.{Nothing as nothing}
 use Rattle.frames.specs.Samples.{Sample, None, Placed, sample_at, samples_of}
 use Rattle.frames.specs.Frames.{gives, sampled, frame_step, frame_next, frame_found}
 use Rattle.frames.specs.code.Bounds.{Framed, FrameOf, is_found}
-use Rattle.frames.proofs.Range.{digits-128, next-in, in_frame}
+use Rattle.frames.proofs.Range.{digits-128, next-in, in_frame-step}
 use Rattle.frames.specs.declared.samples.Effect.TheVariants.{On, Hunts}
 use Rattle.frames.specs.code.Samples.{number_at, sample_ms, kind_of, Does}
 use Rattle.frames_runs.specs.code.Passing.{frame_at, FramePasses, FrameWalks, place_after, Stays}
@@ -164,7 +164,7 @@ module _ (mode : Mode) where
       let m = place + k - 1 in
       let z : m ≡ place - 1 + k = omega arith in
       let y : m + 1 + 1 ≡ place + suc k = omega arith in
-      in_frame (samples_of mode) (frame_at (place + k) digits) x (omega arith)
+      in_frame-step (samples_of mode) (frame_at (place + k) digits) x (omega arith)
       ∙ ap (λ (a : Sample). sampled a m digits x) (ap (sample_at (samples_of mode)) z ∙ e)
       ∙ ap (λ (n : ℕ). gives (frame_at n digits) nothing) y
 
@@ -266,7 +266,7 @@ module _ (mode : Mode) (framed : Framed mode) (heard : List ℕ) (f : Frame) (h 
       sample-step =
           let low = a.low in
           let z : s + 1 - 1 ≡ s = omega arith in
-          in_frame (samples_of mode) (frame_at (s + 1) digits) x (omega arith)
+          in_frame-step (samples_of mode) (frame_at (s + 1) digits) x (omega arith)
           ∙ ap (λ (m : ℕ). sampled (sample_at (samples_of mode) m) m digits x) z
           ∙ ap (λ (m : ℕ). sampled (sample_at (samples_of mode) m) s digits x) a.ms
 

@@ -9,7 +9,7 @@ use Rattle.frames.specs.Samples.{None, sample_at, samples_of}
 use Rattle.frames.specs.Range.{last_ms}
 use Rattle.frames.specs.code.Bounds.{FrameOf}
 use Rattle.frames.specs.code.Samples.{number_at, sample_ms}
-use Rattle.frames.proofs.Sampling.{count_of, off-samples}
+use Rattle.frames.proofs.Sampling.{length-samples_of, off-samples}
 use Rattle.frames.proofs.Range.{number_in}
 use Rattle.frames_runs.specs.code.Passing.{frame_at}
 
@@ -48,10 +48,10 @@ between mode m k j h e =
     omega arith
 
 pub samples-few : (mode : Mode) → length (samples_of mode) ≤ 11
-samples-few Baudot45 = let n = count_of Baudot45 in omega arith
-samples-few Baudot50 = let n = count_of Baudot50 in omega arith
-samples-few Dtmf = let n = count_of Dtmf in omega arith
-samples-few Edt = let n = count_of Edt in omega arith
+samples-few Baudot45 = let n = length-samples_of Baudot45 in omega arith
+samples-few Baudot50 = let n = length-samples_of Baudot50 in omega arith
+samples-few Dtmf = let n = length-samples_of Dtmf in omega arith
+samples-few Edt = let n = length-samples_of Edt in omega arith
 
 pub ms-few : (mode : Mode) (j : ℕ) → j ≤ 11 → sample_ms mode j ≤ 254
 unfolding sample_ms

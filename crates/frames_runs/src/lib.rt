@@ -1,4 +1,6 @@
 // Frames over many ms: those that end in nothing are passed over.
+#![tactic(auto)]
+
 ghost use Rattle.std.specs.Prelude.{◌≡◌, true, ◌≤◌, ◌<◌, length};
 ghost use Rattle.frames.specs.code.Bounds.{Framed, FrameOf};
 ghost use Rattle.frames_runs.specs.code.Passing.{frame_at, place_after, FramePasses, Stays};
@@ -7,7 +9,7 @@ use alphabet::Mode;
 use frames::samples::Effect;
 
 // A reader of frames before a ms, and whether it may pass more.
-#[derive(Drop)]
+#[derive(Clone, Copy)]
 pub struct Passed {
     pub place: usize,
     pub digits: usize,

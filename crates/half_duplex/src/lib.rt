@@ -1,4 +1,6 @@
 // Half-duplex access: one ms of a station, beside its queue.
+#![tactic(auto)]
+
 ghost use Rattle.std.specs.Prelude.{◌≡◌, ◌≤◌, ◌<◌};
 ghost use Rattle.reader.specs.code.Bounds.{ReaderIn};
 ghost use Rattle.burst.specs.Rules.{is_inhibited};
@@ -16,7 +18,7 @@ use reader::{Event, Reader, Reading};
 // A station beside its queue: how many wait, the ms of silence up to 300, the inhibited ms to come, what is on the
 // line, the sender, the reader, the mode's number.
 #[repr(C)]
-#[derive(Drop)]
+#[derive(Clone, Copy)]
 pub struct Core {
     pub waiting: u16,
     pub silence: u16,
@@ -28,7 +30,7 @@ pub struct Core {
 }
 
 // A core after a ms, what was sent in it, and what it ended in.
-#[derive(Drop)]
+#[derive(Clone, Copy)]
 pub struct Stepped {
     pub core: Core,
     pub sent: u8,

@@ -62,7 +62,8 @@ silence-shift s n h = go (ltb s 300) refl
         let l = ltb-false s 300 e in silence-full s n (omega arith) ∙ sym (silence-full s (n + 1) (omega arith))
 
 -- all of them quiet
-pub over-quiet : (s : ℕ) (xs : List ℕ) → s ≤ 300 → all_at_most 0 xs ≡ true → silence_for s (length xs) ≡ silence_over s xs
+pub over-quiet : (s : ℕ) (xs : List ℕ) → s ≤ 300 → all_at_most 0 xs ≡ true → silence_for s (length xs)
+    ≡ silence_over s xs
 unfolding state_after
 over-quiet s [] h e = silence-none s h
 over-quiet s (x ∷ xs) h e =
@@ -78,7 +79,8 @@ over_last : (s : ℕ) (xs : List ℕ) (j : ℕ) → j < length xs
     → silence_over s (take (suc j) xs) ≡ silence_next (silence_over s (take j xs)) (get_or xs j 0)
 unfolding state_after
 over_last s xs j h =
-    ap (silence_over s) (take-suc xs j 0 h) ∙ after-append silence_next (λ (t x : ℕ). t) s (take j xs) (get_or xs j 0 ∷ [])
+    ap (silence_over s) (take-suc xs j 0 h) ∙ after-append silence_next (λ (t x : ℕ). t) s (take j xs)
+    (get_or xs j 0 ∷ [])
 
 -- The n last ms of a list are quiet, and so many are left before them.
 pub record Tail (heard : List ℕ) (silence left n : ℕ) : Type 0 where

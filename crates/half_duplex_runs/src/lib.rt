@@ -1,4 +1,6 @@
 // Cores after some ms that go alike.
+#![tactic(auto)]
+
 ghost use Rattle.std.specs.Prelude.{◌≡◌, true, ◌&&◌, ◌+◌, ◌-◌, ◌≤◌, eqb};
 ghost use Rattle.lists.specs.Lists.{all_at_most};
 ghost use Rattle.alphabet.specs.declared.Mode.TheVariants as mode;

@@ -1,4 +1,6 @@
 // Reading DTMF: keys that last, and the quiet between them.
+#![tactic(auto)]
+
 ghost use Rattle.std.specs.Prelude.{◌≡◌, cond, eqb, ◌+◌, ◌-◌, ◌<◌};
 ghost use Rattle.keys.specs.Range.{keys_in};
 ghost use Rattle.keys.specs.Keys.{key_ms, quiet_ms, needs, counts, key_step};
@@ -7,7 +9,7 @@ use alphabet::Mode;
 
 // A reader of keys: the key that is heard (0 none) and its ms in a row, and the quiet ms that are still needed.
 #[repr(C)]
-#[derive(Drop)]
+#[derive(Clone, Copy)]
 pub struct Keys {
     pub key: u8,
     pub ms: u8,
@@ -15,7 +17,7 @@ pub struct Keys {
 }
 
 // The reader after a ms, and the key that counts in it (0 none).
-#[derive(Drop)]
+#[derive(Clone, Copy)]
 pub struct KeyRead {
     pub keys: Keys,
     pub key: u8,

@@ -116,7 +116,8 @@ module _ (heard : List ℕ) (levels : all_at_most 16 heard ≡ true) where
   -- a key and its ms in a row, at each place
   module _ (s : Keys) (i : ℕ) where
     counted-turn : (key ms to : ℕ) → Counted heard s i key ms to → to < length heard
-        → (n : ℕ) → n ≡ ms_next key ms (get_or heard to 0) → (n ≡ 40 → ⊥) → Counted heard s i (get_or heard to 0) n (to + 1)
+        → (n : ℕ) → n ≡ ms_next key ms (get_or heard to 0) → (n ≡ 40 → ⊥)
+        → Counted heard s i (get_or heard to 0) n (to + 1)
     counted-turn key ms to c l n e f =
         let x = get_or heard to 0 in
         let g : ms_next key ms x ≡ 40 → ⊥ = rw e at f in

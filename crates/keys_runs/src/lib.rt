@@ -1,4 +1,6 @@
 // Keys over many ms: those in which none counts are passed over.
+#![tactic(auto)]
+
 ghost use Rattle.std.specs.Prelude.{◌≡◌, true, suc, ◌+◌, ◌-◌, ◌≤◌, ◌<◌, length};
 ghost use Rattle.lists.specs.Lists.{all_at_most};
 ghost use Rattle.lists.specs.code.Places.{Alike};
@@ -14,7 +16,7 @@ const NOT_YET: usize = KEY_MS - 1;
 const QUIET_MS: usize = keys::QUIET_MS as usize;
 
 // A reader of keys before the ms at a place: a key, its ms in a row, the quiet ms needed; the place.
-#[derive(Drop)]
+#[derive(Clone, Copy)]
 pub struct Keyed {
     pub key: u8,
     pub ms: usize,

@@ -67,7 +67,8 @@ module _ (e : ℕ) (big : 2 ≤ e) where
 
   -- the sample of element j
   pub on : (j d x : ℕ) → 1 ≤ baudot_place e j
-      → frame_step samples (in_frame (baudot_place e j) d) x ≡ sampled (get_or baudot_kinds j None) (baudot_place e j) d x
+      → frame_step samples (in_frame (baudot_place e j) d) x ≡ sampled (get_or baudot_kinds j None) (baudot_place e j) d
+      x
   on j d x p =
       in_frame-step samples (baudot_place e j) d x p
       ∙ ap (λ (k : Sample). sampled k (baudot_place e j) d x) (baudot-on e (omega arith) j)
@@ -187,7 +188,8 @@ module _ (e : ℕ) (big : 2 ≤ e) where
   -- ---- where a frame breaks: number j of the samples falls on ms ej + e/2
 
   -- a start that is not space, number 0: no word
-  pub start-breaks : (d x : ℕ) → (x ≡ 2 → ⊥) → frame_step samples (in_frame (baudot_place e 0) d) x ≡ gives hunting Nothing
+  pub start-breaks : (d x : ℕ) → (x ≡ 2 → ⊥) → frame_step samples (in_frame (baudot_place e 0) d) x
+      ≡ gives hunting Nothing
   unfolding baudot_kinds
   start-breaks d x = start-other samples (baudot_place e 0) d (omega arith) x (baudot-on e (omega arith) 0)
 

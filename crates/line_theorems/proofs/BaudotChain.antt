@@ -2,7 +2,7 @@
 use mathlib.Core.Path.{◌≡◌, ◌∙◌, refl}
 use mathlib.Core.Bool.{true}
 use mathlib.Core.List.{List, [], ◌∷◌}
-use Prim.Native.Nat.{ℕ, ◌-◌, ◌<◌}
+use Prim.Native.Nat.{ℕ, ◌<◌}
 use native.Mathlib.Omega.{arith}
 use lib.Dec.{eqb}
 use borrow.Author.Tests.{le-leb}
@@ -51,7 +51,8 @@ codes-for s c h Nothing e = refl
 codes-for s c h (Code own k) e =
     let b = (rule-of Baudot c h own k e).code-in in
     at-most-append 31 (codes_ahead s own) (k.0 ∷ [])
-    (at-most-append 31 (shift_codes (wanted s own)) (shift_codes (wanted (opened s own) own)) (shift-codes (wanted s own))
+    (at-most-append 31 (shift_codes (wanted s own)) (shift_codes (wanted (opened s own) own))
+    (shift-codes (wanted s own))
     (shift-codes (wanted (opened s own) own)))
     (rw (le-leb k.0 31 (omega arith)) refl)
 

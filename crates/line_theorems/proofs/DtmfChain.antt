@@ -2,7 +2,7 @@
 use mathlib.Core.Path.{◌≡◌, ◌∙◌, refl, sym, ap, subst}
 use mathlib.Core.Bool.{Bool, true, false, cond, not, ◌&&◌}
 use mathlib.Core.List.{List, [], ◌∷◌, ◌++◌, append-nil, append_assoc}
-use Prim.Native.Nat.{ℕ, ◌+◌, ◌-◌, ◌/◌, ◌≤◌}
+use Prim.Native.Nat.{ℕ, ◌/◌, ◌≤◌}
 use Prim.Native.String.{String}
 use native.Mathlib.Omega.{arith}
 use lib.Dec.{T, eqb, leb}
@@ -106,7 +106,8 @@ no_true e = subst (λ (b : Bool). T (not b)) e tt
 module _ (f : Frame) (s : ℕ) where
   abbrev Given : ℕ → List ℕ → Type 0
   Given p ks =
-      Gives Dtmf (reader f ready s p) (keys_signal ks) (word_of (event_of (read_dtmf (code_from p ks)))) (reader f ready s 0)
+      Gives Dtmf (reader f ready s p) (keys_signal ks) (word_of (event_of (read_dtmf (code_from p ks))))
+      (reader f ready s 0)
 
   apart : (k : ℕ) (xs : List ℕ) → (replicate 70 k ++ replicate 50 0) ++ xs ≡ replicate 70 k ++ (replicate 50 0 ++ xs)
   apart k xs = append_assoc (replicate 70 k) (replicate 50 0) xs
@@ -116,7 +117,8 @@ module _ (f : Frame) (s : ℕ) where
   last-key p k t =
       let b = digit-bounds k t in
       let g = key-given f s p k (λ e. omega arith) in
-      let w : word_of (key_event p k) ≡ word_of (event_of (read_dtmf (dtmf_code p k))) = ap word_of (digit-event p k t) in
+      let w : word_of (key_event p k) ≡ word_of (event_of (read_dtmf (dtmf_code p k))) =
+      ap word_of (digit-event p k t) in
       let q : reader f ready s (prefix_after p k) ≡ reader f ready s 0 = ap (reader f ready s) (digit-empties p k t) in
       rw (not-mark k b.1, append-nil (replicate {A = ℕ} 50 0))
       (record { after = g.after ∙ q; heard = g.heard ∙ w })
@@ -135,7 +137,8 @@ module _ (f : Frame) (s : ℕ) where
       rw t
       (subst
       (λ (l : List ℕ).
-      Gives Dtmf (reader f ready s p) l (word_of (event_of (read_dtmf (code_from (with_mark p k) ks)))) (reader f ready s 0))
+      Gives Dtmf (reader f ready s p) l (word_of (event_of (read_dtmf (code_from (with_mark p k) ks))))
+      (reader f ready s 0))
       (apart k (keys_signal ks)) (chain Dtmf first i))
 
   pub keys-given : (p : ℕ) (ks : List ℕ) → marks_then_digit ks ≡ true → Given p ks
@@ -236,7 +239,8 @@ no_row n h = read-in n (not_struck [] (rows b1)) (go (is_character (read_in n (n
     go false e = refl
 
 -- a code without a row gives a fault of its own
-pub no-row-event : (p k : ℕ) → is_digit k ≡ true → read_dtmf (dtmf_code p k) ≡ NoRow → key_event p k ≡ Fault WithoutRow 0
+pub no-row-event : (p k : ℕ) → is_digit k ≡ true → read_dtmf (dtmf_code p k) ≡ NoRow → key_event p k
+    ≡ Fault WithoutRow 0
 no-row-event p k t e = digit-event p k t ∙ ap event_of e
 
 -- and so does every digit behind more than three marks

@@ -82,7 +82,8 @@ good c =
     (frame_after edt_samples hunting (edt_signal c))
 
 edt-test : T (passes good 128 0)
-unfolding passes state_after outputs frame_step sampled sample_at placed edt_kinds edt_signal edt_elements digits sum tabulate
+unfolding passes state_after outputs frame_step sampled sample_at placed edt_kinds edt_signal edt_elements digits sum
+    tabulate
 edt-test = tt
 
 pub reads-edt : (c : ℕ) → c < 128 → Hears edt_samples hunting (edt_signal c) (one_code c) hunting

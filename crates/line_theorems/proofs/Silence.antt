@@ -3,7 +3,7 @@ use mathlib.Core.Path.{◌≡◌, ◌∙◌, refl, ap}
 use mathlib.Core.Bool.{Bool, true, false, cond, ◌&&◌}
 use mathlib.Core.Logic.{◌⊎◌, inl, inr, ⊎_elim}
 use mathlib.Core.List.{List, [], ◌∷◌}
-use Prim.Native.Nat.{ℕ, ◌-◌, ◌<◌}
+use Prim.Native.Nat.{ℕ, ◌<◌}
 use native.Mathlib.Omega.{arith}
 use lib.Dec.{T, eqb, eqb→eq}
 use lib.ListN.{length, replicate}
@@ -127,7 +127,7 @@ settles Baudot50 r h bs e =
     frame-silent Baudot50 (λ q. refl) r bs
     ∙ frames-settle (samples_of Baudot50) 132 test-50 r.frame (omega arith) bs e
 settles Dtmf r h bs e =
-    let p = h.keys_in.needed_in in
+    let p = h.keys_ranged.needed_in in
     keys-silent r bs ∙ ap (λ (n : ℕ). keys_after r.keys (replicate n 0)) e ∙ keys-settle r.keys (omega arith)
 settles Edt r h bs e =
     let p = h.frame-in.place_in in

@@ -57,7 +57,8 @@ bit-step k a b l =
     go (bit_xor a b % 2) refl (ap (λ (n : ℕ). count_trailing_zeros n (bit_xor a b)) fuel)
   where
     go : (d : ℕ) → bit_xor a b % 2 ≡ d
-        → count_trailing_zeros (1 + k) (bit_xor a b) ≡ under d (count_trailing_zeros k (bit_xor a b / 2)) → Alike 1 2 k a b
+        → count_trailing_zeros (1 + k) (bit_xor a b) ≡ under d (count_trailing_zeros k (bit_xor a b / 2))
+        → Alike 1 2 k a b
     go zero e z = record {
       low = low_same a b e;
       rest = let h = ap (count_trailing_zeros k) (half_is a b) in omega arith;
@@ -75,7 +76,8 @@ twice w p o lowest k a b l =
     let r = s.rest in
     let t = lowest k (a / p) (b / p) (omega arith) in
     let q = t.rest in
-    let above : count_trailing_zeros k (bit_xor (a / p / p) (b / p / p)) ≡ count_trailing_zeros k (bit_xor (a / (p * p)) (b / (p * p)))
+    let above : count_trailing_zeros k (bit_xor (a / p / p) (b / p / p))
+    ≡ count_trailing_zeros k (bit_xor (a / (p * p)) (b / (p * p)))
     = λ i. count_trailing_zeros k (bit_xor (div-div-eq-div-mul a p p i) (div-div-eq-div-mul b p p i)) in
     record {
       low = mod-mul a o o ∙ (λ i. t.low i * p + s.low i) ∙ sym (mod-mul b o o);
@@ -104,7 +106,8 @@ no_bits : (n : ℕ) → count_trailing_zeros zero n ≡ 0
 unfolding count_trailing_zeros
 no_bits n = refl
 
-first_byte : (k g x v s : ℕ) → g < 256 → x < 256 → 8 ≤ count_trailing_zeros (8 + k) (bit_xor (g + v * 256) (x + s * 256))
+first_byte : (k g x v s : ℕ) → g < 256 → x < 256 → 8 ≤ count_trailing_zeros (8 + k)
+    (bit_xor (g + v * 256) (x + s * 256))
     → (g ≡ x)
     × (count_trailing_zeros (8 + k) (bit_xor (g + v * 256) (x + s * 256)) ≡ 8 + count_trailing_zeros k (bit_xor v s))
 first_byte k g x v s h b l =
@@ -113,7 +116,8 @@ first_byte k g x v s h b l =
     let r = t.rest in
     let zv : (g + v * 256) / 256 ≡ v = omega arith in
     let zs : (x + s * 256) / 256 ≡ s = omega arith in
-    let p : count_trailing_zeros k (bit_xor ((g + v * 256) / 256) ((x + s * 256) / 256)) ≡ count_trailing_zeros k (bit_xor v s)
+    let p : count_trailing_zeros k (bit_xor ((g + v * 256) / 256) ((x + s * 256) / 256))
+    ≡ count_trailing_zeros k (bit_xor v s)
     = λ i. count_trailing_zeros k (bit_xor (zv i) (zs i)) in
     (omega arith, omega arith)
 
@@ -136,7 +140,8 @@ module _ (xs : List ℕ) (bytes : (k : ℕ) → get_or xs k 0 < 256) (x : ℕ) (
       let q : i + 1 + count_trailing_zeros k (bit_xor v s) / 8 ≡ i + z / 8 = omega arith in
       subst Up q (rest (through-turn xs from end x i t l f.0)))
 
-  alike : (m i : ℕ) → Up i → i + m ≤ end → Up (i + count_trailing_zeros (bits m) (bit_xor (value xs i m) (equal x m)) / 8)
+  alike : (m i : ℕ) → Up i → i + m ≤ end → Up (i + count_trailing_zeros (bits m) (bit_xor (value xs i m) (equal x m)) /
+      8)
   unfolding bits value equal
   alike zero i t l =
       let n = no_bits (bit_xor 0 0) in

@@ -38,7 +38,8 @@ module _ {S : Type 0} {O : Type 0} (step : S → ℕ → S) (out : S → ℕ →
   unfolding state_after
   after_next s i h = rw (add-one, drop-cons xs i 0 h) refl
 
-  ends_next : (s : S) (i : ℕ) → i < length xs → ends s i ≡ ahead (out s (get_or xs i 0)) (step s (get_or xs i 0)) (i + 1)
+  ends_next : (s : S) (i : ℕ) → i < length xs → ends s i ≡ ahead (out s (get_or xs i 0)) (step s (get_or xs i 0))
+      (i + 1)
   unfolding outputs kept
   ends_next s i h = rw (add-one, drop-cons xs i 0 h) refl
 

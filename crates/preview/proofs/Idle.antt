@@ -12,12 +12,11 @@ use Rattle.lists.specs.Steps.{state_after}
 use Rattle.lists.proofs.Lists.{either-by, by-test, and_left, and_right}
 use Rattle.alphabet.specs.declared.Mode.{Mode}
 use Rattle.alphabet.specs.Modes.{alphabet_of, preamble_of}
-use Rattle.baudot.specs.Sending.{sender}
 use Rattle.signal.specs.Signal.{quiet, mark}
 use Rattle.burst.specs.declared.OnLine.{OnLine}
 use Rattle.burst.specs.declared.Loaded.{Loaded}
 use Rattle.burst.specs.Rules.{free_ms, may_begin, may_end, is_inhibited, is_silent}
-use Rattle.burst.specs.Line.{on_line, idle, in_burst, part_ms, is_over, begun}
+use Rattle.burst.specs.Line.{on_line, in_burst, part_ms, is_over, begun}
 use Rattle.burst.specs.Line.{next_code, one_gone, closed}
 use Rattle.burst.proofs.Laws as line
 use Rattle.burst.proofs.Laws.{begun-same, begun_first}

@@ -118,7 +118,8 @@ module _ (mode : Mode) where
     closed-left : left_of mode (closed mode (may_end n) l) s n silence cs ≡ burst_left mode l s cs
     unfolding closed may_end
     closed-left =
-        either-by (λ (k : OnLine). left_of mode k s n silence cs ≡ burst_left mode l s cs) (front_is_next mode l && eqb n 0)
+        either-by (λ (k : OnLine). left_of mode k s n silence cs ≡ burst_left mode l s cs)
+        (front_is_next mode l && eqb n 0)
         (λ e.
         let f = and_left (front_is_next mode l) (eqb n 0) e in
         let z = and_right (front_is_next mode l) (eqb n 0) e in

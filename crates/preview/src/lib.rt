@@ -1,4 +1,6 @@
 // How long a text takes to type out: the ms until a station that was offered it is idle, told before it is offered.
+#![tactic(auto)]
+
 ghost use Rattle.std.specs.Prelude.{◌≡◌, true, cond, List, ◌++◌, ℕ, ◌+◌, ◌≤◌, ◌<◌, length, get_or};
 ghost use Rattle.alphabet.specs.Modes.{alphabet_of};
 ghost use Rattle.alphabet.specs.Normal.{is_code, all_chars};
@@ -22,14 +24,14 @@ use half_duplex::Core;
 
 // What a preview gives: 0 or the number of the refusal, and the ms.
 #[repr(C)]
-#[derive(Drop)]
+#[derive(Clone, Copy)]
 pub struct Previewed {
     pub answer: u8,
     pub ms: u32,
 }
 
 // So many ms of codes, and the sender after them.
-#[derive(Drop)]
+#[derive(Clone, Copy)]
 pub struct Counted {
     pub ms: u32,
     pub sender: Sender,

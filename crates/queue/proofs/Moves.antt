@@ -138,7 +138,8 @@ module _ (n : ℕ) (xs : List ℕ) where
       let k = length-set ys to c in
       let g : last ≡ from to = omega arith in
       let before : (j : ℕ) → j < to → Place (set zs (to + 1) c) j =
-      λ j q. get_or-set_other zs (to + 1) j c 0 (omega arith) ∙ get_or-set_other ys to j c 0 (omega arith) ∙ f.done j q in
+      λ j q. get_or-set_other zs (to + 1) j c 0 (omega arith) ∙ get_or-set_other ys to j c 0 (omega arith)
+      ∙ f.done j q in
       let here : Place (set zs (to + 1) c) to =
       get_or-set_other zs (to + 1) to c 0 (omega arith)
       ∙ get_or-set_same ys to c 0 (omega arith)
@@ -147,7 +148,8 @@ module _ (n : ℕ) (xs : List ℕ) where
       let next : to + 1 ≡ last → get_or (set zs (to + 1) c) last 0 ≡ get_or xs last 0 =
       λ q. sym (λ i. get_or (set zs (to + 1) c) (q i) 0) ∙ get_or-set_same zs (to + 1) c 0 (omega arith) ∙ e in
       let later : to + 1 < last → get_or (set zs (to + 1) c) last 0 ≡ get_or xs last 0 =
-      λ q. get_or-set_other zs (to + 1) last c 0 (omega arith) ∙ get_or-set_other ys to last c 0 (omega arith) ∙ f.end in
+      λ q. get_or-set_other zs (to + 1) last c 0 (omega arith) ∙ get_or-set_other ys to last c 0 (omega arith)
+      ∙ f.end in
       record {
         size = length-set zs (to + 1) c ∙ k ∙ l;
         done = one_more (set zs (to + 1) c) to before here;

@@ -1,4 +1,6 @@
 // Characters that wait to be sent: at most 256, the front one first.
+#![tactic(auto)]
+
 ghost use Rattle.std.specs.Prelude.{◌≡◌, true, ◌&&◌, [], ◌∷◌, ◌+◌, ◌≤◌, leb, length, get_or, replicate};
 ghost use Rattle.std.proofs.lemmas.List.Edits.{sets};
 ghost use Rattle.alphabet.specs.declared.Alphabet.TheVariants.{Baudot, Dtmf};
@@ -187,7 +189,7 @@ pub fn in_range(a: Alphabet, waiting: u16, chars: &[u8; 256]) -> bool
 }
 
 // Whether there is space for an offer, and how many wait after it.
-#[derive(Drop)]
+#[derive(Clone, Copy)]
 pub struct Room {
     pub accepted: bool,
     pub waiting: u16,

@@ -55,7 +55,7 @@ pub reader-is : (mode : Mode) (r : Reader) → ReaderIn mode r → reader_in mod
 reader-is mode r h =
     rw (
       frame_is mode r.frame h.frame-in,
-      keys-are r.keys h.keys_in,
+      keys-are r.keys h.keys_ranged,
       le-leb 1 r.shift h.shift_low,
       le-leb r.shift 2 h.shift_in,
       le-leb r.prefix 15 h.prefix_in,

@@ -29,4 +29,5 @@ pub words_append : (es fs : List Event) → words_of (es ++ fs) ≡ words_of es 
 unfolding words_of
 words_append [] fs = refl
 words_append (e ∷ es) fs =
-    ap (λ (l : List ℕ). word_of e ++ l) (words_append es fs) ∙ sym (append_assoc (word_of e) (words_of es) (words_of fs))
+    ap (λ (l : List ℕ). word_of e ++ l) (words_append es fs) ∙ sym
+    (append_assoc (word_of e) (words_of es) (words_of fs))

@@ -1,4 +1,6 @@
 // The reader of a station, in each mode.
+#![tactic(auto)]
+
 ghost use Rattle.std.specs.Prelude.{◌≡◌, ◌≤◌, ◌<◌};
 ghost use Rattle.alphabet.specs.Modes.{alphabet_of, frame_codes};
 ghost use Rattle.baudot.specs.Reading.{shift_by};
@@ -17,7 +19,7 @@ use keys::Keys;
 pub mod words;
 
 // What a reading ms ends in: a fault has its cause, and its ms in the frame.
-#[derive(Drop)]
+#[derive(Clone, Copy)]
 pub enum Event {
     Character(Char),
     Fault(Cause, u8),
@@ -26,7 +28,7 @@ pub enum Event {
 
 // A reader: of frames, or of keys; its shift (1 letters, 2 figures); its prefix.
 #[repr(C)]
-#[derive(Drop)]
+#[derive(Clone, Copy)]
 pub struct Reader {
     pub frame: Frame,
     pub keys: Keys,
@@ -34,14 +36,14 @@ pub struct Reader {
     pub prefix: u8,
 }
 
-#[derive(Drop)]
+#[derive(Clone, Copy)]
 pub struct Reading {
     pub reader: Reader,
     pub event: Event,
 }
 
 // What a code or a key ends in, with the shift or the prefix after it.
-#[derive(Drop)]
+#[derive(Clone, Copy)]
 pub struct Outcome {
     pub next: u8,
     pub event: Event,

@@ -22,7 +22,8 @@ use Rattle.reader_runs.specs.code.Skipping.{Skips}
 module _ (mode : Mode) (r : Reader) (heard : List ℕ) (i : ℕ) where
   -- a ms, and then the others
   pub reader-next : i < length heard
-      → reader_after mode r (drop i heard) ≡ reader_after mode (hear mode r (get_or heard i 0)).reader (drop (i + 1) heard)
+      → reader_after mode r (drop i heard) ≡ reader_after mode (hear mode r (get_or heard i 0)).reader
+      (drop (i + 1) heard)
   unfolding state_after
   reader-next h = rw (add-one, drop-cons heard i 0 h) refl
 

@@ -1,4 +1,6 @@
 // Reading many ms.
+#![tactic(auto)]
+
 ghost use Rattle.std.specs.Prelude.{◌≡◌, true, ◌+◌, ◌≤◌, ◌<◌, length};
 ghost use Rattle.std.proofs.lemmas.List.Edits.{sets};
 ghost use Rattle.lists.specs.Lists.{all_at_most};
@@ -20,14 +22,14 @@ use keys_runs::Keyed;
 use reader::Reader;
 
 // A reader after some ms, and the place behind their words.
-#[derive(Drop)]
+#[derive(Clone, Copy)]
 pub struct Heard {
     pub reader: Reader,
     pub at: usize,
 }
 
 // A reader before the next ms that is looked at.
-#[derive(Drop)]
+#[derive(Clone, Copy)]
 pub struct Skipped {
     pub reader: Reader,
     pub to: usize,

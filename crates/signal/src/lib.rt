@@ -1,4 +1,6 @@
 // The line signal: what a code sounds like.
+#![tactic(auto)]
+
 ghost use Rattle.std.specs.Prelude.{◌≡◌, ◌+◌, ◌*◌, ◌/◌, ◌%◌, ◌^◌, ◌-◌, ◌<◌, length, get_or};
 ghost use Rattle.signal.specs.Signal.{level_of, parity_of, keys_signal, signal};
 ghost use Rattle.alphabet.specs.declared.Mode.TheVariants.{Dtmf};

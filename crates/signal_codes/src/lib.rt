@@ -1,4 +1,6 @@
 // Whole codes: all levels of one, written to a slice.
+#![tactic(auto)]
+
 ghost use Rattle.std.specs.Prelude.{◌≡◌, ◌+◌, ◌≤◌, ◌<◌, length};
 ghost use Rattle.std.proofs.lemmas.List.Edits.{sets};
 ghost use Rattle.alphabet.specs.Modes.{alphabet_of, codes};

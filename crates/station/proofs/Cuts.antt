@@ -1,22 +1,14 @@
 -- A run that is cut in two gives the same station, the same sent ms and the same words.
-use mathlib.Core.Path.{◌≡◌, ◌∙◌, refl, sym, ap, subst}
-use mathlib.Core.Bool.{true}
+use mathlib.Core.Path.{◌≡◌, ◌∙◌, refl, ap}
 use mathlib.Core.List.{List, [], ◌∷◌, ◌++◌}
-use Prim.Native.Nat.{ℕ, ◌+◌, ◌≤◌}
-use native.Mathlib.Omega.{arith}
-use lib.ListN.{length, length-append}
-use borrow.Author.Tests.{leb-true}
-use Rattle.lists.specs.Lists.{all_at_most}
+use Prim.Native.Nat.{ℕ}
 use Rattle.lists.specs.Steps.{state_after, outputs}
-use Rattle.lists.proofs.Lists.{at-most-front, at-most-behind}
 use Rattle.lists.proofs.Steps.{after-append, outputs-append}
-use Rattle.alphabet.specs.declared.Mode.{Mode}
 use Rattle.reader.specs.Words.{words_of}
 use Rattle.reader.proofs.WordLists.{words_append}
 use Rattle.half_duplex.specs.Core.{core_from}
 use Rattle.station.specs.declared.Station.{Station}
 use Rattle.station.specs.Station.{mode_of_station, station_ms, sent_ms, event_of, station_after, sent_by, events_by, words_by}
-use Rattle.alphabet.specs.Modes.{highest_level}
 
 -- no ms
 module _ (s : Station) where

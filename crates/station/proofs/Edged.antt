@@ -1,15 +1,11 @@
 -- A station and its edges: they never change what the station does, and every ms keeps their range.
 use mathlib.Core.Path.{◌≡◌, ◌∙◌, refl, sym, ap, subst}
-use mathlib.Core.Bool.{Bool, true, false, cond, ◌&&◌}
-use mathlib.Core.List.{List, [], ◌∷◌, ◌++◌}
-use Prim.Native.Nat.{ℕ, ◌+◌, ◌<◌, ◌≤◌}
+use mathlib.Core.Bool.{Bool, true, false, cond}
+use mathlib.Core.List.{List, [], ◌∷◌}
+use Prim.Native.Nat.{ℕ, ◌≤◌}
 use native.Mathlib.Omega.{arith}
-use lib.ListN.{length}
-use borrow.Author.Tests.{leb-true, leb-false, le-leb}
-use Rattle.lists.specs.Lists.{all_at_most}
-use Rattle.lists.specs.Steps.{state_after, outputs}
-use Rattle.lists.proofs.Lists.{either, and_left, and_right, both, at-most-head, at-most-tail}
-use Rattle.lists.proofs.Steps.{after-append, outputs-append}
+use Rattle.lists.specs.Steps.{state_after}
+use Rattle.lists.proofs.Lists.{either, and_left, and_right, both}
 use Rattle.alphabet.specs.declared.Alphabet.{Alphabet}
 use Rattle.alphabet.specs.declared.Alphabet.TheVariants.{Baudot, Dtmf as dtmf, Edt as edt}
 use Rattle.alphabet.specs.declared.Mode.{Mode}
@@ -20,20 +16,19 @@ use Rattle.frames.specs.declared.Frame.{Frame}
 use Rattle.frames.specs.code.Bounds.{FrameOf}
 use Rattle.frames.specs.Frames.{hunting}
 use Rattle.edges.specs.declared.Edges.{Edges}
-use Rattle.edges.specs.declared.Report.{Report}
-use Rattle.edges.specs.Edges.{no_edge, no_edges, joined, is_measured, edges_ms, counted_ms}
+use Rattle.edges.specs.Edges.{no_edges, is_measured, edges_ms}
 use Rattle.edges.specs.Range.{edges_in}
-use Rattle.edges.specs.code.Bounds.{ReportOf, EdgesOf}
-use Rattle.edges.proofs.Range.{more_of, joined_of, joined-edges, edges-in, edges-is, kept, counted_of, none-counted, waiting_few, none_of}
+use Rattle.edges.specs.code.Bounds.{EdgesOf}
+use Rattle.edges.proofs.Range.{edges-in, edges-is, kept, none-counted}
 use Rattle.reader.specs.declared.Reader.{Reader}
 use Rattle.reader.specs.Reader.{with_shift, hear, inhibited}
 use Rattle.half_duplex.specs.Core.{mode_in, inhibited_in, core_from}
 use Rattle.station.specs.declared.Station.{Station}
 use Rattle.station.specs.declared.Measured.{Measured}
-use Rattle.station.specs.Station.{has_del, reader_offered, mode_of_station, front, station_ms, station_after}
-use Rattle.station.specs.Measured.{measured, station_of, waiting_ms, counted_in, measured_ms, measured_after, report_after}
+use Rattle.station.specs.Station.{has_del, reader_offered, front, station_ms, station_after}
+use Rattle.station.specs.Measured.{station_of, waiting_ms, measured_ms, measured_after}
 use Rattle.station.specs.Range.{in_range, measured_in}
-use Rattle.station.proofs.Range.{station-in, ms-in, ms-full}
+use Rattle.station.proofs.Range.{station-in}
 
 -- ---- the station goes as it would without them
 

@@ -1,12 +1,12 @@
 -- The entries: what they give is in range, if what they are given is; and what a call that succeeds has.
 use mathlib.Core.Path.{◌≡◌, ◌∙◌, refl, sym, ap, subst}
 use mathlib.Core.Bool.{Bool, true, false, cond, ◌&&◌}
-use mathlib.Core.List.{List, [], ◌∷◌, ◌++◌}
-use Prim.Native.Nat.{ℕ, ◌+◌, ◌<◌, ◌≤◌}
+use mathlib.Core.List.{List, [], ◌∷◌}
+use Prim.Native.Nat.{ℕ}
 use native.Mathlib.Omega.{arith}
 use lib.Dec.{eqb, leb}
 use lib.ListN.{length}
-use borrow.Author.Tests.{eqb-true, leb-true}
+use borrow.Author.Tests.{eqb-true}
 use Rattle.lists.specs.Lists.{all_at_most}
 use Rattle.lists.specs.Steps.{state_after}
 use Rattle.lists.proofs.Lists.{either, and_left, and_right, at-most-head, at-most-tail}
@@ -20,13 +20,13 @@ use Rattle.half_duplex.specs.Core.{core_from}
 use Rattle.queue.specs.Queue.{room}
 use Rattle.station.specs.declared.Station.{Station}
 use Rattle.station.specs.declared.Measured.{Measured}
-use Rattle.station.specs.Station.{mode_of_station, alphabet_of_station, queue_of, offered_to, station_ms, station_after, words_by}
+use Rattle.station.specs.Station.{mode_of_station, alphabet_of_station, queue_of, offered_to, station_ms, words_by}
 use Rattle.station.specs.Station.{fresh_station}
 use Rattle.station.specs.Measured.{measured, station_of, fresh_measured, measured_ms, measured_after, report_after}
 use Rattle.station.specs.Range.{in_range, measured_in}
 use Rattle.station.specs.Entries.{StationAnswered, StationRan, answered, is_mode, open_of, offer_answer, offer_of, run_answer, ran, ran_of}
 use Rattle.station.specs.code.Accepted.{Accepted}
-use Rattle.station.proofs.Range.{fresh_in, ms-in, ms-full, after-in, after-full, offered-in, offered-full}
+use Rattle.station.proofs.Range.{fresh_in, after-in, after-full, offered-in, offered-full}
 use Rattle.station.proofs.Edged.{Edged, measured-in, measured-is, outside_of, ms-edged, frame-offered, station-after}
 
 -- ---- the ms of a run
@@ -41,7 +41,8 @@ after-edged x (y ∷ ys) h l =
     after-edged (measured_ms x y) ys (ms-edged x y h (at-most-head most y ys l)) (at-most-tail most y ys l)
 
 pub after-measured : (x : Measured) (heard : List ℕ) → length x.chars ≡ 256 → measured_in x ≡ true
-    → all_at_most (highest_level (mode_of_station (station_of x))) heard ≡ true → measured_in (measured_after x heard) ≡ true
+    → all_at_most (highest_level (mode_of_station (station_of x))) heard ≡ true → measured_in (measured_after x heard)
+    ≡ true
 after-measured x heard full i l =
     let k = measured-in x i in
     measured-is (measured_after x heard)

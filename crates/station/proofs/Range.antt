@@ -4,10 +4,10 @@ use mathlib.Core.Bool.{Bool, true, false, cond}
 use mathlib.Core.List.{List, [], ◌∷◌}
 use Prim.Native.Nat.{ℕ, zero, suc, ◌-◌, ◌<◌, ◌≤◌}
 use native.Mathlib.Omega.{arith}
-use lib.Dec.{eqb, leb}
+use lib.Dec.{leb}
 use lib.ListN.{length, get_or, take, length-append, length-drop}
 use lib.Seq.{length-sets, length-take-le}
-use borrow.Author.Tests.{eqb-true, leb-true}
+use borrow.Author.Tests.{leb-true}
 use Rattle.lists.specs.Lists.{all_at_most}
 use Rattle.lists.specs.Steps.{state_after}
 use Rattle.lists.proofs.Lists.{either, and_left, and_right, at-most-head, at-most-tail}
@@ -16,7 +16,7 @@ use Rattle.alphabet.specs.declared.Alphabet.TheVariants.{Baudot, Dtmf as dtmf, E
 use Rattle.alphabet.specs.declared.Mode.{Mode}
 use Rattle.alphabet.specs.declared.Mode.TheVariants.{Baudot45, Baudot50, Dtmf, Edt}
 use Rattle.alphabet.specs.Modes.{mode_number, highest_level}
-use Rattle.alphabet.specs.Normal.{sends, all_chars}
+use Rattle.alphabet.specs.Normal.{sends}
 use Rattle.alphabet.specs.Normal.{is_code}
 use Rattle.reader.specs.declared.Reader.{Reader}
 use Rattle.reader.specs.Reader.{reader}
@@ -28,10 +28,10 @@ use Rattle.half_duplex.specs.Range.{core_in}
 use Rattle.half_duplex.specs.code.Bounds.{CoreIn}
 use Rattle.half_duplex.proofs.Range as half
 use Rattle.half_duplex.proofs.Range.{takes-waiting, core-after-in}
-use Rattle.queue.specs.Queue.{Queue, queue, waits, waiters, all_wait, waiting_of, moved, room, offered, taken, in_range as queue_in}
+use Rattle.queue.specs.Queue.{Queue, queue, waits, waiters, all_wait, waiting_of, moved, offered, taken, in_range as queue_in}
 use Rattle.queue.proofs.Laws as queue
 use Rattle.station.specs.declared.Station.{Station}
-use Rattle.station.specs.Station.{mode_of_station, alphabet_of_station, queue_of, fresh_station, has_del, reader_offered, offered_to, front, chars_after, station_ms, station_after, words_by}
+use Rattle.station.specs.Station.{mode_of_station, alphabet_of_station, queue_of, fresh_station, has_del, reader_offered, offered_to, front, chars_after, station_ms, station_after}
 use Rattle.station.specs.Range.{in_range}
 use Rattle.station.specs.Entries.{is_mode}
 use Rattle.station.specs.code.Accepted.{Accepted}

@@ -1,5 +1,5 @@
 -- Reports over the ms of a run: each ms adds at most one edge; a run that is cut in two gives the same report.
-use mathlib.Core.Path.{◌≡◌, ◌∙◌, refl, sym, ap, subst}
+use mathlib.Core.Path.{◌≡◌, ◌∙◌, sym, ap, subst}
 use mathlib.Core.Bool.{Bool, true, false, cond}
 use mathlib.Core.List.{List, [], ◌∷◌, ◌++◌}
 use Prim.Native.Nat.{ℕ, ◌+◌, ◌≤◌}
@@ -20,7 +20,6 @@ use Rattle.edges.specs.code.Bounds.{ReportOf}
 use Rattle.edges.proofs.Range.{more_of, joined-edges, report-in, report-is, waiting_few, none_of}
 use Rattle.edges.proofs.Bound.{Fine, fine_of, fine-joined, ms-more, ms-fine}
 use Rattle.half_duplex.specs.Core.{mode_in, inhibited_in}
-use Rattle.station.specs.declared.Station.{Station}
 use Rattle.station.specs.declared.Measured.{Measured}
 use Rattle.station.specs.Station.{mode_of_station, front}
 use Rattle.station.specs.Measured.{station_of, waiting_ms, counted_in, measured_ms, measured_after, report_after}

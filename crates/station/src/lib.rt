@@ -1,4 +1,6 @@
 // A station: opening, offers and runs.
+#![tactic(auto)]
+
 ghost use Rattle.std.specs.Prelude.{◌≡◌};
 ghost use Rattle.alphabet.specs.declared.Alphabet.TheVariants.{Baudot};
 ghost use Rattle.edges.specs.Edges.{no_edges};
@@ -17,7 +19,7 @@ use reader::Reader;
 
 // A core, and the characters that wait, the front one first.
 #[repr(C)]
-#[derive(Drop)]
+#[derive(Clone, Copy)]
 pub struct Station {
     pub core: Core,
     pub chars: [u8; 256],
@@ -25,7 +27,7 @@ pub struct Station {
 
 // What a host holds: a core, the edges that wait in it, and the characters that wait.
 #[repr(C)]
-#[derive(Drop)]
+#[derive(Clone, Copy)]
 pub struct Measured {
     pub core: Core,
     pub edges: Edges,
@@ -33,7 +35,7 @@ pub struct Measured {
 }
 
 // A core after an opening or an offer, and 0 or the number of the refusal.
-#[derive(Drop)]
+#[derive(Clone, Copy)]
 pub struct Answered {
     pub core: Core,
     pub answer: u8,
@@ -156,7 +158,7 @@ fn core_with(c: Core, waiting: u16, reader: Reader) -> Core
 }
 
 // The answer to an offer, 0 or the number of the refusal, and how many wait after it.
-#[derive(Drop)]
+#[derive(Clone, Copy)]
 pub struct Asked {
     pub answer: u8,
     pub waiting: u16,

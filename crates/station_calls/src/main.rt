@@ -4,13 +4,16 @@
 // be offered, each that many behind 0; n and a count offer the last one so many times more; o and any byte is the
 // offer; r and a sign is the run, with the slices that the sign says. A count is the byte less 32. The expected output
 // is what the reference prints.
+#![tactic(auto)]
+
 ghost use Rattle.std.specs.Prelude.{◌≡◌, length};
 
 use edges::Edges;
 use half_duplex::Core;
-use libc::STDIN_FILENO;
 use station::Answered;
 use station_entry::Ran;
+use std::io;
+use std::io::Write;
 use test_io::{Row, count, print, print_end, print_number, print_sent};
 
 const LF: u8 = b'\n';
@@ -22,7 +25,7 @@ const WORD_PATTERN: u32 = 99_999_999;
 
 // A core and its edges; how many ms are to be heard and characters to be offered; 16 times the high digit of the next
 // character; the last character; the first byte of a pair whose second is still to come, or LF.
-#[derive(Drop)]
+#[derive(Clone, Copy)]
 struct Play {
     core: Core,
     edges: Edges,
@@ -34,36 +37,38 @@ struct Play {
 }
 
 // A call's name and three numbers of it.
-fn print_call(name: &[u8], a: u64, b: u64, c: u64) {
-    print(name);
-    print_number(a);
-    print_number(b);
-    print_number(c);
-    print_end();
+fn print_call<W: Write>(out: &mut W, name: &[u8], a: u64, b: u64, c: u64) -> io::Result<()> {
+    print(out, name)?;
+    print_number(out, a)?;
+    print_number(out, b)?;
+    print_number(out, c)?;
+    print_end(out)
 }
 
 // The levels that were sent, in rows.
-fn print_levels(sent: &[u8]) {
+fn print_levels<W: Write>(out: &mut W, sent: &[u8]) -> io::Result<()> {
     let none = Row { value: 0, ms: 0 };
-    print_sent(test_io::sent_all(none, sent));
+    let last = test_io::sent_all(out, none, sent)?;
+    print_sent(out, last)
 }
 
-fn print_word(word: u32) {
+fn print_word<W: Write>(out: &mut W, word: u32) -> io::Result<()> {
     if word == WORD_PATTERN {
-        return;
+        return Ok(());
     }
-    print(b"word");
-    print_number(word as u64);
-    print_end();
+    print(out, b"word")?;
+    print_number(out, word as u64)?;
+    print_end(out)
 }
 
 // Every word that was written.
-fn print_words(words: &[u32]) {
+fn print_words<W: Write>(out: &mut W, words: &[u32]) -> io::Result<()> {
     let mut i: usize = 0;
     while i < words.len() {
-        print_word(words[i]);
+        print_word(out, words[i])?;
         i += 1;
     }
+    Ok(())
 }
 
 // Slices for one ms more than a call takes, and a few.
@@ -98,11 +103,11 @@ fn fresh(chars: &mut [u8; 256]) -> Play {
     opened(core)
 }
 
-fn open(chars: &mut [u8; 256], mode: u8) -> Play {
+fn open<W: Write>(out: &mut W, chars: &mut [u8; 256], mode: u8) -> io::Result<Play> {
     let r = station::open(chars, mode);
     let core = r.core;
-    print_call(b"open", mode as u64, r.answer as u64, core.mode as u64);
-    opened(core)
+    print_call(out, b"open", mode as u64, r.answer as u64, core.mode as u64)?;
+    Ok(opened(core))
 }
 
 // A value put behind the first ones of a slice; how many there are then.
@@ -147,21 +152,27 @@ fn offer_first(c: Core, w: Edges, chars: &mut [u8; 256], text: &[u8], n: usize) 
     station::offer(c, w, chars, &text[..n])
 }
 
-fn offer(x: Play, chars: &mut [u8; 256], text: &[u8]) -> Play {
+fn offer<W: Write>(out: &mut W, x: Play, chars: &mut [u8; 256], text: &[u8]) -> io::Result<Play> {
     let n = x.text;
     let c = x.core;
     let w = x.edges;
     let r = offer_first(c, w, chars, text, n);
     let core = r.core;
-    print_call(b"offer", n as u64, r.answer as u64, core.waiting as u64);
-    Play {
+    print_call(
+        out,
+        b"offer",
+        n as u64,
+        r.answer as u64,
+        core.waiting as u64,
+    )?;
+    Ok(Play {
         core,
         text: 0,
         high: 0,
         last: 0,
         first: LF,
         ..x
-    }
+    })
 }
 
 // A run of the first ms of a slice; of all, if there are fewer.
@@ -180,25 +191,33 @@ fn run_first(
     station_entry::run(c, w, chars, &heard[..n], sent, words)
 }
 
-fn run(x: Play, chars: &mut [u8; 256], heard: &[u8], sent: &mut [u8], words: &mut [u32]) -> Play {
+fn run<W: Write>(
+    out: &mut W,
+    x: Play,
+    chars: &mut [u8; 256],
+    heard: &[u8],
+    sent: &mut [u8],
+    words: &mut [u32],
+) -> io::Result<Play> {
     let n = x.heard;
     let c = x.core;
     let w = x.edges;
     let r = run_first(c, w, chars, heard, n, sent, words);
     let core = r.core;
     let edges = r.edges;
-    print_call(b"run", n as u64, r.answer as u64, r.words as u64);
-    Play {
+    print_call(out, b"run", n as u64, r.answer as u64, r.words as u64)?;
+    Ok(Play {
         core,
         edges,
         heard: 0,
         first: LF,
         ..x
-    }
+    })
 }
 
 // A run with the first part of both slices; all that they hold is listed.
-fn run_listed(
+fn run_listed<W: Write>(
+    out: &mut W,
     x: Play,
     chars: &mut [u8; 256],
     heard: &[u8],
@@ -206,23 +225,30 @@ fn run_listed(
     n: usize,
     words: &mut [u32],
     k: usize,
-) -> Play {
+) -> io::Result<Play> {
     if sent.len() < n {
-        return x;
+        return Ok(x);
     }
     if words.len() < k {
-        return x;
+        return Ok(x);
     }
-    let y = run(x, chars, heard, &mut sent[..n], &mut words[..k]);
-    print_levels(sent);
-    print_words(words);
-    y
+    let y = run(out, x, chars, heard, &mut sent[..n], &mut words[..k])?;
+    print_levels(out, sent)?;
+    print_words(out, words)?;
+    Ok(y)
 }
 
-fn run_parts(x: Play, chars: &mut [u8; 256], heard: &[u8], n: usize, k: usize) -> Play {
+fn run_parts<W: Write>(
+    out: &mut W,
+    x: Play,
+    chars: &mut [u8; 256],
+    heard: &[u8],
+    n: usize,
+    k: usize,
+) -> io::Result<Play> {
     let mut sent = levels();
     let mut words = fresh_words();
-    run_listed(x, chars, heard, &mut sent, n, &mut words, k)
+    run_listed(out, x, chars, heard, &mut sent, n, &mut words, k)
 }
 
 fn one_less(n: usize) -> usize {
@@ -233,20 +259,26 @@ fn one_less(n: usize) -> usize {
 }
 
 // The slices of a run: as long as what is heard; one of them, or both, one shorter; or as long as there is.
-fn run_sign(x: Play, chars: &mut [u8; 256], heard: &[u8], sign: u8) -> Play {
+fn run_sign<W: Write>(
+    out: &mut W,
+    x: Play,
+    chars: &mut [u8; 256],
+    heard: &[u8],
+    sign: u8,
+) -> io::Result<Play> {
     let n = x.heard;
     match sign {
-        b's' => run_parts(x, chars, heard, one_less(n), n),
-        b'w' => run_parts(x, chars, heard, n, one_less(n)),
-        b'b' => run_parts(x, chars, heard, one_less(n), one_less(n)),
-        b'+' => run_parts(x, chars, heard, 4100, 4100),
-        _ => run_parts(x, chars, heard, n, n),
+        b's' => run_parts(out, x, chars, heard, one_less(n), n),
+        b'w' => run_parts(out, x, chars, heard, n, one_less(n)),
+        b'b' => run_parts(out, x, chars, heard, one_less(n), one_less(n)),
+        b'+' => run_parts(out, x, chars, heard, 4100, 4100),
+        _ => run_parts(out, x, chars, heard, n, n),
     }
 }
 
 // A character of two digits.
 fn character(x: Play, text: &mut [u8], low: u8) -> Play {
-    let c = std::num::wrapping_add_u8(x.high, low);
+    let c = x.high.wrapping_add(low);
     Play {
         text: put_one(text, x.text, c),
         high: 0,
@@ -286,51 +318,74 @@ fn with_first(x: Play, first: u8) -> Play {
 }
 
 // A mode's number is that many behind 0.
-fn open_sign(x: Play, chars: &mut [u8; 256], sign: u8) -> Play {
+fn open_sign<W: Write>(out: &mut W, x: Play, chars: &mut [u8; 256], sign: u8) -> io::Result<Play> {
     match sign {
-        b'0'..=b'~' => open(chars, sign - b'0'),
-        _ => x,
+        b'0'..=b'~' => open(out, chars, sign - b'0'),
+        _ => Ok(x),
     }
 }
 
 // A pair of bytes; one that is none of these changes nothing.
-fn pair(x: Play, chars: &mut [u8; 256], heard: &mut [u8], text: &mut [u8], second: u8) -> Play {
+fn pair<W: Write>(
+    out: &mut W,
+    x: Play,
+    chars: &mut [u8; 256],
+    heard: &mut [u8],
+    text: &mut [u8],
+    second: u8,
+) -> io::Result<Play> {
     let first = x.first;
     let y = with_first(x, LF);
     match first {
-        b'0'..=b'Z' => level(y, heard, first - b'0', count(second)),
-        b'm' => open_sign(y, chars, second),
-        b'u' => with_high(y, high_digit(second)),
-        b'l' => character(y, text, low_digit(second)),
-        b'n' => again(y, text, count(second)),
-        b'o' => offer(y, chars, text),
-        b'r' => run_sign(y, chars, heard, second),
-        _ => y,
+        b'0'..=b'Z' => Ok(level(y, heard, first - b'0', count(second))),
+        b'm' => open_sign(out, y, chars, second),
+        b'u' => Ok(with_high(y, high_digit(second))),
+        b'l' => Ok(character(y, text, low_digit(second))),
+        b'n' => Ok(again(y, text, count(second))),
+        b'o' => offer(out, y, chars, text),
+        b'r' => run_sign(out, y, chars, heard, second),
+        _ => Ok(y),
     }
 }
 
 // One byte more. LF in place of a first byte is dropped, since the next takes its place.
-fn read_byte(x: Play, chars: &mut [u8; 256], heard: &mut [u8], text: &mut [u8], b: u8) -> Play {
+fn read_byte<W: Write>(
+    out: &mut W,
+    x: Play,
+    chars: &mut [u8; 256],
+    heard: &mut [u8],
+    text: &mut [u8],
+    b: u8,
+) -> io::Result<Play> {
     if x.first == LF {
-        return with_first(x, b);
+        return Ok(with_first(x, b));
     }
-    pair(x, chars, heard, text, b)
+    pair(out, x, chars, heard, text, b)
 }
 
-fn play_all(input: &[u8], chars: &mut [u8; 256], heard: &mut [u8], text: &mut [u8]) {
+fn play_all<W: Write>(
+    out: &mut W,
+    input: &[u8],
+    chars: &mut [u8; 256],
+    heard: &mut [u8],
+    text: &mut [u8],
+) -> io::Result<()> {
     let mut x = fresh(chars);
     let mut i: usize = 0;
     while i < input.len() {
-        x = read_byte(x, chars, heard, text, input[i]);
+        x = read_byte(out, x, chars, heard, text, input[i])?;
         i += 1;
     }
+    Ok(())
 }
 
-fn main() {
-    let mut input = io::large_buffer();
-    let n = io::read_full(STDIN_FILENO, &mut input);
+fn main(rt: HostRuntime) -> io::Result<()> {
+    let mut input = [0u8; 65536];
+    let mut stdin = rt.stdin();
+    let n = test_io::read_full(&mut stdin, &mut input)?;
     let mut chars = [0; 256];
     let mut heard = levels();
     let mut text = levels();
-    play_all(&input[..n], &mut chars, &mut heard, &mut text)
+    let mut out = rt.stdout();
+    play_all(&mut out, &input[..n], &mut chars, &mut heard, &mut text)
 }

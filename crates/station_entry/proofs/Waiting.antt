@@ -7,7 +7,6 @@ use native.Mathlib.Omega.{arith}
 use Rattle.lists.specs.Lists.{all_at_most}
 use Rattle.lists.specs.Steps.{state_after}
 use Rattle.lists.proofs.Lists.{at-most-head, at-most-tail}
-use Rattle.alphabet.specs.declared.Mode.{Mode}
 use Rattle.alphabet.specs.Modes.{element_of, highest_level}
 use Rattle.frames.specs.declared.Frame.{Frame}
 use Rattle.frames.specs.Frames.{hunting, frame_next}
@@ -16,7 +15,6 @@ use Rattle.edges.specs.declared.Edges.{Edges}
 use Rattle.edges.specs.Edges.{no_edges, is_measured, edges_ms}
 use Rattle.edges_runs.specs.code.Latest.{OneMs, Falls, Goes}
 use Rattle.edges_runs.proofs.Reading.{one-ms}
-use Rattle.reader.specs.declared.Reader.{Reader}
 use Rattle.half_duplex.specs.declared.Core.{Core}
 use Rattle.half_duplex.specs.Core.{mode_in, inhibited_in, core_from}
 use Rattle.station.specs.declared.Station.{Station}

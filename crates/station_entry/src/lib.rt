@@ -1,4 +1,6 @@
 // Running a station: the questions of a run, with a report and without one.
+#![tactic(auto)]
+
 ghost use Rattle.std.specs.Prelude.{◌≡◌, true, ◌&&◌, List, ℕ, ◌≤◌, leb, length};
 ghost use Rattle.lists.specs.Lists.{all_at_most};
 ghost use Rattle.alphabet.specs.Modes.{highest_level};
@@ -17,7 +19,7 @@ use edges::{Edges, Report};
 use half_duplex::Core;
 
 // A core and its edges after a run, 0 or the number of the refusal, and how many words were written.
-#[derive(Drop)]
+#[derive(Clone, Copy)]
 pub struct Ran {
     pub core: Core,
     pub edges: Edges,
@@ -61,7 +63,7 @@ fn in_range(c: Core, w: Edges, chars: &[u8; 256]) -> bool
 }
 
 // The answer to the questions of a run but the last, 0 or the number of the refusal, and the highest level heard.
-#[derive(Drop)]
+#[derive(Clone, Copy)]
 pub struct Asked {
     pub answer: u8,
     pub highest: u8,
@@ -244,7 +246,7 @@ fn accepts(c: Core, w: Edges, chars: &[u8; 256], heard: &[u8], sent: usize, word
 }
 
 // 0 or a refusal of the report's own, 1 or 18; and the report after the run, if that succeeds.
-#[derive(Drop)]
+#[derive(Clone, Copy)]
 pub struct Counted {
     pub answer: u8,
     pub report: Report,

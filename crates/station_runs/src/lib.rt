@@ -1,4 +1,6 @@
 // The ms of a run, in stretches.
+#![tactic(auto)]
+
 ghost use Rattle.std.specs.Prelude.{◌≡◌, true, ◌||◌, ◌+◌, ◌-◌, ◌≤◌, ◌<◌, length};
 ghost use Rattle.std.proofs.lemmas.List.Edits.{sets};
 ghost use Rattle.lists.specs.Lists.{all_at_most};
@@ -15,7 +17,7 @@ use half_duplex::Core;
 use station_stretches::Stretched;
 
 // A core after the ms of a run, and how many words were written.
-#[derive(Drop)]
+#[derive(Clone, Copy)]
 pub struct Ended {
     pub core: Core,
     pub words: usize,

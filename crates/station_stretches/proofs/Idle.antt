@@ -57,7 +57,8 @@ pub record Idles (mode : Mode) (r : Reader) (xs : List ℕ) : Type 0 where
   pub after : r ≡ reader_after mode r xs
   pub none : words mode r xs ≡ []
 
-idles-list : (mode : Mode) (shift prefix : ℕ) (xs : List ℕ) → all_at_most 0 xs ≡ true → Idles mode (idle shift prefix) xs
+idles-list : (mode : Mode) (shift prefix : ℕ) (xs : List ℕ) → all_at_most 0 xs ≡ true
+    → Idles mode (idle shift prefix) xs
 unfolding state_after outputs words_of
 idles-list mode shift prefix [] e = record { after = refl; none = refl }
 idles-list mode shift prefix (x ∷ xs) e =

@@ -72,27 +72,28 @@ loaded-sends c given i h l e m d ed =
 
 module _ (heard : List ℕ) (c : Core) (chars sent words₀ : List ℕ) (i n : ℕ) where
   -- one ms
-  module _ (q : Stepped) (h : i < length heard) (e : q ≡ stepped c (settled c (get_or chars 0 0)) (get_or heard i 0)) where
-    pub step-stretch : (sent' : List ℕ) → sent' ≡ set sent i q.sent
-        → (n' : ℕ) → n' ≡ n + length (word_of q.event)
-        → (words' : List ℕ) → words' ≡ sets words₀ n (word_of q.event)
-        → Stretches heard c chars sent words₀ i n (record { core = q.core; at = i + 1; words = n' }) sent' words'
-    unfolding state_after outputs words_of station_ms sent_ms event_of core_from
-    step-stretch sent' es n' en words' ew =
-        let o = between-one heard i h in
-        let s = station c chars in
-        let w : words_by s (between i (i + 1) heard) ≡ word_of q.event =
-        ap (words_by s) o ∙ append-nil _ ∙ sym (ap (λ (p : Stepped). word_of p.event) e) in
-        record {
-          low = omega arith;
-          high = omega arith;
-          after = ap (λ (p : Stepped). p.core) e ∙ sym (ap (λ (xs : List ℕ). (station_after s xs).core) o);
-          sent = es
-              ∙ ap (λ (p : Stepped). set sent i p.sent) e
-              ∙ sym (ap (λ (xs : List ℕ). sets sent i (sent_by s xs)) o);
-          place = en ∙ sym (ap (λ (ws : List ℕ). n + length ws) w);
-          words = ew ∙ sym (ap (sets words₀ n) w);
-        }
+  module _ (q : Stepped) (h : i < length heard) (e : q ≡ stepped c (settled c (get_or chars 0 0)) (get_or heard i 0))
+    where
+      pub step-stretch : (sent' : List ℕ) → sent' ≡ set sent i q.sent
+          → (n' : ℕ) → n' ≡ n + length (word_of q.event)
+          → (words' : List ℕ) → words' ≡ sets words₀ n (word_of q.event)
+          → Stretches heard c chars sent words₀ i n (record { core = q.core; at = i + 1; words = n' }) sent' words'
+      unfolding state_after outputs words_of station_ms sent_ms event_of core_from
+      step-stretch sent' es n' en words' ew =
+          let o = between-one heard i h in
+          let s = station c chars in
+          let w : words_by s (between i (i + 1) heard) ≡ word_of q.event =
+          ap (words_by s) o ∙ append-nil _ ∙ sym (ap (λ (p : Stepped). word_of p.event) e) in
+          record {
+            low = omega arith;
+            high = omega arith;
+            after = ap (λ (p : Stepped). p.core) e ∙ sym (ap (λ (xs : List ℕ). (station_after s xs).core) o);
+            sent = es
+                ∙ ap (λ (p : Stepped). set sent i p.sent) e
+                ∙ sym (ap (λ (xs : List ℕ). sets sent i (sent_by s xs)) o);
+            place = en ∙ sym (ap (λ (ws : List ℕ). n + length ws) w);
+            words = ew ∙ sym (ap (sets words₀ n) w);
+          }
 
   -- what a ms starts with, loaded already
   pub begin-stretch : (l : Loaded) → l ≡ settled c (get_or chars 0 0) → l.line.at < length (part_ms (mode_in c) l.line)

@@ -1,4 +1,6 @@
 // The stretches of a run.
+#![tactic(auto)]
+
 ghost use Rattle.std.specs.Prelude.{◌≡◌, true, false, List, ℕ, ◌+◌, ◌≤◌, ◌<◌, length, get_or};
 ghost use Rattle.lists.specs.Lists.{all_at_most};
 ghost use Rattle.burst.specs.Rules.{may_begin};
@@ -13,7 +15,7 @@ use burst::Loaded;
 use half_duplex::Core;
 
 // A core after a stretch of a run, the place behind it, and the place behind its words.
-#[derive(Drop)]
+#[derive(Clone, Copy)]
 pub struct Stretched {
     pub core: Core,
     pub at: usize,

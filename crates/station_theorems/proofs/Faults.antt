@@ -93,7 +93,8 @@ module _ (m : ℕ) where
   of-sample None digits heard = tt
   of-sample Start digits heard = either (Of Start) (eqb heard 2) (goes_on m digits) (gives hunting Nothing) tt tt
   of-sample (Digit top) digits heard =
-      either (Of (Digit top)) (eqb heard 0) (faulty Quiet m) (goes_on m (with_digit top digits heard)) (first Quiet []) tt
+      either (Of (Digit top)) (eqb heard 0) (faulty Quiet m) (goes_on m (with_digit top digits heard)) (first Quiet [])
+      tt
   of-sample Parity digits heard =
       tested (Of Parity) m heard (eqb (parity_of digits) (parity_heard heard)) (goes_on m digits) OddParity
       (first Quiet (OddParity ∷ [])) (second Quiet OddParity []) tt

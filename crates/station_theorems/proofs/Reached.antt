@@ -64,7 +64,8 @@ a-sends = refl
 
 -- ##*1: 16 times 13, the number of the prefix ##*, and 1
 a-keys : sends dtmf 0x41 ≡ Code 3 (record { 0 = 209 })
-unfolding sends send_dtmf send_from send_in has_row printed_at rows left_rows right_rows b1 b2 bits bits_from keys with_mark
+unfolding sends send_dtmf send_from send_in has_row printed_at rows left_rows right_rows b1 b2 bits bits_from keys
+    with_mark
     code_from marks_then_digit among not_struck remaining names first_sign named
 a-keys = refl
 

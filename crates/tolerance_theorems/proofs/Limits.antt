@@ -41,7 +41,8 @@ to x p q a b = record { same_level = refl; early = a; late = b }
 -- 5 quiet ms, a preamble that ends late, 10 ms of space, and mark up to the end of the burst
 abbrev lost : ℕ → ℕ → List ℕ
 lost preamble_ms stop_ms =
-    replicate 5 quiet ++ (replicate preamble_ms mark ++ (replicate 10 space ++ (replicate stop_ms mark ++ (quiet ∷ []))))
+    replicate 5 quiet ++ (replicate preamble_ms mark ++ (replicate 10 space
+    ++ (replicate stop_ms mark ++ (quiet ∷ []))))
 
 -- the burst of 11111 behind 5 quiet ms
 abbrev sent : Mode → List ℕ

@@ -1,5 +1,5 @@
 -- The bounds that the functions of this crate ask for.
-use Rattle.std.specs.Prelude.{ℕ, ◌+◌, ◌*◌, ◌-◌, ◌≤◌, ◌<◌, ◌≡◌, Bool, true, false, nat_abs}
+use Rattle.std.specs.Prelude.{ℕ, ◌*◌, ◌-◌, ◌≤◌, ◌<◌, ◌≡◌, true, false, nat_abs}
 use Rattle.alphabet.specs.declared.Mode.{Mode}
 use Rattle.frames.specs.declared.Frame.{Frame}
 use Rattle.edges.specs.declared.Report.{Report}

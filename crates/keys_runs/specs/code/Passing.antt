@@ -47,4 +47,5 @@ key_after heard to key (suc k) = get_or heard (to + k) 0
 
 unfoldable pub ms_after : List ℕ → ℕ → ℕ → ℕ → ℕ → ℕ
 ms_after heard to key ms zero = ms
-ms_after heard to key ms (suc k) = ms_next (key_after heard to key k) (ms_after heard to key ms k) (get_or heard (to + k) 0)
+ms_after heard to key ms (suc k) = ms_next (key_after heard to key k) (ms_after heard to key ms k)
+    (get_or heard (to + k) 0)

@@ -26,7 +26,8 @@ chars_ms mode s cs = length (signals mode (text_codes (alphabet_of mode) s cs))
 abbrev pub behind_ms : Mode → OnLine → Sender → List ℕ → ℕ
 behind_ms mode l s cs =
     let w = opening_shift s in
-    cond (is_opening (alphabet_of mode) l) (code_ms mode (shift_code w) + chars_ms mode (sender w 0) cs) (chars_ms mode s cs)
+    cond (is_opening (alphabet_of mode) l) (code_ms mode (shift_code w) + chars_ms mode (sender w 0) cs)
+    (chars_ms mode s cs)
 
 -- The ms until then: those left of the part that is on the line; in no burst, until the line is free, and of the
 -- preamble.

@@ -31,7 +31,8 @@ all_in x heard = measured_in x && all_at_most (highest_level (mode_in x.core)) h
 
 -- What a count tells: a refusal of the report's own, 1 or 18; else that the run with the report answers as the one
 -- without it, and the report after it, if it succeeds.
-pub record Counts (x : Measured) (r : Report) (heard : List ℕ) (sent_room word_room answer : ℕ) (report : Report) : Type 0
+pub record Counts (x : Measured) (r : Report) (heard : List ℕ) (sent_room word_room answer : ℕ) (report : Report) : Type
+    0
   where
     pub refuses : (answer ≡ 0 → ⊥) → run_answer x r heard sent_room word_room ≡ answer
     pub as_plain : answer ≡ 0

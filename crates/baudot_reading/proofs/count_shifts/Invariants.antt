@@ -1,0 +1,12 @@
+-- `reading::count_shifts` meets its contract. The invariant: the shift codes counted and those left are all.
+use mathlib.Core.Path.{◌≡◌}
+use Prim.Native.Nat.{◌+◌, ◌-◌, ◌≤◌}
+use lib.ListN.{length, drop}
+use Rattle.baudot.specs.Counting.{shifts_in}
+use Rattle.baudot_reading.proofs.count_shifts.Given as goal
+
+abbrev pub invariant-loop-i : goal.invariant-loop-i
+invariant-loop-i l = (l.i ≤ length l.codes) × (l.n + shifts_in (drop l.i l.codes) ≡ shifts_in l.codes)
+
+abbrev pub decreases-loop-i : goal.decreases-loop-i
+decreases-loop-i l = length l.codes - l.i

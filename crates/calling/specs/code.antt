@@ -1,2 +1,0 @@
--- How the code goes about its work; no contract of an entry mentions these.
-pub mod Sections
