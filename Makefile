@@ -1,8 +1,9 @@
 # make demo      builds the part and shows a call of two stations in each mode; one mode: make demo MODE=dtmf
-# make test      the gate: every proof and every test, from nothing
+# make test      the gate: every proof and every test; a proof that it passed on this machine counts while its files stay as
+#                they are
 # make check     while you work: proves what has changed, tries the must-fail edits of the crates that have changed since
 #                origin/main, or since another commit (make check SINCE=HEAD~3), and runs every test; not the verdict
-# make lib       target/staticlib/libcuyrapaq.a, for hosts in C
+# make lib       target/staticlib/libcuyrapaq.a, for hosts in C, as `rt lib` makes it in crates/cuyrapaq
 # make hosts     the example hosts, in target/host: baudot, call, and line, a bench tool for the line
 # make list      lists the Baudot codes of a line of text; another line: make list TEXT='GA TO YOU'
 # make bench     speed and sizes of the engine beside the reference
@@ -17,7 +18,7 @@ SINCE =
 export MODE TEXT SINCE
 
 LIBRARY = target/staticlib/libcuyrapaq.a
-SOURCES = $(shell find crates -name '*.rt' -o -name '*.antt') crates.txt
+SOURCES = $(shell find crates/*/src crates/*/specs crates/*/proofs -name '*.rt' -o -name '*.antt') crates.txt
 
 .PHONY: demo test check lib hosts list bench vectors docs
 
@@ -33,15 +34,17 @@ check:
 lib: $(LIBRARY)
 
 $(LIBRARY): $(SOURCES)
-	rt staticlib cuyrapaq
+	cd crates/cuyrapaq && rt lib --cpu x86-64
+	mkdir -p $(@D)
+	cp crates/cuyrapaq/out/$(@F) $@
 
 hosts: lib
 	tests/compile examples/baudot.c examples/call.c examples/line.c
 
 list:
-	rt check baudot_list
+	cd crates/baudot_list && rt run </dev/null >/dev/null
 	@printf 'Baudot codes of "%s":\n' "$$TEXT"
-	@printf '%s' "$$TEXT" | target/bin/baudot_list
+	@printf '%s' "$$TEXT" | crates/baudot_list/out/baudot_list
 
 bench: lib
 	tests/bench

@@ -1,7 +1,7 @@
 /*
  * A first call from C: converts a text to five-bit codes and reads them back.
  *
- *     rt staticlib cuyrapaq
+ *     make lib
  *     gcc -std=c99 -Iinclude examples/baudot.c target/staticlib/libcuyrapaq.a -o target/baudot
  *     target/baudot 'HELLO 73'
  */

@@ -15,7 +15,7 @@ trap 'printf "%s: line %d failed\n" "$script" "$LINENO" >&2' ERR
 tmp=$(mktemp -d)
 trap 'rm -rf "$tmp"' EXIT
 
-# What the proofs leave, and where the tests put what they build.
+# Where the tests put what they build, and where they look for the static library (tests/library, `make lib`).
 library=target/staticlib/libcuyrapaq.a
 host=target/host
 export CARGO_TARGET_DIR=$root/target/cargo CQ_LIB_DIR=$root/target/staticlib
@@ -23,7 +23,7 @@ export CARGO_TARGET_DIR=$root/target/cargo CQ_LIB_DIR=$root/target/staticlib
 bin=$CARGO_TARGET_DIR/release
 
 crates() { # the crates that crates.txt lists, one a line
-    sed -e 's/#.*//' -e '/:/!d' -e 's/:.*//' -e 's/[[:space:]]//g' crates.txt
+    sed -n 's/^ *\([a-z0-9_]*\)[^#:]*:.*/\1/p' crates.txt
 }
 
 # The C flags of every host.
