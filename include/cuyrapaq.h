@@ -9,7 +9,7 @@
  * nothing between calls and calls nothing back. Several threads may call it at the same time, each with its own
  * slice to be written and its own state.
  *
- * Link libcuyrapaq.a (x86-64, System V calling convention). It calls nothing of the C library but memset.
+ * Link libcuyrapaq.a (x86-64, System V calling convention). It calls nothing of the C library.
  */
 #ifndef CUYRAPAQ_H
 #define CUYRAPAQ_H

@@ -11,7 +11,7 @@ use lib.ListN.{length, get_or, set, drop_of_length-le}
 use lib.Seq.{sets}
 use borrow.Author.Tests.{ltb-true, ltb-false, lt-ltb, le-ltb}
 use Rattle.lists.specs.Tables.{tabulate, passes}
-use Rattle.lists.proofs.Lists.{either-by, sets-append, sets-front}
+use Rattle.lists.proofs.Lists.{by-test, either-by, sets-append, sets-front}
 use Rattle.lists.proofs.Tables.{passes_at, tabulate-at, tabulate-length, tabulate-append}
 use Rattle.alphabet.specs.declared.Alphabet.{Alphabet}
 use Rattle.alphabet.specs.declared.Alphabet.TheVariants.{Baudot}
@@ -122,17 +122,40 @@ laid_end table₀ from to table n l h =
 
 -- ---- the whole table, in parts
 
+-- two runs of entries, one behind the other
+in-turn : (f : ℕ → ℕ) (l : List ℕ) (from m n : ℕ) → from ≤ m → m ≤ n
+    → sets (sets l from (tabulate f (m - from) from)) m (tabulate f (n - m) m)
+    ≡ sets l from (tabulate f (n - from) from)
+in-turn f l from m n g h =
+    let j = m - from in
+    let k = n - m in
+    let front = sets l from (tabulate f j from) in
+    let s = tabulate-length f j from in
+    let p : from + length (tabulate f j from) ≡ m = omega arith in
+    let q : j + from ≡ m = omega arith in
+    let e : j + k ≡ n - from = omega arith in
+    sym (ap (λ (i : ℕ). sets l from (tabulate f i from)) (sym e) ∙ ap (sets l from) (tabulate-append f j k from)
+    ∙ sets-append l from (tabulate f j from) (tabulate f k (j + from))
+    ∙ ap (λ (i : ℕ). sets front i (tabulate f k (j + from))) p ∙ ap (λ (i : ℕ). sets front m (tabulate f k i)) q)
+
+-- the same where there may be none
+pub two-runs : (f : ℕ → ℕ) (l : List ℕ) (from m n : ℕ) → m ≤ n → (from < n → from ≤ m) → (n ≤ from → m ≡ n)
+    → sets (sets l from (tabulate f (m - from) from)) m (tabulate f (n - m) m)
+    ≡ sets l from (tabulate f (n - from) from)
+unfolding tabulate
+two-runs f l from m n h some none =
+    by-test (ltb from n) (λ e. in-turn f l from m n (some (ltb-true from n e)) h) (λ e.
+    let z : m ≡ n = none (ltb-false from n e) in
+    let o : n - n ≡ 0 = omega arith in
+    rw z (ap (λ (i : ℕ). sets (sets l from (tabulate f (n - from) from)) n (tabulate f i n)) o))
+
 two-parts : (f : ℕ → ℕ) (l : List ℕ) (m n : ℕ) → m ≤ n
     → sets (sets l 0 (tabulate f m 0)) m (tabulate f (n - m) m) ≡ sets l 0 (tabulate f n 0)
 two-parts f l m n h =
-    let k = n - m in
-    let front = sets l 0 (tabulate f m 0) in
-    let p : 0 + length (tabulate f m 0) ≡ m = zero-add (length (tabulate f m 0)) ∙ tabulate-length f m 0 in
-    let q : m + 0 ≡ m = omega arith in
-    let e : m + k ≡ n = omega arith in
-    sym (ap (λ (i : ℕ). sets l 0 (tabulate f i 0)) (sym e) ∙ ap (sets l 0) (tabulate-append f m k 0)
-    ∙ sets-append l 0 (tabulate f m 0) (tabulate f k (m + 0))
-    ∙ ap (λ (i : ℕ). sets front i (tabulate f k (m + 0))) p ∙ ap (λ (i : ℕ). sets front m (tabulate f k i)) q)
+    let y : m ≡ m - 0 = omega arith in
+    let z : n - 0 ≡ n = omega arith in
+    ap (λ (i : ℕ). sets (sets l 0 (tabulate f i 0)) m (tabulate f (n - m) m)) y ∙ in-turn f l 0 m n (omega arith) h
+    ∙ ap (λ (i : ℕ). sets l 0 (tabulate f i 0)) z
 
 whole : (f : ℕ → ℕ) (l : List ℕ) (n : ℕ) → length l ≡ n → sets l 0 (tabulate f n 0) ≡ tabulate f n 0
 whole f l n size =

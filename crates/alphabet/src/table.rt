@@ -58,8 +58,13 @@ const LOWER_A: usize = 0x61;
 
 const PAST_LOWER_Z: usize = 0x7b;
 
-// The entries of the numbers from one on, below another, each from the place that is so far ahead of its number.
-fn lay_out(table: &mut SendTable, stored: &Stored, from: usize, to: usize, ahead: usize)
+// The most entries of each run but the last.
+const RUN: usize = 97;
+
+// The entries of the numbers from one on, below another, each from the place that is so far ahead of its number, one
+// after the other.
+#[inline(always)]
+fn lay_run(table: &mut SendTable, stored: &Stored, from: usize, to: usize, ahead: usize)
     requires stored_value { stored.now ≡ stored_table }
     requires to_bound { to ≤ 384 }
     requires by_index { (n : ℕ) → from ≤ n → n < to → place_of n + ahead ≡ n }
@@ -72,17 +77,56 @@ fn lay_out(table: &mut SendTable, stored: &Stored, from: usize, to: usize, ahead
     }
 }
 
+// Where a run ends that begins with a number, and goes up to another at most.
+#[inline(always)]
+fn run_end(from: usize, to: usize) -> usize
+    ensures within { result ≤ to }
+    ensures some { from < to → from ≤ result }
+    ensures none { to ≤ from → result ≡ to }
+{
+    if to <= from {
+        return to;
+    }
+    if to - from < RUN {
+        return to;
+    }
+    from + RUN
+}
+
+// The same, in three runs: of one with more than 128 entries the compiler would make a call.
+#[inline(always)]
+fn lay_out(table: &mut SendTable, stored: &Stored, from: usize, to: usize, ahead: usize)
+    requires stored_value { stored.now ≡ stored_table }
+    requires to_bound { to ≤ 384 }
+    requires by_index { (n : ℕ) → from ≤ n → n < to → place_of n + ahead ≡ n }
+    ensures { table.new ≡ sets table.old from (tabulate entry_at (to - from) from) }
+{
+    let first = run_end(from, to);
+    lay_run(table, stored, from, first, ahead);
+    let second = run_end(first, to);
+    lay_run(table, stored, first, second, ahead);
+    lay_run(table, stored, second, to, ahead);
+}
+
+// The table of sending, laid out where the caller has room for it, so that it is not copied.
+#[inline(always)]
+pub fn lay_out_all(table: &mut SendTable)
+    ensures { table.new ≡ send_table }
+{
+    let stored = crate::stored::entries();
+    lay_out(table, stored, 0, LOWER_A, 0);
+    // A to Z serve them, 32 ahead
+    lay_out(table, stored, LOWER_A, PAST_LOWER_Z, 0x20);
+    // all others have moved up by 26
+    lay_out(table, stored, PAST_LOWER_Z, 384, 26);
+}
+
 // The table of sending, to be lent to lookups: a loop has it laid out once.
 pub fn send_table() -> SendTable
     ensures { result ≡ send_table }
 {
-    let stored = crate::stored::entries();
     let mut table: SendTable = [0; 384];
-    lay_out(&mut table, &stored, 0, LOWER_A, 0);
-    // A to Z serve them, 32 ahead
-    lay_out(&mut table, &stored, LOWER_A, PAST_LOWER_Z, 0x20);
-    // all others have moved up by 26
-    lay_out(&mut table, &stored, PAST_LOWER_Z, 384, 26);
+    lay_out_all(&mut table);
     table
 }
 
@@ -145,7 +189,8 @@ pub fn lookup(a: Alphabet, c: Char) -> Sends
     requires { c.0 < 128 }
     ensures { result ≡ sends a c.0 }
 {
-    let table = send_table();
+    let mut table: SendTable = [0; 384];
+    lay_out_all(&mut table);
     lookup_in(&table, a, c)
 }
 

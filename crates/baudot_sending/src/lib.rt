@@ -277,7 +277,8 @@ pub fn send(text: &[u8], shift: u8, count: u8, codes: &mut [u8]) -> BaudotSent
     if !lists::checks::all_at_most(text, 127) {
         return refused(3, shift, count);
     }
-    let table = alphabet::table::send_table();
+    let mut table: SendTable = [0; 384];
+    alphabet::table::lay_out_all(&mut table);
     let o = open_text(&table, text, Sender { shift, count });
     if !fits(&table, text, o.from, o.at, o.sender, codes.len()) {
         return refused(9, shift, count);

@@ -10,6 +10,7 @@ ghost use Rattle.station.specs.Station.{station};
 ghost use Rattle.station.specs.Range.{in_range};
 ghost use Rattle.station_stretches.specs.code.Stretches.{Stretches};
 
+use alphabet::table::SendTable;
 use alphabet::{Char, Mode};
 use burst::rules;
 use half_duplex::Core;
@@ -59,7 +60,8 @@ pub fn codes(
 {
     let mode = Mode::of(c.mode);
     let a = mode.alphabet();
-    let table = alphabet::table::send_table();
+    let mut table: SendTable = [0; 384];
+    alphabet::table::lay_out_all(&mut table);
     let most = mode.longest() as usize;
     let waiting = c.waiting as usize;
     let mut taken: usize = 0;

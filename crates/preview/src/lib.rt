@@ -156,7 +156,8 @@ pub fn busy_ms(c: Core, own: &[u8], text: &[u8]) -> u32
         (own.now ++ text.now) }
 {
     let mode = Mode::of(c.mode);
-    let table = alphabet::table::send_table();
+    let mut table: SendTable = [0; 384];
+    alphabet::table::lay_out_all(&mut table);
     let l = c.line;
     let s = c.sender;
     let first = opened(mode, burst::begun(true, l), s);

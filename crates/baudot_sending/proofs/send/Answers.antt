@@ -36,7 +36,7 @@ pub open_text-o-requires : goal.open_text-o-requires
 open_text-o-requires c =
     let chars-are : all_chars c.args.text.now ≡ true = sym c.all_at_most.ensures ∙ c.if-not-all_at_most.false in
     record {
-      table_value = c.send_table-table.ensures;
+      table_value = c.lay_out_all.ensures;
       text_value = chars-are;
       shift_bound = (c.if-shift-gt2.false, c.if-count-gt-CHARACTERS_PER_SHIFT.false);
     }
@@ -45,7 +45,7 @@ pub fits-requires : goal.fits-requires
 fits-requires c =
     let chars-are : all_chars c.args.text.now ≡ true = sym c.all_at_most.ensures ∙ c.if-not-all_at_most.false in
     record {
-      table_value = c.send_table-table.ensures;
+      table_value = c.lay_out_all.ensures;
       text_value = chars-are;
       running = c.open_text-o.ensures.running;
       at_bound = c.open_text-o.ensures.at_in;
@@ -75,7 +75,7 @@ put_opened-p-requires c =
     leb-true _ _ (sym (fit_is) ∙ c.if-not-fits.false) in
     let r = room-is c.args.text.now c.args.shift c.args.count c.args.codes.now _ c.open_text-o.ensures (fits-here) in
     record {
-      table_value = c.send_table-table.ensures;
+      table_value = c.lay_out_all.ensures;
       text_value = chars-are;
       running = c.open_text-o.ensures.running;
       at_bound = c.open_text-o.ensures.at_in;

@@ -80,7 +80,7 @@ lookup_in-sends-requires c =
     let char-in : get_or c.args.chars.now (c.args.from + c.loop-mode.taken) 0 < 128 =
     subst (λ (x : ℕ). x < 128) (sym char-at) (char-in-range _ _ _ _ _ start c.requires.chars_value full _ _ _ _ _
     c.loop-mode.invariant test) in
-    record { table_value = c.send_table-table.ensures; c_bound = char-in }
+    record { table_value = c.lay_out_all.ensures; c_bound = char-in }
 
 pub whole_code-next-requires : goal.whole_code-next-requires
 whole_code-next-requires c =

@@ -24,7 +24,7 @@ codes_in-behind-requires c =
     let chars : List ℕ = c.args.own.now ++ c.args.text.now in
     let b = behind chars in
     record {
-      table_value = c.send_table-table.ensures;
+      table_value = c.lay_out_all.ensures;
       text_value = c.requires.text_value;
       sender_in = c.opened-first.ensures.0;
       text_bound = omega arith;

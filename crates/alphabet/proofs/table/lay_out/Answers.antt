@@ -1,49 +1,21 @@
-use mathlib.Core.Path.{◌≡◌}
-use Prim.Native.Nat.{◌+◌, ◌<◌}
-use native.Mathlib.Omega.{arith}
-use Rattle.alphabet.specs.code.Packing.{place_of}
-use Rattle.alphabet.proofs.Storage.{place-below, stored-entry, laid-start, laid-turn, laid_end}
+-- `table::lay_out` meets its contract: three runs, one behind the other.
+use mathlib.Core.Path.{◌∙◌, ap}
+use mathlib.Core.List.{List}
+use Prim.Native.Nat.{ℕ, ◌-◌}
+use Rattle.std.proofs.lemmas.List.Edits.{sets}
+use Rattle.lists.specs.Tables.{tabulate}
+use Rattle.alphabet.specs.code.Packing.{entry_at}
+use Rattle.alphabet.proofs.Storage.{two-runs}
 use Rattle.alphabet.proofs.table.lay_out.Goals as goal
 
-pub loop-n-init : goal.loop-n-init
-loop-n-init c = laid-start _ _ _
-
-pub overflow_sub-table : goal.overflow_sub-table
-overflow_sub-table c =
-    let served : place_of c.loop-n.n + c.args.ahead ≡ c.loop-n.n =
-    c.requires.by_index c.loop-n.n c.loop-n.invariant.least c.loop-n-test.true in
-    let p = served in omega arith
-
-pub bounds-stored-n : goal.bounds-stored-n
-bounds-stored-n c =
-    let served : place_of c.loop-n.n + c.args.ahead ≡ c.loop-n.n =
-    c.requires.by_index c.loop-n.n c.loop-n.invariant.least c.loop-n-test.true in
-    let number : c.loop-n.n < 384 = let t = c.loop-n-test.true in let m = c.requires.to_bound in omega arith in
-    let p = served in
-    let b = place-below _ (number) in
-    omega arith
-
-pub bounds-table-n : goal.bounds-table-n
-bounds-table-n c =
-    let number : c.loop-n.n < 384 = let t = c.loop-n-test.true in let m = c.requires.to_bound in omega arith in
-    number
-
-pub overflow_add-n : goal.overflow_add-n
-overflow_add-n c =
-    let number : c.loop-n.n < 384 = let t = c.loop-n-test.true in let m = c.requires.to_bound in omega arith in
-    let h = number in omega arith
-
-pub loop-n-smaller : goal.loop-n-smaller
-loop-n-smaller c = let t = c.loop-n-test.true in omega arith
-
-pub loop-n-preserved : goal.loop-n-preserved
-loop-n-preserved c =
-    let served : place_of c.loop-n.n + c.args.ahead ≡ c.loop-n.n =
-    c.requires.by_index c.loop-n.n c.loop-n.invariant.least c.loop-n-test.true in
-    let number : c.loop-n.n < 384 = let t = c.loop-n-test.true in let m = c.requires.to_bound in omega arith in
-    let p = served in
-    laid-turn _ _ _ _ _ _ c.loop-n.invariant c.loop-n-test.true
-    (stored-entry _ c.requires.stored_value _ _ (number) (omega arith))
-
 pub returns : goal.returns
-returns c = laid_end _ _ _ _ _ c.loop-n.invariant c.loop-n-test.false
+returns c =
+    let n = c.args.to in
+    let a = c.run_end-first.result in
+    let b = c.run_end-second.result in
+    let e = c.run_end-first.ensures in
+    let g = c.run_end-second.ensures in
+    c.lay_run-3.ensures ∙ ap (λ (t : List ℕ). sets t b (tabulate entry_at (n - b) b)) c.lay_run-2.ensures
+    ∙ two-runs entry_at _ a b n g.within g.some g.none
+    ∙ ap (λ (t : List ℕ). sets t a (tabulate entry_at (n - a) a)) c.lay_run.ensures
+    ∙ two-runs entry_at c.args.table.now c.args.from a n e.within e.some e.none
