@@ -1,5 +1,8 @@
 -- Numbers of DTMF codes: what zero to three marks and one digit have is one, and so is what a character sends, by the
 -- rows of the tables.
+use Rattle.std.specs.Prelude.{Option, Some, None}
+use Rattle.alphabet.specs.declared.CharCode.{CharCode}
+use Rattle.alphabet.specs.Codes.{char_code}
 use mathlib.Core.Path.{◌≡◌, ◌∙◌, refl, sym, subst}
 use mathlib.Core.Bool.{Bool, true, false, cond, not, ◌&&◌, ◌||◌, false≢true}
 use mathlib.Core.List.{List, [], ◌∷◌}
@@ -13,8 +16,6 @@ use borrow.Author.Tests.{eqb-true, ne_eqb, leb-true, ltb-true, ltb-false, le-leb
 use Rattle.lists.proofs.Lists.{either, and_left, and_right}
 use Rattle.alphabet.specs.declared.Alphabet.TheVariants.{Dtmf}
 use Rattle.alphabet.specs.declared.LineCode.{LineCode}
-use Rattle.alphabet.specs.declared.Sends.{Sends}
-use Rattle.alphabet.specs.declared.Sends.TheVariants.{Nothing, Code}
 use Rattle.alphabet.specs.Print.{Row, rows, keys}
 use Rattle.alphabet.specs.TableB1.{b1}
 use Rattle.alphabet.specs.TableB2.{b2}
@@ -160,18 +161,18 @@ row-code s (r ∷ rs) h e = go (eqt s r.from) refl e (row-code s rs h.1)
     go true f g rest = subst IsCode (sym (eqt→eq s r.from (subst T (sym f) tt))) h.0
     go false f g rest = rest g
 
-abbrev CodeSent : Sends → Type 0
-CodeSent Nothing = Unit {0}
-CodeSent (Code own k) = is_dtmf_code k.0 ≡ true
+abbrev CodeSent : Option CharCode → Type 0
+CodeSent None = Unit {0}
+CodeSent (Some o) = is_dtmf_code o.code.0 ≡ true
 
-in_rows : (c : ℕ) (x : Sends) (rs : List Row) → CodeSent x → AllCodes rs → CodeSent (send_in c x rs)
+in_rows : (c : ℕ) (x : Option CharCode) (rs : List Row) → CodeSent x → AllCodes rs → CodeSent (send_in c x rs)
 unfolding AllCodes send_in
 in_rows c x [] f h = f
 in_rows c x (r ∷ rs) f h = either CodeSent (eqb (drawn r.sign) c) _ _ h.0 (in_rows c x rs f h.1)
 
 dtmf-sent : (c : ℕ) → CodeSent (send_dtmf c)
 unfolding remaining send_from send_dtmf
-dtmf-sent c = either CodeSent (eqb c 0x00) Nothing _ tt (in_rows c _ remaining (by-b2 (has_row s remaining) refl) all)
+dtmf-sent c = either CodeSent (eqb c 0x00) None _ tt (in_rows c _ remaining (by-b2 (has_row s remaining) refl) all)
   where
     s : String
     s = printed_at c (rows b2)
@@ -180,11 +181,11 @@ dtmf-sent c = either CodeSent (eqb c 0x00) Nothing _ tt (in_rows c _ remaining (
     all = rows-codes [] (rows b1)
 
     by-b2 : (b : Bool) → has_row s remaining ≡ b
-        → CodeSent (cond b (Code 3 (record { 0 = code_of_keys (keys s) })) Nothing)
+        → CodeSent (cond b (char_code 3 (record { 0 = code_of_keys (keys s) })) None)
     by-b2 true e = row-code s remaining all e
     by-b2 false e = tt
 
 -- a code that a character sends is one of these
-pub dtmf-sends : (c s : ℕ) (k : LineCode) → sends Dtmf c ≡ Code s k → is_dtmf_code k.0 ≡ true
+pub dtmf-sends : (c s : ℕ) (k : LineCode) → sends Dtmf c ≡ char_code s k → is_dtmf_code k.0 ≡ true
 unfolding sends
 dtmf-sends c s k e = subst CodeSent e (dtmf-sent c)

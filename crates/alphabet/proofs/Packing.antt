@@ -1,4 +1,7 @@
 -- What the packed entries say.
+use Rattle.std.specs.Prelude.{Option, Some, None}
+use Rattle.alphabet.specs.declared.CharCode.{CharCode}
+use Rattle.alphabet.specs.Codes.{char_code}
 use mathlib.Core.Path.{◌≡◌, ◌∙◌, refl, sym, ap, subst}
 use mathlib.Core.Bool.{Bool, true, false, cond, ◌&&◌}
 use mathlib.Core.List.{List, [], ◌∷◌, ◌++◌}
@@ -11,8 +14,6 @@ use Rattle.lists.specs.Tables.{passes}
 use Rattle.lists.proofs.Tables.{both_left, both_right, tabulate-at, passes_at}
 use Rattle.alphabet.specs.declared.Alphabet.{Alphabet}
 use Rattle.alphabet.specs.declared.Alphabet.TheVariants.{Baudot, Dtmf, Edt}
-use Rattle.alphabet.specs.declared.Sends.{Sends}
-use Rattle.alphabet.specs.declared.Sends.TheVariants.{Nothing, Code}
 use Rattle.alphabet.specs.declared.Reads.{Reads}
 use Rattle.alphabet.specs.declared.Reads.TheVariants.{Character, Shift, NoRow}
 use Rattle.alphabet.specs.Print.{keys}
@@ -27,11 +28,11 @@ use Rattle.alphabet.proofs.DtmfCodes.{number-some, dtmf-sends}
 -- ---- the table of sending
 
 -- what is asked of the alphabet of a number and of what its character sends
-abbrev pub asked : {A : Type 0} → (Alphabet → Sends → A) → ℕ → A
+abbrev pub asked : {A : Type 0} → (Alphabet → Option CharCode → A) → ℕ → A
 asked f n = f (alphabet_at n) (sends_at n)
 
 -- the number of a character, taken apart
-pub number_of : {A : Type 0} (f : Alphabet → Sends → A) (a : Alphabet) (c : ℕ) → c < 128
+pub number_of : {A : Type 0} (f : Alphabet → Option CharCode → A) (a : Alphabet) (c : ℕ) → c < 128
     → asked f (base a + c) ≡ f a (sends a c)
 number_of f Baudot c h =
     let m : (0 + c) % 128 ≡ c = omega arith in
@@ -52,30 +53,30 @@ number-below Edt c h = omega arith
 pub unpacked-packed : (a : Alphabet) (c : ℕ) → c < 128 → unpacked a (packed a (sends a c)) ≡ sends a c
 unpacked-packed a c h = go a (sends a c) refl
   where
-    go : (a : Alphabet) (x : Sends) → sends a c ≡ x → unpacked a (packed a x) ≡ x
-    go a Nothing e = refl
-    go Baudot (Code s k) e =
-        let b = range-of Baudot c h s k e in
+    go : (a : Alphabet) (x : Option CharCode) → sends a c ≡ x → unpacked a (packed a x) ≡ x
+    go a None e = refl
+    go Baudot (Some o) e =
+        let b = range-of Baudot c h o.shift o.code e in
         let l = b.shift_least in
         let i = b.code-in in
-        let p : (32 * s + k.0) / 32 ≡ s = omega arith in
-        let q : (32 * s + k.0) % 32 ≡ k.0 = omega arith in
-        simp (ne_eqb (32 * s + k.0) 0 (λ z. omega arith)) (λ j. Code (p j) (record { 0 = q j }))
-    go Dtmf (Code s k) e =
-        let b = range-of Dtmf c h s k e in
+        let p : (32 * o.shift + o.code.0) / 32 ≡ o.shift = omega arith in
+        let q : (32 * o.shift + o.code.0) % 32 ≡ o.code.0 = omega arith in
+        simp (ne_eqb (32 * o.shift + o.code.0) 0 (λ z. omega arith)) (λ j. char_code (p j) (record { 0 = q j }))
+    go Dtmf (Some o) e =
+        let b = range-of Dtmf c h o.shift o.code e in
         let l = b.shift_least in
         let m = b.shift-most in
-        let n = number-some k.0 (dtmf-sends c s k e) in
-        let p : 3 ≡ s = omega arith in
-        simp (ne_eqb k.0 0 (λ z. omega arith)) (λ j. Code (p j) k)
-    go Edt (Code s k) e =
-        let b = range-of Edt c h s k e in
+        let n = number-some o.code.0 (dtmf-sends c o.shift o.code e) in
+        let p : 3 ≡ o.shift = omega arith in
+        simp (ne_eqb o.code.0 0 (λ z. omega arith)) (λ j. char_code (p j) o.code)
+    go Edt (Some o) e =
+        let b = range-of Edt c h o.shift o.code e in
         let l = b.shift_least in
         let m = b.shift-most in
         let i = b.code-in in
-        let p : 3 ≡ s = omega arith in
-        let q : (128 + k.0) % 128 ≡ k.0 = omega arith in
-        simp (ne_eqb (128 + k.0) 0 (λ z. omega arith)) (λ j. Code (p j) (record { 0 = q j }))
+        let p : 3 ≡ o.shift = omega arith in
+        let q : (128 + o.code.0) % 128 ≡ o.code.0 = omega arith in
+        simp (ne_eqb (128 + o.code.0) 0 (λ z. omega arith)) (λ j. char_code (p j) (record { 0 = q j }))
 
 -- what a lookup makes of the entry at b + c of the table t
 module _ (t : List ℕ) (is : t ≡ send_table) (a : Alphabet) (c b : ℕ) (h : c < 128) (at_base : b ≡ base a) where
@@ -123,13 +124,6 @@ reads-shift s k = go (eqb s 2) refl
     go : (b : Bool) → eqb s 2 ≡ b → read_baudot (cond b 2 1) k ≡ read_baudot s k
     go true e = simp (eqb-true s 2 e)
     go false e = read-as-letters s k e
-
-pub shift-range : (s : ℕ) → (1 ≤ shift_of s) × (shift_of s ≤ 2)
-shift-range s = go (eqb s 2)
-  where
-    go : (b : Bool) → (1 ≤ cond b 2 1) × (cond b 2 1 ≤ 2)
-    go true = (omega arith, omega arith)
-    go false = (omega arith, omega arith)
 
 -- the codes that select a shift
 pub reads-figures-code : (s k : ℕ) → k ≡ figures_code → Shift 2 ≡ read_baudot s k

@@ -1,4 +1,7 @@
 -- What a character sends is in range: its shift and its code. By the rows of the tables, each looked at once.
+use Rattle.std.specs.Prelude.{Option, None}
+use Rattle.alphabet.specs.declared.CharCode.{CharCode}
+use Rattle.alphabet.specs.Codes.{char_code}
 use mathlib.Core.Path.{◌≡◌, refl, subst}
 use mathlib.Core.Bool.{Bool, true, false, cond, ◌&&◌}
 use mathlib.Core.List.{List, [], ◌∷◌}
@@ -13,8 +16,6 @@ use Rattle.lists.proofs.Tables.{both_left, both_right}
 use Rattle.alphabet.specs.declared.Alphabet.{Alphabet}
 use Rattle.alphabet.specs.declared.Alphabet.TheVariants.{Baudot, Dtmf, Edt}
 use Rattle.alphabet.specs.declared.LineCode.{LineCode}
-use Rattle.alphabet.specs.declared.Sends.{Sends}
-use Rattle.alphabet.specs.declared.Sends.TheVariants.{Nothing, Code}
 use Rattle.alphabet.specs.declared.Reads.{Reads}
 use Rattle.alphabet.specs.declared.Reads.TheVariants.{Character, Shift, NoRow}
 use Rattle.alphabet.specs.Print.{Row, left_rows, right_rows, rows, bits_from, bits, key_of, keys}
@@ -53,9 +54,9 @@ pub record InRange (a : Alphabet) (s : ℕ) (k : LineCode) : Type 0 where
   pub code-in : k.0 < codes a
 
 -- nothing, or a code in range
-pub data Fits (a : Alphabet) : Sends → Type 0 where
-  nothing : Fits a Nothing
-  a-code : (s : ℕ) (k : LineCode) → InRange a s k → Fits a (Code s k)
+pub data Fits (a : Alphabet) : Option CharCode → Type 0 where
+  nothing : Fits a None
+  a-code : (s : ℕ) (k : LineCode) → InRange a s k → Fits a (char_code s k)
 
 -- ---- Baudot: the shift by its cases; the code by the last column of Table A.2
 
@@ -86,7 +87,7 @@ unfolding send_baudot
 baudot-fits c =
     let k = bits (printed_for c) in
     let s = own-shift-in c k in
-    either (Fits Baudot) (is_null (printed_for c)) Nothing (Code (own_shift c k) (record { 0 = k })) nothing
+    either (Fits Baudot) (is_null (printed_for c)) None (char_code (own_shift c k) (record { 0 = k })) nothing
     (a-code _ _ (record {
       shift_least = s.0;
       shift-most = s.1;
@@ -122,25 +123,25 @@ code_below p (c then s) h =
     let m = key-most (code c) in
     either (λ (n : ℕ). n < 256) (is_mark k) _ _ (code_below (with_mark p k) s (mark-most p k m)) (omega arith)
 
-dtmf-code : (s : String) → Fits Dtmf (Code 3 (record { 0 = code_from 0 (keys s) }))
+dtmf-code : (s : String) → Fits Dtmf (char_code 3 (record { 0 = code_from 0 (keys s) }))
 dtmf-code s =
     a-code 3 (record { 0 = code_from 0 (keys s) })
     (record { shift_least = omega arith; shift-most = omega arith; code-in = code_below 0 s (omega arith) })
 
-row_fits : (c : ℕ) (x : Sends) → Fits Dtmf x → (rs : List Row) → Fits Dtmf (send_in c x rs)
+row_fits : (c : ℕ) (x : Option CharCode) → Fits Dtmf x → (rs : List Row) → Fits Dtmf (send_in c x rs)
 unfolding send_in
 row_fits c x f [] = f
 row_fits c x f (r ∷ rs) =
-    either (Fits Dtmf) (eqb (drawn r.sign) c) (Code 3 (record { 0 = code_from 0 (keys r.from) })) (send_in c x rs)
+    either (Fits Dtmf) (eqb (drawn r.sign) c) (char_code 3 (record { 0 = code_from 0 (keys r.from) })) (send_in c x rs)
     (dtmf-code r.from) (row_fits c x f rs)
 
 dtmf-fits : (c : ℕ) → Fits Dtmf (send_dtmf c)
 unfolding send_from send_dtmf
 dtmf-fits c =
     let s = printed_at c (rows b2) in
-    let k : Sends = Code 3 (record { 0 = code_from 0 (keys s) }) in
-    let f = either (Fits Dtmf) (has_row s remaining) k Nothing (dtmf-code s) nothing in
-    either (Fits Dtmf) (eqb c 0x00) Nothing _ nothing (row_fits c _ f remaining)
+    let k : Option CharCode = char_code 3 (record { 0 = code_from 0 (keys s) }) in
+    let f = either (Fits Dtmf) (has_row s remaining) k None (dtmf-code s) nothing in
+    either (Fits Dtmf) (eqb c 0x00) None _ nothing (row_fits c _ f remaining)
 
 fits : (a : Alphabet) (c : ℕ) → c < 128 → Fits a (sends a c)
 unfolding sends
@@ -149,13 +150,13 @@ fits Dtmf c h = dtmf-fits c
 fits Edt c h =
     let k : LineCode = record { 0 = c } in
     let r : InRange Edt 3 k = record { shift_least = omega arith; shift-most = omega arith; code-in = h } in
-    either (Fits Edt) (leb c 0x7f) (Code 3 k) Nothing (a-code 3 k r) nothing
+    either (Fits Edt) (leb c 0x7f) (char_code 3 k) None (a-code 3 k r) nothing
 
 -- a code that a character sends is in range
-pub range-of : (a : Alphabet) (c : ℕ) → c < 128 → (s : ℕ) (k : LineCode) → sends a c ≡ Code s k → InRange a s k
+pub range-of : (a : Alphabet) (c : ℕ) → c < 128 → (s : ℕ) (k : LineCode) → sends a c ≡ char_code s k → InRange a s k
 range-of a c h s k e = taken (subst (Fits a) e (fits a c h))
   where
-    taken : Fits a (Code s k) → InRange a s k
+    taken : Fits a (char_code s k) → InRange a s k
     taken (a-code s k r) = r
 
 -- ---- reading DTMF: the characters that remain in Table B.1 are below 128

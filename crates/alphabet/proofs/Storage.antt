@@ -1,4 +1,6 @@
 -- The table of sending, as it is stored: what serves a number, and how the table that is lent is laid out from it.
+use Rattle.std.specs.Prelude.{Option}
+use Rattle.alphabet.specs.declared.CharCode.{CharCode}
 use mathlib.Core.Path.{◌≡◌, ◌∙◌, refl, sym, ap}
 use mathlib.Core.Bool.{Bool, true, false, cond}
 use mathlib.Core.List.{List, ◌++◌, append-nil}
@@ -15,7 +17,6 @@ use Rattle.lists.proofs.Lists.{by-test, either-by, sets-append, sets-front}
 use Rattle.lists.proofs.Tables.{passes_at, tabulate-at, tabulate-length, tabulate-append}
 use Rattle.alphabet.specs.declared.Alphabet.{Alphabet}
 use Rattle.alphabet.specs.declared.Alphabet.TheVariants.{Baudot}
-use Rattle.alphabet.specs.declared.Sends.{Sends}
 use Rattle.alphabet.specs.Print.{left_rows, right_rows, rows, bits_from, bits}
 use Rattle.alphabet.specs.TableA2.{a2}
 use Rattle.alphabet.specs.Baudot.{printed_at, send_baudot}
@@ -47,7 +48,8 @@ place-below n h =
     (λ g. omega arith))
 
 -- what stands at a number's place is its own or, for a to z of Baudot, its capital's, which sends the same
-pub place-serves : {A : Type 0} (f : Alphabet → Sends → A) (n : ℕ) → asked f (number_at (place_of n)) ≡ asked f n
+pub place-serves : {A : Type 0} (f : Alphabet → Option CharCode → A) (n : ℕ)
+    → asked f (number_at (place_of n)) ≡ asked f n
 place-serves f n = go (ltb n 0x61) (ltb n 0x7b) refl refl
   where
     small : (m : ℕ) → m < 128 → asked f m ≡ f Baudot (sends Baudot m)
@@ -95,9 +97,6 @@ later-place from to ahead k e n l h =
 pub record Laid (table₀ : List ℕ) (from to : ℕ) (table : List ℕ) (n : ℕ) : Type 0 where
   pub least : from ≤ n
   pub rest : sets table n (tabulate entry_at (to - n) n) ≡ sets table₀ from (tabulate entry_at (to - from) from)
-
-pub laid-start : (table : List ℕ) (from to : ℕ) → Laid table from to table from
-laid-start table from to = record { least = omega arith; rest = refl }
 
 pub laid-turn : (table₀ : List ℕ) (from to : ℕ) (table : List ℕ) (n x : ℕ) → Laid table₀ from to table n
     → n < to → x ≡ entry_at n → Laid table₀ from to (set table n x) (n + 1)

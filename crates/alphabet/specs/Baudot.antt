@@ -1,10 +1,11 @@
 -- Document 01, "Baudot alphabet (Annex A)": Tables A.1 and A.2 with its rulings. A shift (there: case) is 1 for letters
 -- (LTRS) and 2 for figures (FIGS).
+use Rattle.std.specs.Prelude.{Option, None}
+use Rattle.alphabet.specs.declared.CharCode.{CharCode}
+use Rattle.alphabet.specs.Codes.{char_code}
 use Rattle.std.specs.Prelude.{ℕ, Bool, cond, ◌&&◌, ◌||◌, List, [], ◌∷◌, eqb, leb}
 use Prim.Native.String.{String}
 use lib.Text.{eqt}
-use Rattle.alphabet.specs.declared.Sends.{Sends}
-use Rattle.alphabet.specs.declared.Sends.TheVariants.{Nothing, Code}
 use Rattle.alphabet.specs.declared.Reads.{Reads}
 use Rattle.alphabet.specs.declared.Reads.TheVariants.{Character, Shift}
 use Rattle.alphabet.specs.Print.{Row, left_rows, right_rows, rows, bits}
@@ -63,7 +64,7 @@ abbrev pub is_null : String → Bool
 is_null s = eqt s "NULL" || eqt s "NULL (Note)" || eqt s ""
 
 -- Sending follows Table A.2.
-unfoldable pub send_baudot : ℕ → Sends
+unfoldable pub send_baudot : ℕ → Option CharCode
 send_baudot c =
     let code = bits (printed_for c) in
-    cond (is_null (printed_for c)) Nothing (Code (own_shift c code) (record { 0 = code }))
+    cond (is_null (printed_for c)) None (char_code (own_shift c code) (record { 0 = code }))

@@ -1,11 +1,12 @@
 -- Document 01, "DTMF alphabet (Annex B)": Tables B.1 and B.2 with its rulings. The prefix (there: marks) is the * and #
 -- ahead of a digit.
+use Rattle.std.specs.Prelude.{Option, None}
+use Rattle.alphabet.specs.declared.CharCode.{CharCode}
+use Rattle.alphabet.specs.Codes.{char_code}
 use Rattle.std.specs.Prelude.{ℕ, ◌+◌, ◌*◌, ◌-◌, ◌/◌, ◌%◌, Bool, true, false, cond, not, ◌&&◌, ◌||◌, List, [], ◌∷◌, ◌++◌, eqb, leb, ltb, length, get_or}
 use Prim.Native.Char.{code}
 use Prim.Native.String.{String, [] as empty, ◌∷◌ as ◌then◌}
 use lib.Text.{eqt}
-use Rattle.alphabet.specs.declared.Sends.{Sends}
-use Rattle.alphabet.specs.declared.Sends.TheVariants.{Nothing, Code}
 use Rattle.alphabet.specs.declared.Reads.{Reads}
 use Rattle.alphabet.specs.declared.Reads.TheVariants.{Character, NoRow}
 use Rattle.alphabet.specs.Print.{Row, rows, keys}
@@ -141,28 +142,28 @@ unfoldable pub read_dtmf : ℕ → Reads
 read_dtmf n = read_in n remaining
 
 -- The code of the first row of a character, or what is sent otherwise.
-unfoldable pub send_in : ℕ → Sends → List Row → Sends
+unfoldable pub send_in : ℕ → Option CharCode → List Row → Option CharCode
 send_in c otherwise [] = otherwise
 send_in c otherwise (r ∷ rs) =
     let later = send_in c otherwise rs in
-    cond (eqb (drawn r.sign) c) (Code any_shift (record { 0 = code_of_keys (keys r.from) })) later
+    cond (eqb (drawn r.sign) c) (char_code any_shift (record { 0 = code_of_keys (keys r.from) })) later
 
 unfoldable pub has_row : String → List Row → Bool
 has_row s [] = false
 has_row s (r ∷ rs) = eqt s r.from || has_row s rs
 
 -- What Table B.2 prints for a character, if that code has a remaining row.
-abbrev pub send_by_b2 : ℕ → List Row → Sends
+abbrev pub send_by_b2 : ℕ → List Row → Option CharCode
 send_by_b2 c rs =
     let s = printed_at c (rows b2) in
-    cond (has_row s rs) (Code any_shift (record { 0 = code_of_keys (keys s) })) Nothing
+    cond (has_row s rs) (char_code any_shift (record { 0 = code_of_keys (keys s) })) None
 
 -- A character is sent by its first row among these, else by Table B.2; NULL is never sent.
-unfoldable pub send_from : ℕ → List Row → Sends
+unfoldable pub send_from : ℕ → List Row → Option CharCode
 send_from c rs =
     let otherwise = send_by_b2 c rs in
     let found = send_in c otherwise rs in
-    cond (eqb c 0x00) Nothing found
+    cond (eqb c 0x00) None found
 
-unfoldable pub send_dtmf : ℕ → Sends
+unfoldable pub send_dtmf : ℕ → Option CharCode
 send_dtmf c = send_from c remaining

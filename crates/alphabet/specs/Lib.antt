@@ -4,6 +4,7 @@ pub mod TableA2
 pub mod TableB1
 pub mod TableB2
 pub mod Modes
+pub mod Codes
 pub mod Baudot
 pub mod Dtmf
 pub mod Normal

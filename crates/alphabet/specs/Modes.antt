@@ -1,5 +1,7 @@
 -- Document 01, "Four modes": each mode brings its element length, its preamble (there: lead) and its alphabet.
-use Rattle.std.specs.Prelude.{ℕ, cond, eqb}
+use Rattle.std.specs.Prelude.{ℕ, ◌≡◌, ◌&&◌, false, cond, eqb, leb, Result, MatchResult}
+use Rattle.refusals.specs.declared.Refusal.{Refusal}
+use Rattle.refusals.specs.declared.Refusal.TheVariants as refusal
 use Rattle.alphabet.specs.declared.Mode.{Mode}
 use Rattle.alphabet.specs.declared.Mode.TheVariants.{Baudot45, Baudot50, Dtmf, Edt}
 use Rattle.alphabet.specs.declared.Alphabet.{Alphabet}
@@ -15,6 +17,10 @@ mode_number Edt = 4
 -- The mode of a number; a number that is no mode's gives mode 1 (question 2).
 abbrev pub mode_of : ℕ → Mode
 mode_of n = cond (eqb n 2) Baudot50 (cond (eqb n 3) Dtmf (cond (eqb n 4) Edt Baudot45))
+
+-- Question 2: is the mode 1 to 4? A number with its mode, or with the refusal.
+abbrev pub IsModeOf : ℕ → Result Mode Refusal → Type 0
+IsModeOf n r = MatchResult r (λ mode. mode_number mode ≡ n) (λ e. (e ≡ refusal.Mode) × ((leb 1 n && leb n 4) ≡ false))
 
 -- "Line signal": a Baudot element in ms. DTMF has no elements, and those of EDT are no whole ms: 0.
 abbrev pub element_of : Mode → ℕ

@@ -12,15 +12,17 @@ const KEYS: [u8; 64] = [
     255, 12, 11, 12, 255, 12, 12, 11, 255, 12, 12, 12, 255, 255, 0, 0, 0,
 ];
 
-// The prefix with one more mark, 11 or 12.
+// The prefix with one more mark, 11 or 12. A key is its number, as on the line.
+#[tactic(auto, unfolding(crate::specs::Dtmf::with_mark))]
 pub fn with_mark(prefix: u8, mark: u8) -> u8
     requires { (11 ≤ mark) × (mark ≤ 12) }
     ensures { result ≡ with_mark prefix mark }
 {
     if prefix < 7 {
-        return 2 * prefix + (mark - 10);
+        2 * prefix + (mark - 10)
+    } else {
+        15
     }
-    15
 }
 
 // The code of a prefix and a digit's key.
@@ -32,17 +34,12 @@ pub fn code(prefix: u8, digit: u8) -> LineCode
 }
 
 // Is it a code: a prefix of at most three marks, and a digit's key?
+#[tactic(auto, unfolding(crate::specs::Dtmf::is_dtmf_code))]
 pub fn is_code(code: LineCode) -> bool
     ensures { result ≡ is_dtmf_code code.0 }
 {
-    if 15 <= code.0 / 16 {
-        return false;
-    }
     let digit = code.0 % 16;
-    if digit < 1 {
-        return false;
-    }
-    digit <= 10
+    code.0 / 16 < 15 && 1 <= digit && digit <= 10
 }
 
 fn entry(at: usize) -> u8
@@ -58,8 +55,5 @@ pub fn key(code: LineCode, at: u8) -> u8
     ensures { result ≡ get_or (keys_of code.0) at 0 }
 {
     let k = entry((code.0 / 16 * 4 + at) as usize);
-    if k == 255 {
-        return code.0 % 16;
-    }
-    k
+    if k == 255 { code.0 % 16 } else { k }
 }

@@ -2,32 +2,35 @@
 #![tactic(auto)]
 
 ghost use Rattle.std.specs.Prelude.{◌≡◌};
-ghost use Rattle.alphabet.specs.Modes.{mode_number, mode_of, preamble_of, alphabet_of, frame_codes, highest_level, longest};
+ghost use Rattle.alphabet.specs.Modes.{mode_number, mode_of, preamble_of, alphabet_of, frame_codes, highest_level, longest, IsModeOf};
 ghost use Rattle.alphabet.specs.code.Numbers.{last_sample};
+
+use refusals::Refusal;
 
 pub mod dtmf;
 mod stored;
 pub mod table;
+pub mod text;
 
 // A T.50 character, 00 to 7F.
 #[repr(C)]
-#[derive(Clone, Copy)]
+#[derive(Clone, Copy, Debug, PartialEq, Eq)]
 pub struct Char(pub u8);
 
 // A line code: a five-bit Baudot code; a DTMF code, 16 times the prefix plus the digit's key; the seven bits of an EDT
 // code.
 #[repr(C)]
-#[derive(Clone, Copy)]
+#[derive(Clone, Copy, Debug, PartialEq, Eq)]
 pub struct LineCode(pub u8);
 
-#[derive(Clone, Copy)]
+#[derive(Clone, Copy, Debug, PartialEq, Eq)]
 pub enum Alphabet {
     Baudot,
     Dtmf,
     Edt,
 }
 
-#[derive(Clone, Copy)]
+#[derive(Clone, Copy, Debug, PartialEq, Eq)]
 pub enum Mode {
     Baudot45,
     Baudot50,
@@ -35,15 +38,16 @@ pub enum Mode {
     Edt,
 }
 
-// What a character sends: nothing, or a code of a shift (1 letters, 2 figures, 3 both, as every code of DTMF and EDT).
-#[derive(Clone, Copy)]
-pub enum Sends {
-    Nothing,
-    Code { shift: u8, code: LineCode },
+// The code of a character, and the shift that it is of: 1 letters, 2 figures, 3 both, as every code of DTMF and EDT.
+// The shift is a number, since it is compared with those of senders and readers, which hosts in C lend.
+#[derive(Clone, Copy, Debug, PartialEq, Eq)]
+pub struct CharCode {
+    pub shift: u8,
+    pub code: LineCode,
 }
 
 // What a code reads as: a character, a shift (1 letters, 2 figures), or, without a row in the tables, nothing.
-#[derive(Clone, Copy)]
+#[derive(Clone, Copy, Debug, PartialEq, Eq)]
 pub enum Reads {
     Character(Char),
     Shift(u8),
@@ -100,7 +104,8 @@ impl Mode {
 
     pub const SPACE: u8 = 2;
 
-    // The mode of a number; mode 1 for a number that is no mode's.
+    // The mode of a number; mode 1 for a number that is no mode's. It stands beside `try_from` since it is total:
+    // a state that a program has forged reads as one in mode 1.
     pub fn of(number: u8) -> Mode
         ensures { result ≡ mode_of number }
     {
@@ -128,8 +133,7 @@ impl Mode {
         ensures { result ≡ preamble_of self }
     {
         match self {
-            Mode::Baudot45 => Self::BAUDOT_PREAMBLE,
-            Mode::Baudot50 => Self::BAUDOT_PREAMBLE,
+            Mode::Baudot45 | Mode::Baudot50 => Self::BAUDOT_PREAMBLE,
             Mode::Dtmf => 0,
             Mode::Edt => Self::EDT_PREAMBLE,
         }
@@ -139,8 +143,7 @@ impl Mode {
         ensures { result ≡ alphabet_of self }
     {
         match self {
-            Mode::Baudot45 => Alphabet::Baudot,
-            Mode::Baudot50 => Alphabet::Baudot,
+            Mode::Baudot45 | Mode::Baudot50 => Alphabet::Baudot,
             Mode::Dtmf => Alphabet::Dtmf,
             Mode::Edt => Alphabet::Edt,
         }
@@ -151,8 +154,7 @@ impl Mode {
         ensures { result ≡ frame_codes self }
     {
         match self {
-            Mode::Baudot45 => Self::BAUDOT_CODES,
-            Mode::Baudot50 => Self::BAUDOT_CODES,
+            Mode::Baudot45 | Mode::Baudot50 => Self::BAUDOT_CODES,
             Mode::Dtmf => 1,
             Mode::Edt => Self::EDT_CODES,
         }
@@ -187,10 +189,25 @@ impl Mode {
         ensures { result ≡ highest_level self }
     {
         match self {
-            Mode::Baudot45 => Self::SPACE,
-            Mode::Baudot50 => Self::SPACE,
+            Mode::Baudot45 | Mode::Baudot50 | Mode::Edt => Self::SPACE,
             Mode::Dtmf => Self::LAST_KEY,
-            Mode::Edt => Self::SPACE,
+        }
+    }
+}
+
+// The mode of a number, 1 to 4.
+impl TryFrom<u8> for Mode {
+    type Error = Refusal;
+
+    ghost try_from_gives = { IsModeOf };
+
+    fn try_from(number: u8) -> Result<Mode, Refusal> {
+        match number {
+            1 => Ok(Mode::Baudot45),
+            2 => Ok(Mode::Baudot50),
+            3 => Ok(Mode::Dtmf),
+            4 => Ok(Mode::Edt),
+            _ => Err(Refusal::Mode),
         }
     }
 }

@@ -12,18 +12,15 @@ ghost use Rattle.alphabet.specs.code.Packing.{base, unpacked, entry_at, send_tab
 ghost use Rattle.alphabet.specs.code.Packing.{read_table, shift_of, dtmf_at};
 
 use crate::stored::Stored;
-use crate::{Alphabet, Char, LineCode, Reads, Sends};
+use crate::{Alphabet, Char, CharCode, LineCode, Reads};
 
 // The codes that select letters and figures.
 pub const LETTERS: LineCode = LineCode(0b11111);
 
 pub const FIGURES: LineCode = LineCode(0b11011);
 
-// The table of reading Baudot: the characters of Table A.1, letters and then figures; 0 for a code that selects a
-// shift.
-pub type ReadTable = [u8; 64];
-
-const READ_BAUDOT: ReadTable = [
+// The characters of Table A.1, letters and then figures; 0 for a code that selects a shift.
+const READ_BAUDOT: [u8; 64] = [
     0x08, 0x45, 0x0a, 0x41, 0x20, 0x53, 0x49, 0x55, 0x0d, 0x44, 0x52, 0x4a, 0x4e, 0x46, 0x43, 0x4b,
     0x54, 0x5a, 0x4c, 0x57, 0x48, 0x59, 0x50, 0x51, 0x4f, 0x42, 0x47, 0x00, 0x4d, 0x58, 0x56, 0x00,
     0x08, 0x33, 0x0a, 0x2d, 0x20, 0x00, 0x38, 0x37, 0x0d, 0x24, 0x34, 0x27, 0x2c, 0x21, 0x3a, 0x28,
@@ -50,8 +47,8 @@ const READ_DTMF: [u8; 256] = [
     0xff, 0xff, 0xff, 0xff, 0xff, 0xff, 0xff, 0xff, 0xff, 0xff, 0xff, 0xff, 0xff, 0xff, 0xff, 0xff,
 ];
 
-// The table of sending, as it is lent to lookups: 128 entries for each alphabet.
-pub type SendTable = [u8; 384];
+// Room for the table of sending: 128 entries for each alphabet.
+pub type SendRoom = [u8; 384];
 
 // The numbers of a to z of Baudot, for which no entries are stored: from this one on, and below that one.
 const LOWER_A: usize = 0x61;
@@ -64,16 +61,14 @@ const RUN: usize = 97;
 // The entries of the numbers from one on, below another, each from the place that is so far ahead of its number, one
 // after the other.
 #[inline(always)]
-fn lay_run(table: &mut SendTable, stored: &Stored, from: usize, to: usize, ahead: usize)
+fn lay_run(table: &mut SendRoom, stored: &Stored, from: usize, to: usize, ahead: usize)
     requires stored_value { stored.now ≡ stored_table }
     requires to_bound { to ≤ 384 }
     requires by_index { (n : ℕ) → from ≤ n → n < to → place_of n + ahead ≡ n }
     ensures { table.new ≡ sets table.old from (tabulate entry_at (to - from) from) }
 {
-    let mut n = from;
-    while n < to {
+    for n in from..to {
         table[n] = stored[n - ahead];
-        n += 1;
     }
 }
 
@@ -84,18 +79,16 @@ fn run_end(from: usize, to: usize) -> usize
     ensures some { from < to → from ≤ result }
     ensures none { to ≤ from → result ≡ to }
 {
-    if to <= from {
-        return to;
+    if to <= from || to - from < RUN {
+        to
+    } else {
+        from + RUN
     }
-    if to - from < RUN {
-        return to;
-    }
-    from + RUN
 }
 
 // The same, in three runs: of one with more than 128 entries the compiler would make a call.
 #[inline(always)]
-fn lay_out(table: &mut SendTable, stored: &Stored, from: usize, to: usize, ahead: usize)
+fn lay_out(table: &mut SendRoom, stored: &Stored, from: usize, to: usize, ahead: usize)
     requires stored_value { stored.now ≡ stored_table }
     requires to_bound { to ≤ 384 }
     requires by_index { (n : ℕ) → from ≤ n → n < to → place_of n + ahead ≡ n }
@@ -108,9 +101,9 @@ fn lay_out(table: &mut SendTable, stored: &Stored, from: usize, to: usize, ahead
     lay_run(table, stored, second, to, ahead);
 }
 
-// The table of sending, laid out where the caller has room for it, so that it is not copied.
+// The table of sending, laid out in the room.
 #[inline(always)]
-pub fn lay_out_all(table: &mut SendTable)
+fn lay_out_all(table: &mut SendRoom)
     ensures { table.new ≡ send_table }
 {
     let stored = crate::stored::entries();
@@ -119,22 +112,6 @@ pub fn lay_out_all(table: &mut SendTable)
     lay_out(table, stored, LOWER_A, PAST_LOWER_Z, 0x20);
     // all others have moved up by 26
     lay_out(table, stored, PAST_LOWER_Z, 384, 26);
-}
-
-// The table of sending, to be lent to lookups: a loop has it laid out once.
-pub fn send_table() -> SendTable
-    ensures { result ≡ send_table }
-{
-    let mut table: SendTable = [0; 384];
-    lay_out_all(&mut table);
-    table
-}
-
-// The table of reading Baudot, to be lent to lookups.
-pub fn read_table() -> ReadTable
-    ensures { result ≡ read_table }
-{
-    READ_BAUDOT
 }
 
 // Where an alphabet's entries begin.
@@ -152,68 +129,87 @@ fn base(a: Alphabet) -> usize
 const BOTH_SHIFTS: u8 = 3;
 
 // What an entry says.
-fn unpacked(a: Alphabet, e: u8) -> Sends
+fn unpacked(a: Alphabet, e: u8) -> Option<CharCode>
     ensures { result ≡ unpacked a e }
 {
     if e == 0 {
-        return Sends::Nothing;
+        return None;
     }
-    match a {
-        Alphabet::Baudot => Sends::Code {
-            shift: e / 32,
-            code: LineCode(e % 32),
-        },
-        Alphabet::Dtmf => Sends::Code {
-            shift: BOTH_SHIFTS,
-            code: LineCode(e),
-        },
-        Alphabet::Edt => Sends::Code {
-            shift: BOTH_SHIFTS,
-            code: LineCode(e % 128),
-        },
-    }
+    let (shift, code) = match a {
+        Alphabet::Baudot => (e / 32, e % 32),
+        Alphabet::Dtmf => (BOTH_SHIFTS, e),
+        Alphabet::Edt => (BOTH_SHIFTS, e % 128),
+    };
+    Some(CharCode {
+        shift,
+        code: LineCode(code),
+    })
 }
 
-// What a character sends, by the lent table.
-pub fn lookup_in(table: &SendTable, a: Alphabet, c: Char) -> Sends
-    requires table_value { table.now ≡ send_table }
-    requires c_bound { c.0 < 128 }
-    ensures { result ≡ sends a c.0 }
-{
-    let at = base(a) + c.0 as usize;
-    unpacked(a, table[at])
+// The table of sending, in room of its caller's, so that it is not copied: a loop has it laid out once.
+#[derive(Clone, Copy)]
+pub struct SendTable<'a> {
+    entries: &'a SendRoom,
+    pub ghost laid_out: { entries.now ≡ send_table },
+}
+
+impl<'a> SendTable<'a> {
+    #[inline(always)]
+    pub fn laid_out_in(room: &'a mut SendRoom) -> SendTable<'a> {
+        lay_out_all(room);
+        SendTable { entries: room }
+    }
+
+    // What a character sends.
+    pub fn lookup(self, a: Alphabet, c: Char) -> Option<CharCode>
+        requires { c.0 < 128 }
+        ensures { result ≡ sends a c.0 }
+    {
+        let at = base(a) + c.0 as usize;
+        unpacked(a, self.entries[at])
+    }
 }
 
 // What a character sends.
-pub fn lookup(a: Alphabet, c: Char) -> Sends
+pub fn lookup(a: Alphabet, c: Char) -> Option<CharCode>
     requires { c.0 < 128 }
     ensures { result ≡ sends a c.0 }
 {
-    let mut table: SendTable = [0; 384];
-    lay_out_all(&mut table);
-    lookup_in(&table, a, c)
+    let mut room = [0; 384];
+    SendTable::laid_out_in(&mut room).lookup(a, c)
 }
 
-// The character of a five-bit code that selects no shift, in letters (1) or figures (2), by the lent table.
-pub fn read_char(table: &ReadTable, shift: u8, code: LineCode) -> Char
-    requires table_value { table.now ≡ read_table }
-    requires le_shift { (1 ≤ shift) × (shift ≤ 2) }
-    requires code_bound { code.0 < 32 }
-    requires fact { (code.0 ≡ letters_code → ⊥) × (code.0 ≡ figures_code → ⊥) }
-    ensures { Character result ≡ read_baudot shift code.0 }
-{
-    let at = (shift as usize - 1) * 32 + code.0 as usize;
-    Char(table[at])
+// The table of reading Baudot: a loop has it built once, and lends it.
+#[derive(Clone, Copy)]
+pub struct ReadTable {
+    entries: [u8; 64],
+    pub ghost read: { entries ≡ read_table },
+}
+
+impl ReadTable {
+    pub fn new() -> ReadTable {
+        ReadTable {
+            entries: READ_BAUDOT,
+        }
+    }
+
+    // The character of a five-bit code that selects no shift, in letters (1) or figures (2).
+    pub fn read_char(&self, shift: u8, code: LineCode) -> Char
+        requires le_shift { (1 ≤ shift) × (shift ≤ 2) }
+        requires code_bound { code.0 < 32 }
+        requires fact { (code.0 ≡ letters_code → ⊥) × (code.0 ≡ figures_code → ⊥) }
+        ensures { Character result ≡ read_baudot shift code.0 }
+    {
+        let at = (shift as usize - 1) * 32 + code.0 as usize;
+        Char(self.entries[at])
+    }
 }
 
 // Letters for any shift but figures.
 fn shift_of(shift: u8) -> u8
     ensures { result ≡ shift_of shift }
 {
-    if shift == 2 {
-        return 2;
-    }
-    1
+    if shift == 2 { 2 } else { 1 }
 }
 
 // What a five-bit code reads as in a shift.
@@ -221,15 +217,13 @@ pub fn read_baudot(shift: u8, code: LineCode) -> Reads
     requires { code.0 < 32 }
     ensures { result ≡ read_baudot shift code.0 }
 {
-    if code.0 == LETTERS.0 {
+    if code == LETTERS {
         return Reads::Shift(1);
     }
-    if code.0 == FIGURES.0 {
+    if code == FIGURES {
         return Reads::Shift(2);
     }
-    let table = read_table();
-    let c = read_char(&table, shift_of(shift), code);
-    Reads::Character(c)
+    Reads::Character(ReadTable::new().read_char(shift_of(shift), code))
 }
 
 fn dtmf_entry(at: usize) -> u8
@@ -245,12 +239,14 @@ pub fn read_dtmf(code: LineCode) -> Reads
 {
     let e = dtmf_entry(code.0 as usize);
     if e < 128 {
-        return Reads::Character(Char(e));
+        Reads::Character(Char(e))
+    } else {
+        Reads::NoRow
     }
-    Reads::NoRow
 }
 
 // What a code reads as, in a shift (which only Baudot looks at).
+#[tactic(auto, unfolding(crate::specs::Normal::reads))]
 pub fn reads(a: Alphabet, shift: u8, code: LineCode) -> Reads
     requires { a ≡ alphabets.Baudot → code.0 < 32 }
     ensures { result ≡ reads a shift code.0 }
@@ -267,9 +263,8 @@ pub fn normal(a: Alphabet, c: Char) -> Reads
     requires { c.0 < 128 }
     ensures { result ≡ read_back a (sends a c.0) }
 {
-    let s = lookup(a, c);
-    let Sends::Code { shift, code } = s else {
-        return Reads::NoRow;
-    };
-    reads(a, shift, code)
+    match lookup(a, c) {
+        None => Reads::NoRow,
+        Some(own) => reads(a, own.shift, own.code),
+    }
 }

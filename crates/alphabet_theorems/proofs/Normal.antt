@@ -1,4 +1,7 @@
 -- The normal form: the theorems that document 01 names.
+use Rattle.std.specs.Prelude.{Option, Some, None}
+use Rattle.alphabet.specs.declared.CharCode.{CharCode}
+use Rattle.alphabet.specs.Codes.{char_code}
 use mathlib.Core.Path.{◌≡◌, ◌∙◌, refl, sym, ap}
 use mathlib.Core.Bool.{Bool, true, false}
 use mathlib.Core.Logic.{◌↔◌, ◌⊎◌, inl, inr}
@@ -12,8 +15,6 @@ use Rattle.lists.proofs.Lists.{at-most-head, at-most-tail}
 use Rattle.alphabet.specs.declared.Alphabet.{Alphabet}
 use Rattle.alphabet.specs.declared.Alphabet.TheVariants.{Baudot, Dtmf, Edt}
 use Rattle.alphabet.specs.declared.LineCode.{LineCode}
-use Rattle.alphabet.specs.declared.Sends.{Sends}
-use Rattle.alphabet.specs.declared.Sends.TheVariants.{Nothing, Code}
 use Rattle.alphabet.specs.declared.Reads.TheVariants.{Character}
 use Rattle.alphabet.specs.Baudot.{read_baudot}
 use Rattle.alphabet.specs.Normal.{sends, reads, normal, normal_form, all_chars}
@@ -46,7 +47,7 @@ reads_in a s k b r (inr l) (inl e) = ap (λ (n : ℕ). reads a n k.0) l ∙ (sim
 reads_in a s k b r l (inr e) = ap (λ (n : ℕ). reads a n k.0) (sym e) ∙ own-shift a s k b
 
 -- the normal form of a character that sends a code, and of that normal form
-module _ (a : Alphabet) (c : ℕ) (h : c < 128) (s : ℕ) (k : LineCode) (e : sends a c ≡ Code s k) where
+module _ (a : Alphabet) (c : ℕ) (h : c < 128) (s : ℕ) (k : LineCode) (e : sends a c ≡ char_code s k) where
   abbrev back : ReadBack a s k
   back = rule-of a c h s k e
 
@@ -57,23 +58,24 @@ module _ (a : Alphabet) (c : ℕ) (h : c < 128) (s : ℕ) (k : LineCode) (e : se
   normal-again = simp (back.same, own-shift a s k back)
 
 -- a character that has no normal form is exactly one that sends nothing
-pub no-normal-form : (a : Alphabet) (c : ℕ) → c < 128 → (normal a c ≡ []) ↔ (sends a c ≡ Nothing)
+pub no-normal-form : (a : Alphabet) (c : ℕ) → c < 128 → (normal a c ≡ []) ↔ (sends a c ≡ None)
 no-normal-form a c h = (go (sends a c) refl, λ e. simp e)
   where
-    go : (x : Sends) → sends a c ≡ x → normal a c ≡ [] → sends a c ≡ Nothing
-    go Nothing e n = e
-    go (Code s k) e n = absurd (let z : ◌≡◌ {A = ℕ} 0 1 = ap length (sym n ∙ normal-code a c h s k e) in omega arith)
+    go : (x : Option CharCode) → sends a c ≡ x → normal a c ≡ [] → sends a c ≡ None
+    go None e n = e
+    go (Some o) e n =
+        absurd (let z : ◌≡◌ {A = ℕ} 0 1 = ap length (sym n ∙ normal-code a c h o.shift o.code e) in omega arith)
 
 -- the normal form of a character, taken twice
 pub normal-twice : (a : Alphabet) (c : ℕ) → c < 128 → normal_form a (normal a c) ≡ normal a c
 unfolding normal_form
 normal-twice a c h = go (sends a c) refl
   where
-    go : (x : Sends) → sends a c ≡ x → normal_form a (normal a c) ≡ normal a c
-    go Nothing e = simp e
-    go (Code s k) e =
-        rw (normal-code a c h s k e)
-        (append-nil (normal a (back a c h s k e).char) ∙ normal-again a c h s k e)
+    go : (x : Option CharCode) → sends a c ≡ x → normal_form a (normal a c) ≡ normal a c
+    go None e = simp e
+    go (Some o) e =
+        rw (normal-code a c h o.shift o.code e)
+        (append-nil (normal a (back a c h o.shift o.code e).char) ∙ normal-again a c h o.shift o.code e)
 
 -- the normal form of a list runs over the end of its front part
 pub normal-append : (a : Alphabet) (cs ds : List ℕ) → normal_form a (cs ++ ds) ≡ normal_form a cs ++ normal_form a ds

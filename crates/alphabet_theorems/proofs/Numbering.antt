@@ -1,11 +1,11 @@
 -- The numbering of DTMF codes, and what is never sent.
+use Rattle.alphabet.specs.Codes.{char_code}
 use mathlib.Core.Path.{◌≡◌, refl}
 use mathlib.Core.Bool.{Bool, true, cond, not, ◌&&◌}
 use Prim.Native.Nat.{ℕ, zero, suc, ◌+◌}
 use lib.Dec.{T, eqb, eqb→eq}
 use Rattle.lists.specs.Tables.{passes}
 use Rattle.lists.proofs.Tables.{is_true, passes_at, both_left, both_right}
-use Rattle.alphabet.specs.declared.Sends.TheVariants.{Code}
 use Rattle.alphabet.specs.Print.{left_rows, right_rows, rows, bits_from, bits, keys}
 use Rattle.alphabet.specs.TableB1.{b1}
 use Rattle.alphabet.specs.TableB2.{b2}
@@ -40,7 +40,7 @@ unfolding how_many is_dtmf_code
 dtmf-150 = refl
 
 abbrev not_null_code : ℕ → Bool
-not_null_code c = not (same_sends (send_dtmf c) (Code 3 (record { 0 = code_of_keys (keys "**0") })))
+not_null_code c = not (same_sends (send_dtmf c) (char_code 3 (record { 0 = code_of_keys (keys "**0") })))
 
 -- no character is sent as **0
 pub never-null : T (passes not_null_code 128 0)

@@ -1,5 +1,8 @@
 -- The reading-back rule of the sending table, computed once over its 358 entries and carried to each of the 384
 -- characters of the three alphabets, to a to z of Baudot by their capitals.
+use Rattle.std.specs.Prelude.{Option, Some, None}
+use Rattle.alphabet.specs.declared.CharCode.{CharCode}
+use Rattle.alphabet.specs.Codes.{char_code}
 use mathlib.Core.Path.{◌≡◌, ◌∙◌, subst}
 use mathlib.Core.Bool.{Bool, true, cond, ◌&&◌}
 use Prim.Native.Nat.{ℕ, ◌+◌, ◌<◌, ◌≤◌}
@@ -8,8 +11,6 @@ use Rattle.lists.specs.Tables.{passes}
 use Rattle.lists.proofs.Tables.{both_left, both_right, passes_at}
 use Rattle.alphabet.specs.declared.Alphabet.{Alphabet}
 use Rattle.alphabet.specs.declared.LineCode.{LineCode}
-use Rattle.alphabet.specs.declared.Sends.{Sends}
-use Rattle.alphabet.specs.declared.Sends.TheVariants.{Nothing, Code}
 use Rattle.alphabet.specs.declared.Reads.{Reads}
 use Rattle.alphabet.specs.declared.Reads.TheVariants.{Character, Shift, NoRow}
 use Rattle.alphabet.specs.Print.{left_rows, right_rows, rows, bits_from, bits, keys}
@@ -34,13 +35,14 @@ char_of NoRow = 128
 
 -- what is tested of a sent code: the character that it reads as in each shift it belongs to; that this character sends
 -- it too
-abbrev rule : Alphabet → Sends → Bool
+abbrev rule : Alphabet → Option CharCode → Bool
 unfolding char_of
-rule a Nothing = true
-rule a (Code s k) =
-    let n = char_of (reads a s k.0) in
-    ltb n 128 && same_sends (sends a n) (Code s k)
-    && is_character n (reads a (cond (eqb s 3) 1 s) k.0) && is_character n (reads a (cond (eqb s 3) 2 s) k.0)
+rule a None = true
+rule a (Some o) =
+    let n = char_of (reads a o.shift o.code.0) in
+    ltb n 128 && same_sends (sends a n) (char_code o.shift o.code)
+    && is_character n (reads a (cond (eqb o.shift 3) 1 o.shift) o.code.0) && is_character n
+    (reads a (cond (eqb o.shift 3) 2 o.shift) o.code.0)
 
 abbrev rule_at : ℕ → Bool
 rule_at i = asked rule (number_at i)
@@ -60,16 +62,16 @@ pub record ReadBack (a : Alphabet) (s : ℕ) (k : LineCode) : Type 0 where
   pub code-in : k.0 < codes a
   pub char : ℕ
   pub char-in : char < 128
-  pub same : sends a char ≡ Code s k
+  pub same : sends a char ≡ char_code s k
   pub letters : reads a (cond (eqb s 3) 1 s) k.0 ≡ Character (record { 0 = char })
   pub figures : reads a (cond (eqb s 3) 2 s) k.0 ≡ Character (record { 0 = char })
 
-rule-read : (a : Alphabet) (s : ℕ) (k : LineCode) → InRange a s k → T (rule a (Code s k)) → ReadBack a s k
+rule-read : (a : Alphabet) (s : ℕ) (k : LineCode) → InRange a s k → T (rule a (char_code s k)) → ReadBack a s k
 unfolding char_of
 rule-read a s k g t =
     let n = char_of (reads a s k.0) in
     let b₀ = ltb n 128 in
-    let b₁ = same_sends (sends a n) (Code s k) in
+    let b₁ = same_sends (sends a n) (char_code s k) in
     let b₂ = is_character n (reads a (cond (eqb s 3) 1 s) k.0) in
     let b₃ = is_character n (reads a (cond (eqb s 3) 2 s) k.0) in
     let t₂ = both_left (b₀ && b₁ && b₂) b₃ t in
@@ -80,15 +82,15 @@ rule-read a s k g t =
       code-in = g.code-in;
       char = n;
       char-in = ltb→lt n 128 (both_left b₀ b₁ t₁);
-      same = same-sends (sends a n) (Code s k) (both_right b₀ b₁ t₁);
+      same = same-sends (sends a n) (char_code s k) (both_right b₀ b₁ t₁);
       letters = is-character n (reads a (cond (eqb s 3) 1 s) k.0) (both_right (b₀ && b₁) b₂ t₂);
       figures = is-character n (reads a (cond (eqb s 3) 2 s) k.0) (both_right (b₀ && b₁ && b₂) b₃ t);
     }
 
 -- the rule at each character: that of the entry which serves it
-pub rule-of : (a : Alphabet) (c : ℕ) → c < 128 → (s : ℕ) (k : LineCode) → sends a c ≡ Code s k → ReadBack a s k
+pub rule-of : (a : Alphabet) (c : ℕ) → c < 128 → (s : ℕ) (k : LineCode) → sends a c ≡ char_code s k → ReadBack a s k
 rule-of a c h s k e =
     let n = base a + c in
     let t = passes_at rule_at 358 rule-test (place_of n) (place-below n (number-below a c h)) in
     let u : T (rule a (sends a c)) = subst T (place-serves rule n ∙ number_of rule a c h) t in
-    rule-read a s k (range-of a c h s k e) (subst (λ (x : Sends). T (rule a x)) e u)
+    rule-read a s k (range-of a c h s k e) (subst (λ (x : Option CharCode). T (rule a x)) e u)

@@ -1,28 +1,30 @@
 -- Equality of what is sent and of what is read, as tests.
+use Rattle.std.specs.Prelude.{Option, Some, None}
+use Rattle.alphabet.specs.declared.CharCode.{CharCode}
+use Rattle.alphabet.specs.Codes.{char_code}
 use mathlib.Core.Path.{◌≡◌, refl}
 use mathlib.Core.Bool.{Bool, true, false, ◌&&◌}
 use Prim.Native.Nat.{ℕ}
 use lib.Dec.{T, eqb, eqb→eq}
 use Rattle.lists.proofs.Tables.{both_left, both_right}
-use Rattle.alphabet.specs.declared.Sends.{Sends}
-use Rattle.alphabet.specs.declared.Sends.TheVariants.{Nothing, Code}
 use Rattle.alphabet.specs.declared.Reads.{Reads}
 use Rattle.alphabet.specs.declared.Reads.TheVariants.{Character, Shift, NoRow}
 
-abbrev pub same_sends : Sends → Sends → Bool
-same_sends Nothing Nothing = true
-same_sends Nothing (Code t l) = false
-same_sends (Code s k) Nothing = false
-same_sends (Code s k) (Code t l) = eqb s t && eqb k.0 l.0
+abbrev pub same_sends : Option CharCode → Option CharCode → Bool
+same_sends None None = true
+same_sends None (Some o) = false
+same_sends (Some o) None = false
+same_sends (Some o) (Some q) = eqb o.shift q.shift && eqb o.code.0 q.code.0
 
-pub same-sends : (x y : Sends) → T (same_sends x y) → x ≡ y
-same-sends Nothing Nothing t = refl
-same-sends Nothing (Code s l) t = absurd t
-same-sends (Code s k) Nothing t = absurd t
-same-sends (Code s k) (Code t l) e =
-    let p : s ≡ t = eqb→eq s t (both_left (eqb s t) (eqb k.0 l.0) e) in
-    let q : k.0 ≡ l.0 = eqb→eq k.0 l.0 (both_right (eqb s t) (eqb k.0 l.0) e) in
-    λ i. Code (p i) (record { 0 = q i })
+pub same-sends : (x y : Option CharCode) → T (same_sends x y) → x ≡ y
+same-sends None None t = refl
+same-sends None (Some o) t = absurd t
+same-sends (Some o) None t = absurd t
+same-sends (Some o) (Some q) e =
+    let p : o.shift ≡ q.shift = eqb→eq o.shift q.shift (both_left (eqb o.shift q.shift) (eqb o.code.0 q.code.0) e) in
+    let q : o.code.0 ≡ q.code.0 =
+    eqb→eq o.code.0 q.code.0 (both_right (eqb o.shift q.shift) (eqb o.code.0 q.code.0) e) in
+    λ i. char_code (p i) (record { 0 = q i })
 
 -- the reading is the character n
 abbrev pub is_character : ℕ → Reads → Bool

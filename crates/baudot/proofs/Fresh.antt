@@ -1,4 +1,7 @@
 -- A fresh sender: its first shift code. And any sender's: the one that is wanted goes first.
+use Rattle.std.specs.Prelude.{Option, Some, None}
+use Rattle.alphabet.specs.declared.CharCode.{CharCode}
+use Rattle.alphabet.specs.Codes.{char_code}
 use mathlib.Core.Path.{◌≡◌, ◌∙◌, refl, sym, ap}
 use mathlib.Core.Bool.{true, false≢true}
 use mathlib.Core.List.{List, [], ◌∷◌, ◌++◌}
@@ -11,8 +14,6 @@ use borrow.Author.Tests.{ne_eqb, eqb-true, eqb-false}
 use Rattle.lists.proofs.Lists.{by-test, at-most-head, at-most-tail}
 use Rattle.alphabet.specs.declared.Alphabet.TheVariants.{Baudot}
 use Rattle.alphabet.specs.declared.LineCode.{LineCode}
-use Rattle.alphabet.specs.declared.Sends.{Sends}
-use Rattle.alphabet.specs.declared.Sends.TheVariants.{Nothing, Code}
 use Rattle.alphabet.specs.Baudot.{letters_code}
 use Rattle.alphabet.specs.Normal.{sends, is_code, all_chars}
 use Rattle.baudot.specs.declared.Sender.{Sender}
@@ -30,18 +31,18 @@ module _ (s : Sender) (fresh : s.shift ≡ 0) where
   unfolding wanted
   wants-letters own = simp fresh
 
-  abbrev GoesOn : Sends → Type 0
+  abbrev GoesOn : Option CharCode → Type 0
   GoesOn x =
       (codes_for s x ≡ letters_code ∷ codes_for (sender 1 0) x) × (sender_for s x ≡ sender_for (sender 1 0) x)
 
-  fresh-code : (own : ℕ) (k : LineCode) → 1 ≤ own → own ≤ 3 → GoesOn (Code own k)
+  fresh-code : (own : ℕ) (k : LineCode) → 1 ≤ own → own ≤ 3 → GoesOn (char_code own k)
   unfolding codes_for sender_for
   fresh-code own k lo hi = ⊎_elim by-none by-some (ahead (sender 1 0) own running-letters lo hi)
     where
-      by-none : NoneAhead (sender 1 0) own running-letters lo hi → GoesOn (Code own k)
+      by-none : NoneAhead (sender 1 0) own running-letters lo hi → GoesOn (char_code own k)
       by-none n = (simp (wants-letters own, n.none), simp (wants-letters own, n.none))
 
-      by-some : Ahead (sender 1 0) own running-letters lo hi (wanted (sender 1 0) own) → GoesOn (Code own k)
+      by-some : Ahead (sender 1 0) own running-letters lo hi (wanted (sender 1 0) own) → GoesOn (char_code own k)
       by-some a =
           let l = a.low in
           let z = ne_eqb (wanted (sender 1 0) own) 0 (λ (e : wanted (sender 1 0) own ≡ 0). omega arith) in
@@ -52,9 +53,9 @@ module _ (s : Sender) (fresh : s.shift ≡ 0) where
       × (sender_for s (sends Baudot c) ≡ sender_for (sender 1 0) (sends Baudot c))
   fresh-for c h b = go (sends Baudot c) refl b
     where
-      go : (x : Sends) → sends Baudot c ≡ x → is_code x ≡ true → GoesOn x
-      go Nothing e b = absurd (false≢true b)
-      go (Code own k) e b = fresh-code own k (own_range c own k h e).0 (own_range c own k h e).1
+      go : (x : Option CharCode) → sends Baudot c ≡ x → is_code x ≡ true → GoesOn x
+      go None e b = absurd (false≢true b)
+      go (Some o) e b = fresh-code o.shift o.code (own_range c o.shift o.code h e).0 (own_range c o.shift o.code h e).1
 
 -- its codes are at most twice the text and one more
 pub fresh-bound : (text : List ℕ) → all_chars text ≡ true → (s : Sender) → s.shift ≡ 0
@@ -63,10 +64,10 @@ unfolding codes_for sender_for codes_of
 fresh-bound [] t s z = omega arith
 fresh-bound (c ∷ cs) t s z = go (sends Baudot c) refl (fresh-bound cs (at-most-tail 0x7f c cs t) s z)
   where
-    go : (x : Sends) → sends Baudot c ≡ x → length (codes_of s cs) ≤ 2 * length cs + 1
+    go : (x : Option CharCode) → sends Baudot c ≡ x → length (codes_of s cs) ≤ 2 * length cs + 1
         → length (codes_for s (sends Baudot c) ++ codes_of (sender_for s (sends Baudot c)) cs) ≤ 2 * length (c ∷ cs) + 1
-    go Nothing e i = rw e (omega arith)
-    go (Code own k) e i =
+    go None e i = rw e (omega arith)
+    go (Some o) e i =
         let g = at-most-head 0x7f c cs t in
         let f = fresh-for s z c (omega arith) (ap is_code e) in
         let b = codes-twice (sender 1 0) (c ∷ cs) t (λ _. running-letters) in
@@ -84,8 +85,8 @@ module _ (s : Sender) (own : ℕ) (k : LineCode) (i : SenderIn s) (lo : 1 ≤ ow
 
   abbrev First : ℕ → Type 0
   First v =
-      (codes_for s (Code own k) ≡ shift_code v ∷ codes_for (sender v 0) (Code own k))
-      × (sender_for s (Code own k) ≡ sender_for (sender v 0) (Code own k))
+      (codes_for s (char_code own k) ≡ shift_code v ∷ codes_for (sender v 0) (char_code own k))
+      × (sender_for s (char_code own k) ≡ sender_for (sender v 0) (char_code own k))
 
   running-first : (r : Running s) → First w
   running-first r =

@@ -1,4 +1,7 @@
 -- Laws of the sending rule.
+use Rattle.std.specs.Prelude.{Option, Some, None}
+use Rattle.alphabet.specs.declared.CharCode.{CharCode}
+use Rattle.alphabet.specs.Codes.{char_code}
 use mathlib.Core.Path.{◌≡◌, ◌∙◌, refl, sym, ap}
 use mathlib.Core.Bool.{Bool, true, false, cond, not, ◌&&◌, ◌||◌, false≢true}
 use mathlib.Core.List.{List, [], ◌∷◌}
@@ -8,13 +11,11 @@ use native.Mathlib.Omega.{arith}
 use lib.Bits.{bit_and}
 use lib.Dec.{T, eqb, leb}
 use lib.ListN.{length, length-append}
-use borrow.Author.Tests.{eq-eqb, ne_eqb, eqb-false, le-leb, lt-leb, leb-true, leb-false, not-true}
+use borrow.Author.Tests.{eq-eqb, ne_eqb, eqb-false, le-leb, lt-leb, leb-true, leb-false, eqb-true, not-true, not-false}
 use Rattle.lists.specs.Tables.{passes}
 use Rattle.lists.proofs.Tables.{agree, agreed, passes_at}
 use Rattle.alphabet.specs.declared.Alphabet.TheVariants.{Baudot}
 use Rattle.alphabet.specs.declared.LineCode.{LineCode}
-use Rattle.alphabet.specs.declared.Sends.{Sends}
-use Rattle.alphabet.specs.declared.Sends.TheVariants.{Nothing, Code}
 use Rattle.alphabet.specs.Normal.{sends, all_chars}
 use Rattle.lists.proofs.Lists.{at-most-head, at-most-tail}
 use Rattle.alphabet.proofs.Ranges.{range-of}
@@ -60,6 +61,9 @@ module _ (s : Sender) (own : ℕ) (r : Running s) where
   -- behind a shift code that is wanted, its shift is in force
   pub behind-wanted : not (eqb (wanted s own) 0) ≡ true → (opened s own).shift ≡ wanted s own
   behind-wanted n = simp (not-true (eqb (wanted s own) 0) n)
+
+  pub wants-no : not (eqb (wanted s own) 0) ≡ false → wanted s own ≡ 0
+  wants-no n = eqb-true (wanted s own) 0 (not-false (eqb (wanted s own) 0) n)
 
   -- a code that is of the shift in force leaves it
   pub behind-same : differs own s.shift ≡ false → s.shift ≡ (opened s own).shift
@@ -144,46 +148,47 @@ module _ (s : Sender) (own : ℕ) (r : Running s) (lo : 1 ≤ own) (hi : own ≤
 
   module _ (k : LineCode) where
     -- no shift code is wanted: the code alone, and one more character
-    pub codes-none : wanted s own ≡ 0 → codes_for s (Code own k) ≡ k.0 ∷ []
+    pub codes-none : wanted s own ≡ 0 → codes_for s (char_code own k) ≡ k.0 ∷ []
     unfolding codes_for
     codes-none e = simp e
 
-    pub sender-none : wanted s own ≡ 0 → sender_for s (Code own k) ≡ counted s
+    pub sender-none : wanted s own ≡ 0 → sender_for s (char_code own k) ≡ counted s
     unfolding sender_for
     sender-none e = simp e
 
     -- a shift code is wanted: it comes first, and the character is the first after it
-    pub codes-some : Ahead (wanted s own) → codes_for s (Code own k) ≡ shift_code (wanted s own) ∷ k.0 ∷ []
+    pub codes-some : Ahead (wanted s own) → codes_for s (char_code own k) ≡ shift_code (wanted s own) ∷ k.0 ∷ []
     unfolding codes_for
     codes-some a = simp (some-wanted a, a.then_none)
 
-    pub sender-some : Ahead (wanted s own) → sender_for s (Code own k) ≡ sender (wanted s own) 1
+    pub sender-some : Ahead (wanted s own) → sender_for s (char_code own k) ≡ sender (wanted s own) 1
     unfolding sender_for
     sender-some a = simp (some-wanted a, a.then_none)
 
     -- a running sender stays so
-    running-code : Running (sender_for s (Code own k))
+    running-code : Running (sender_for s (char_code own k))
     running-code = ⊎_elim by-none by-some ahead
       where
-        by-none : NoneAhead → Running (sender_for s (Code own k))
+        by-none : NoneAhead → Running (sender_for s (char_code own k))
         by-none n =
             let b : s.count + 1 ≤ 72 = let l = n.below in omega arith in
             rw (sender-none n.none) (record { shift_low = r.shift_low; shift_in = r.shift_in; count_in = b })
 
-        by-some : Ahead (wanted s own) → Running (sender_for s (Code own k))
+        by-some : Ahead (wanted s own) → Running (sender_for s (char_code own k))
         by-some a = rw (sender-some a) (record { shift_low = a.low; shift_in = a.high; count_in = omega arith })
 
 -- what a character sends is of a shift
-pub own_range : (c own : ℕ) (k : LineCode) → c < 128 → sends Baudot c ≡ Code own k → (1 ≤ own) × (own ≤ 3)
+pub own_range : (c own : ℕ) (k : LineCode) → c < 128 → sends Baudot c ≡ char_code own k → (1 ≤ own) × (own ≤ 3)
 own_range c own k h e = ((range-of Baudot c h own k e).shift_least, (range-of Baudot c h own k e).shift-most)
 
 pub running-for : (s : Sender) (c : ℕ) → c < 128 → Running s → Running (sender_for s (sends Baudot c))
 unfolding sender_for
 running-for s c h r = go (sends Baudot c) refl
   where
-    go : (x : Sends) → sends Baudot c ≡ x → Running (sender_for s x)
-    go Nothing e = r
-    go (Code own k) e = running-code s own r (own_range c own k h e).0 (own_range c own k h e).1 k
+    go : (x : Option CharCode) → sends Baudot c ≡ x → Running (sender_for s x)
+    go None e = r
+    go (Some o) e =
+        running-code s o.shift r (own_range c o.shift o.code h e).0 (own_range c o.shift o.code h e).1 o.code
 
 -- the number of shift codes
 pub shifts_none : (w : ℕ) → w ≡ 0 → length (shift_codes w) ≡ 0
@@ -194,26 +199,27 @@ shifts-one w n = simp (ne_eqb w 0 n)
 
 -- A running sender's codes, counted.
 module _ (s : Sender) (own : ℕ) (k : LineCode) (r : Running s) (lo : 1 ≤ own) (hi : own ≤ 3) where
-  pub codes-length : length (codes_for s (Code own k)) ≡ length (shift_codes (wanted s own)) + 1
+  pub codes-length : length (codes_for s (char_code own k)) ≡ length (shift_codes (wanted s own)) + 1
   codes-length = ⊎_elim by-none by-some (ahead s own r lo hi)
     where
-      by-none : NoneAhead s own r lo hi → length (codes_for s (Code own k)) ≡ length (shift_codes (wanted s own)) + 1
+      by-none : NoneAhead s own r lo hi
+          → length (codes_for s (char_code own k)) ≡ length (shift_codes (wanted s own)) + 1
       by-none n = ap length (codes-none s own r lo hi k n.none) ∙ (simp n.none)
 
       by-some : Ahead s own r lo hi (wanted s own)
-          → length (codes_for s (Code own k)) ≡ length (shift_codes (wanted s own)) + 1
+          → length (codes_for s (char_code own k)) ≡ length (shift_codes (wanted s own)) + 1
       by-some a =
           let l = a.low in
           let o = shifts-one (wanted s own) (λ (e : wanted s own ≡ 0). omega arith) in
           ap length (codes-some s own r lo hi k a) ∙ (simp o)
 
-  pub sender-both : sender_for s (Code own k) ≡ counted (shifted s (wanted s own))
+  pub sender-both : sender_for s (char_code own k) ≡ counted (shifted s (wanted s own))
   sender-both = ⊎_elim by-none by-some (ahead s own r lo hi)
     where
-      by-none : NoneAhead s own r lo hi → sender_for s (Code own k) ≡ counted (shifted s (wanted s own))
+      by-none : NoneAhead s own r lo hi → sender_for s (char_code own k) ≡ counted (shifted s (wanted s own))
       by-none n = sender-none s own r lo hi k n.none ∙ (simp n.none)
 
-      by-some : Ahead s own r lo hi (wanted s own) → sender_for s (Code own k) ≡ counted (shifted s (wanted s own))
+      by-some : Ahead s own r lo hi (wanted s own) → sender_for s (char_code own k) ≡ counted (shifted s (wanted s own))
       by-some a = sender-some s own r lo hi k a ∙ (simp (some-wanted s own r lo hi a))
 
   pub shifted-count : (shifted s (wanted s own)).count ≤ 72
@@ -228,14 +234,14 @@ pub codes-two : (s : Sender) (c : ℕ) → c < 128 → Running s → length (cod
 unfolding codes_for
 codes-two s c h r = go (sends Baudot c) refl
   where
-    go : (x : Sends) → sends Baudot c ≡ x → length (codes_for s x) ≤ 2
-    go Nothing e = omega arith
-    go (Code own k) e =
-        let l = codes-length s own k r (own_range c own k h e).0 (own_range c own k h e).1 in
-        let o : length (shift_codes (wanted s own)) ≤ 1 = few (eqb (wanted s own) 0) in
+    go : (x : Option CharCode) → sends Baudot c ≡ x → length (codes_for s x) ≤ 2
+    go None e = omega arith
+    go (Some o) e =
+        let l = codes-length s o.shift o.code r (own_range c o.shift o.code h e).0 (own_range c o.shift o.code h e).1 in
+        let o : length (shift_codes (wanted s o.shift)) ≤ 1 = few (eqb (wanted s o.shift) 0) in
         omega arith
       where
-        few : (b : Bool) → length (cond b [] (shift_code (wanted s own) ∷ [])) ≤ 1
+        few : (b : Bool) → length (cond b [] (shift_code (wanted s o.shift) ∷ [])) ≤ 1
         few true = omega arith
         few false = omega arith
 

@@ -1,4 +1,7 @@
 -- How many codes a text has.
+use Rattle.std.specs.Prelude.{Option, Some, None}
+use Rattle.alphabet.specs.declared.CharCode.{CharCode}
+use Rattle.alphabet.specs.Codes.{char_code}
 use mathlib.Core.Path.{◌≡◌, refl}
 use mathlib.Core.Bool.{true, cond, not, false≢true}
 use mathlib.Core.List.{List, [], ◌∷◌, ◌++◌}
@@ -10,8 +13,6 @@ use borrow.Author.Tests.{eqb-true, eqb-false}
 use Rattle.lists.proofs.Lists.{either, by-test}
 use Rattle.alphabet.specs.declared.Alphabet.{Alphabet}
 use Rattle.alphabet.specs.declared.Alphabet.TheVariants.{Baudot, Dtmf, Edt}
-use Rattle.alphabet.specs.declared.Sends.{Sends}
-use Rattle.alphabet.specs.declared.Sends.TheVariants.{Nothing, Code}
 use Rattle.alphabet.specs.Normal.{sends, is_code, own_code, own_codes, all_chars}
 use Rattle.baudot.specs.declared.Sender.{Sender}
 use Rattle.baudot.specs.Sending.{codes_ahead, codes_for, sender_for, codes_of}
@@ -26,9 +27,10 @@ unfolding own_codes
 own-most a [] = omega arith
 own-most a (c ∷ cs) = go (sends a c) (own-most a cs)
   where
-    go : (x : Sends) → length (own_codes a cs) ≤ length cs → length (own_code x ++ own_codes a cs) ≤ length (c ∷ cs)
-    go Nothing i = omega arith
-    go (Code own k) i = omega arith
+    go : (x : Option CharCode) → length (own_codes a cs) ≤ length cs
+        → length (own_code x ++ own_codes a cs) ≤ length (c ∷ cs)
+    go None i = omega arith
+    go (Some o) i = omega arith
 
 -- in Baudot two for each character, and one more from a fresh sender
 pub baudot-most : (s : Sender) (cs : List ℕ) → SenderIn s → all_chars cs ≡ true
@@ -61,20 +63,21 @@ own-some : (a : Alphabet) (c : ℕ) (cs : List ℕ) → is_code (sends a c) ≡ 
 unfolding own_codes
 own-some a c cs e = go (sends a c) e
   where
-    go : (x : Sends) → is_code x ≡ true → 1 ≤ length (own_code x ++ own_codes a cs)
-    go Nothing e = absurd (false≢true e)
-    go (Code own k) e = omega arith
+    go : (x : Option CharCode) → is_code x ≡ true → 1 ≤ length (own_code x ++ own_codes a cs)
+    go None e = absurd (false≢true e)
+    go (Some o) e = omega arith
 
 pub text-some : (a : Alphabet) (s : Sender) (c : ℕ) (cs : List ℕ) → is_code (sends a c) ≡ true
     → 1 ≤ length (text_codes a s (c ∷ cs))
 unfolding codes_for codes_of
 text-some Baudot s c cs e = go (sends Baudot c) e
   where
-    go : (x : Sends) → is_code x ≡ true → 1 ≤ length (codes_for s x ++ codes_of (sender_for s x) cs)
-    go Nothing e = absurd (false≢true e)
-    go (Code own k) e =
-        let l = length-append (codes_ahead s own) (k.0 ∷ []) in
-        let m = length-append (codes_for s (Code own k)) (codes_of (sender_for s (Code own k)) cs) in
+    go : (x : Option CharCode) → is_code x ≡ true → 1 ≤ length (codes_for s x ++ codes_of (sender_for s x) cs)
+    go None e = absurd (false≢true e)
+    go (Some o) e =
+        let l = length-append (codes_ahead s o.shift) (o.code.0 ∷ []) in
+        let m = length-append (codes_for s (char_code o.shift o.code))
+        (codes_of (sender_for s (char_code o.shift o.code)) cs) in
         omega arith
 text-some Dtmf s c cs e = own-some Dtmf c cs e
 text-some Edt s c cs e = own-some Edt c cs e

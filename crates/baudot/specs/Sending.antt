@@ -1,8 +1,8 @@
 -- Document 01, "Baudot alphabet (Annex A)": the sending rule. A shift (there: case) is 0 fresh, 1 letters, 2 figures.
+use Rattle.std.specs.Prelude.{Option, Some, None}
+use Rattle.alphabet.specs.declared.CharCode.{CharCode}
 use Rattle.std.specs.Prelude.{ℕ, ◌+◌, ◌≤◌, Bool, cond, not, ◌&&◌, List, [], ◌∷◌, ◌++◌, eqb, leb}
 use Rattle.alphabet.specs.declared.Alphabet.TheVariants.{Baudot}
-use Rattle.alphabet.specs.declared.Sends.{Sends}
-use Rattle.alphabet.specs.declared.Sends.TheVariants.{Nothing, Code}
 use Rattle.alphabet.specs.Baudot.{letters, figures, any_shift, letters_code, figures_code}
 use Rattle.alphabet.specs.Normal.{sends}
 use Rattle.baudot.specs.declared.Sender.{Sender}
@@ -51,13 +51,13 @@ abbrev pub counted : Sender → Sender
 counted s = sender s.shift (s.count + 1)
 
 -- What is sent for a character, and the sender after it.
-unfoldable pub codes_for : Sender → Sends → List ℕ
-codes_for s Nothing = []
-codes_for s (Code own code) = codes_ahead s own ++ code.0 ∷ []
+unfoldable pub codes_for : Sender → Option CharCode → List ℕ
+codes_for s None = []
+codes_for s (Some o) = codes_ahead s o.shift ++ o.code.0 ∷ []
 
-unfoldable pub sender_for : Sender → Sends → Sender
-sender_for s Nothing = s
-sender_for s (Code own code) = counted (sender_ahead s own)
+unfoldable pub sender_for : Sender → Option CharCode → Sender
+sender_for s None = s
+sender_for s (Some o) = counted (sender_ahead s o.shift)
 
 -- What is sent for a text, and the sender after it.
 unfoldable pub codes_of : Sender → List ℕ → List ℕ

@@ -8,6 +8,9 @@ use native.Mathlib.Omega.{arith}
 use lib.ListN.{length, get_or, set, take, drop, drop_of_length-le}
 use lib.Seq.{sets, drop-cons, length-sets, take_at}
 use Rattle.lists.proofs.Lists.{sets-append, sets-front}
+use Rattle.refusals.specs.declared.Refusal.{Refusal}
+use Rattle.refusals.specs.declared.Refusal.TheVariants as refusal
+use Rattle.refusals.specs.Refusals.{number}
 use Rattle.alphabet.specs.Normal.{all_chars}
 use Rattle.baudot.specs.declared.BaudotSent.{BaudotSent}
 use Rattle.baudot.specs.Sending.{fresh, codes_of}
@@ -51,6 +54,22 @@ module _ (codes lines₀ lines : List ℕ) (i : ℕ) (l : Listed codes lines₀ 
 pub listed_start : (codes lines : List ℕ) → Listed codes lines lines 0
 listed_start codes lines = record { size = refl; slice = refl }
 
+-- no refusal has the number 0
+pub refusal-some : (r : Refusal) → number r ≡ 0 → ⊥
+refusal-some refusal.State e = omega arith
+refusal-some refusal.Mode e = omega arith
+refusal-some refusal.Character e = omega arith
+refusal-some refusal.Full e = omega arith
+refusal-some refusal.Duration e = omega arith
+refusal-some refusal.Heard e = omega arith
+refusal-some refusal.SentSlice e = omega arith
+refusal-some refusal.WordSlice e = omega arith
+refusal-some refusal.ResultSlice e = omega arith
+refusal-some refusal.Code e = omega arith
+refusal-some refusal.Tone e = omega arith
+refusal-some refusal.CallingState e = omega arith
+refusal-some refusal.ReportFull e = omega arith
+
 -- What the listing makes of the answer of a conversion.
 module _ (text codes : List ℕ) (room : 2 * length text + 1 ≤ length codes) where
   -- refused: a byte above 127, and nothing is printed
@@ -60,7 +79,7 @@ module _ (text codes : List ℕ) (room : 2 * length text + 1 ≤ length codes) w
     where
       go : (b : Bool) → all_chars text ≡ b → listing text ≡ []
       go true f =
-          let y = yes text 0 0 codes (omega arith) (omega arith) f (omega (arith, fresh-bound text f fresh refl)) in
+          let y = yes text 0 0 codes refl f (omega (arith, fresh-bound text f fresh refl)) in
           absurd (n (ap (λ (x : BaudotSent). x.answer) e ∙ (simp y)))
       go false f = simp f
 
@@ -78,7 +97,7 @@ module _ (text codes : List ℕ) (room : 2 * length text + 1 ≤ length codes) w
       go : (b : Bool) → all_chars text ≡ b → Taken r
       go true f =
           let h = fresh-bound text f fresh refl in
-          let y = yes text 0 0 codes (omega arith) (omega arith) f (omega arith) in
+          let y = yes text 0 0 codes refl f (omega arith) in
           let n : r.length ≡ length (codes_of fresh text) = ap (λ (x : BaudotSent). x.length) e ∙ (simp y) in
           record {
             lists = simp f;
@@ -87,7 +106,7 @@ module _ (text codes : List ℕ) (room : 2 * length text + 1 ≤ length codes) w
             front = rw y (take_at (codes_of fresh text) (drop (length (codes_of fresh text)) codes) r.length (sym n));
           }
       go false f =
-          let w = no-chars text 0 0 codes (omega arith) (omega arith) f in
+          let w = no-chars text 0 0 codes refl f in
           let q : r.answer ≡ 3 = ap (λ (x : BaudotSent). x.answer) e ∙ (simp w) in
           absurd (omega arith)
 

@@ -5,12 +5,13 @@ ghost use Rattle.std.proofs.lemmas.List.Edits.{sets};
 ghost use Rattle.baudot_list.specs.Listing.{digit, line_of, lines_of, listing};
 
 use alphabet::LineCode;
+use baudot::Sender;
 
 // The last binary digit of a number, as a character.
 fn digit(n: u8) -> u8
     ensures { result ≡ digit n }
 {
-    48 + n % 2
+    b'0' + n % 2
 }
 
 // A code as five digits and LF, written at a place.
@@ -23,7 +24,7 @@ fn put_line(lines: &mut [u8], at: usize, code: LineCode)
     lines[at + 2] = digit(code.0 / 4);
     lines[at + 3] = digit(code.0 / 2);
     lines[at + 4] = digit(code.0);
-    lines[at + 5] = 10;
+    lines[at + 5] = b'\n';
 }
 
 // The lines of a list of codes, written from the front.
@@ -31,10 +32,8 @@ fn put_lines(codes: &[u8], lines: &mut [u8])
     requires { 6 * length codes.now ≤ length lines.old }
     ensures { lines.new ≡ sets lines.old 0 (lines_of codes.now) }
 {
-    let mut i: usize = 0;
-    while i < codes.len() {
-        put_line(lines, 6 * i, LineCode(codes[i]));
-        i += 1;
+    for (i, code) in codes.iter().enumerate() {
+        put_line(lines, 6 * i, LineCode(*code));
     }
 }
 
@@ -45,11 +44,11 @@ pub fn list_codes(text: &[u8], codes: &mut [u8], lines: &mut [u8]) -> usize
     ensures value { result ≡ length (listing text.now) }
     ensures lines_after { lines.new ≡ written (listing text.now) lines.old }
 {
-    let s = baudot_sending::send(text, 0, 0, codes);
-    if s.answer != 0 {
+    let fresh = Sender { shift: 0, count: 0 };
+    let Ok(sent) = baudot_sending::send(text, fresh, codes) else {
         return 0;
-    }
-    let n = s.length;
+    };
+    let n = sent.at;
     put_lines(&codes[..n], lines);
     6 * n
 }

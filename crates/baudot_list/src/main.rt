@@ -6,13 +6,14 @@ use std::io::Write;
 
 mod listing;
 
+// The most bytes of the input.
+const MOST: usize = 4096;
+
 fn main(rt: HostRuntime) -> io::Result<()> {
-    let mut text = [0u8; 4096];
-    let mut input = rt.stdin();
-    let n = test_io::read_full(&mut input, &mut text)?;
-    let mut codes = [0u8; 8193];
-    let mut lines = [0u8; 49158];
-    let m = listing::list_codes(&text[..n], &mut codes, &mut lines);
-    let mut out = rt.stdout();
-    out.write_all(&lines[..m])
+    let alloc = rt.alloc();
+    let text = test_io::read_start(alloc, rt.stdin(), MOST)?;
+    let mut codes = vec![in alloc; 0; 2 * text.len() + 1]?;
+    let mut lines = vec![in alloc; 0; 6 * codes.len()]?;
+    let n = listing::list_codes(&text, &mut codes, &mut lines);
+    rt.stdout().write_all(&lines[..n])
 }

@@ -2,6 +2,7 @@
 use mathlib.Core.Path.{◌≡◌, ◌∙◌, refl}
 use mathlib.Core.Bool.{true, false, ◌||◌}
 use mathlib.Core.List.{List}
+use mathlib.Core.Logic.{◌⊎◌, inl, inr}
 use Prim.Native.Nat.{ℕ, zero, suc, ◌≤◌, ◌<◌}
 use native.Mathlib.Omega.{arith}
 use lib.Dec.{eqb}
@@ -30,13 +31,12 @@ module _ (codes : List ℕ) (shift : ℕ) (text : List ℕ) where
       record { result = simp (e, z); slice = simp (e, z) }
 
   -- the first no decides
-  pub fresh-shift : shift ≡ 0 → reply ≡ 1
+  pub no-shift : (shift ≡ 0) ⊎ ((shift ≡ 0 → ⊥) × (2 < shift)) → reply ≡ 1
   unfolding read_answer
-  fresh-shift e = simp e
-
-  pub far-shift : 2 < shift → reply ≡ 1
-  unfolding read_answer
-  far-shift h = simp (ne_eqb shift 1 (λ (e : shift ≡ 1). omega arith), ne_eqb shift 2 (λ (e : shift ≡ 2). omega arith))
+  no-shift (inl e) = simp e
+  no-shift (inr h) =
+      let l = h.1 in
+      simp (ne_eqb shift 1 (λ (e : shift ≡ 1). omega arith), ne_eqb shift 2 (λ (e : shift ≡ 2). omega arith))
 
   module _ (a : shift ≡ 0 → ⊥) (b : shift ≤ 2) where
     ranged : (eqb shift 1 || eqb shift 2) ≡ true

@@ -1,15 +1,14 @@
 -- Laws of reading a list of codes, and of counting its shift codes.
 use mathlib.Core.Path.{◌≡◌, ◌∙◌, refl, sym, ap}
-use mathlib.Core.Bool.{Bool, true, false, cond}
+use mathlib.Core.Bool.{Bool, true, false}
 use mathlib.Core.List.{List, [], ◌++◌}
-use Prim.Native.Nat.{ℕ, ◌+◌, ◌-◌, ◌≤◌, ◌<◌}
+use Prim.Native.Nat.{ℕ, ◌+◌, ◌≤◌, ◌<◌}
 use native.Mathlib.Nat.{add-zero}
 use native.Mathlib.Numerals.{add-one}
 use native.Mathlib.Omega.{arith}
-use lib.Dec.{eqb, leb}
-use lib.ListN.{length, get_or, set, take, drop, drop_of_length-le, length-append, take-append-drop}
-use lib.Seq.{sets, drop-cons, drop-drop, length-sets}
-use borrow.Author.Tests.{leb-true, leb-false}
+use lib.Dec.{eqb}
+use lib.ListN.{length, get_or, set, drop, drop_of_length-le, length-append}
+use lib.Seq.{sets, drop-cons, length-sets}
 use Rattle.lists.proofs.Lists.{sets-append}
 use Rattle.alphabet.specs.declared.Char.{Char}
 use Rattle.alphabet.specs.declared.Reads.{Reads}
@@ -19,8 +18,9 @@ use Rattle.alphabet.specs.Normal.{chars_of}
 use Rattle.baudot_reading.specs.declared.Taken.{Taken}
 use Rattle.baudot.specs.Reading.{shift_by, text_of, shift_after}
 use Rattle.baudot.specs.Counting.{shift_one, shifts_in}
-use Rattle.baudot_reading.specs.code.Blocks.{block_end}
-use Rattle.baudot.proofs.CountingRule.{shifts-append}
+use Rattle.std.specs.List.{sum_by}
+use Rattle.std.proofs.lemmas.List.Recursion.{is_sum_by}
+use Rattle.baudot.proofs.CountingRule.{shifts-append, shifts-most}
 
 module _ (codes : List ℕ) (s i : ℕ) where
   abbrev got : ℕ → List ℕ
@@ -112,39 +112,19 @@ module _ (codes text₀ : List ℕ) (s₀ : ℕ) where
     pub slice-end : length codes ≤ i → text ≡ sets text₀ 0 (text_of s₀ codes)
     slice-end h = ap (sets text t.at) (sym (text-end codes t.shift i h)) ∙ r.slice
 
--- the shift codes that are left
-pub shifts_left : (ks : List ℕ) (i : ℕ) → i < length ks
-    → shifts_in (drop i ks) ≡ shift_one (get_or ks i 0) + shifts_in (drop (i + 1) ks)
+-- the shift codes of a list, as a sum over its codes
+pub shifts-sum : (ks : List ℕ) → shifts_in ks ≡ sum_by shift_one ks
 unfolding shifts_in
-shifts_left ks i h = rw (add-one, drop-cons ks i 0 h)
+shifts-sum = is_sum_by shifts_in shift_one refl (λ k ks. refl)
 
-pub shifts-end : (ks : List ℕ) (i : ℕ) → length ks ≤ i → shifts_in (drop i ks) ≡ 0
-unfolding shifts_in
-shifts-end ks i h = rw (drop_of_length-le ks h)
+-- a block that is counted, and what is behind it
+module _ (n k : ℕ) (rest block after all : List ℕ) (split : rest ≡ block ++ after) (block-is : k ≡ shifts_in block)
+    (left : n + shifts_in rest ≡ shifts_in all) where
+  pub block-turn : n + k + shifts_in after ≡ shifts_in all
+  block-turn = let e = ap shifts_in split ∙ shifts-append block after in omega arith
 
--- a block, and what is behind it
-pub shifts-block : (ks : List ℕ) (i e : ℕ) → i ≤ e
-    → shifts_in (drop i ks) ≡ shifts_in (take (e - i) (drop i ks)) + shifts_in (drop e ks)
-shifts-block ks i e h =
-    let d : i + (e - i) ≡ e = omega arith in
-    ap shifts_in (sym (take-append-drop (e - i) (drop i ks)))
-    ∙ shifts-append (take (e - i) (drop i ks)) (drop (e - i) (drop i ks))
-    ∙ ap (λ (l : List ℕ). shifts_in (take (e - i) (drop i ks)) + shifts_in l)
-    (drop-drop (e - i) i ks ∙ ap (λ (n : ℕ). drop n ks) d)
-
-pub record Block (at len e : ℕ) : Type 0 where
-  pub after : at < e
-  pub within : e ≤ len
-  pub short : e - at ≤ 128
-
-pub block_of : (at len e : ℕ) → at < len → e ≡ block_end at len → Block at len e
-block_of at len e h q = rw q (go (leb (len - at) 128) refl)
-  where
-    go : (b : Bool) → leb (len - at) 128 ≡ b → Block at len (cond b len (at + 128))
-    go true f = let l = leb-true (len - at) 128 f in record { after = h; within = omega arith; short = omega arith }
-    go false f =
-        let l = leb-false (len - at) 128 f in
-        record { after = omega arith; within = omega arith; short = omega arith }
+  pub block-most : n + k ≤ length all
+  block-most = let e = block-turn in let m = shifts-most all in omega arith
 
 -- What a code that is read leaves: the place and shift after it, and the slice.
 module _ (text : List ℕ) (at s : ℕ) where

@@ -1,2 +1,2 @@
 -- How the code goes about its work; no contract of an entry mentions these.
-pub mod Blocks
+pub mod Reply

@@ -45,47 +45,47 @@ module _ (text : List ℕ) (s : Sender) (i : ℕ) where
   unfolding sender_after
   sender-end h = rw (drop_of_length-le text h)
 
--- From the place p₀ and the index i₀ on a text is sent; at the place p and the index i this is left.
-pub record Left (text : List ℕ) (p₀ : Placed) (i₀ : ℕ) (p : Placed) (i : ℕ) : Type 0 where
+-- From the place p₀ on a text is sent; at the place p and the index i this is left.
+pub record Left (text : List ℕ) (p₀ p : Placed) (i : ℕ) : Type 0 where
   pub running : i < length text → Running p.sender
-  pub place : p.at + length (codes_of p.sender (drop i text)) ≡ p₀.at + length (codes_of p₀.sender (drop i₀ text))
-  pub sender : sender_after p.sender (drop i text) ≡ sender_after p₀.sender (drop i₀ text)
+  pub place : p.at + length (codes_of p.sender (drop i text)) ≡ p₀.at + length (codes_of p₀.sender text)
+  pub sender : sender_after p.sender (drop i text) ≡ sender_after p₀.sender text
 
-module _ (text : List ℕ) (p₀ : Placed) (i₀ : ℕ) where
-  pub left-start : (i₀ < length text → Running p₀.sender) → Left text p₀ i₀ p₀ i₀
+module _ (text : List ℕ) (p₀ : Placed) where
+  pub left-start : (0 < length text → Running p₀.sender) → Left text p₀ p₀ 0
   left-start r = record { running = r; place = refl; sender = refl }
 
-  module _ (p : Placed) (i : ℕ) (l : Left text p₀ i₀ p i) where
-    -- one character more
-    pub left-turn : (q : Placed) → i < length text → get_or text i 0 < 128
-        → q ≡ record {
-          at = p.at + length (codes_for p.sender (sends Baudot (get_or text i 0)));
-          sender = sender_for p.sender (sends Baudot (get_or text i 0));
-        }
-        → Left text p₀ i₀ q (i + 1)
-    left-turn q h g e =
-        let a = length-left text p.sender i h in
-        let b = l.place in
-        rw e
-        (record {
-          running = λ _. running-for p.sender (get_or text i 0) g (l.running h);
-          place = omega arith;
-          sender = sym (sender-left text p.sender i h) ∙ l.sender;
-        })
+  module _ (p : Placed) (i : ℕ) (l : Left text p₀ p i) where
+    -- one character more, for which n is sent, and after which t is the sender
+    module _ (n : List ℕ) (t : Sender) (h : i < length text)
+        (codes-are : n ≡ codes_for p.sender (sends Baudot (get_or text i 0)))
+        (sender-is : t ≡ sender_for p.sender (sends Baudot (get_or text i 0))) where
+      pub left-turn : get_or text i 0 < 128 → (q : Placed) → q ≡ record { at = p.at + length n; sender = t }
+          → Left text p₀ q (i + 1)
+      left-turn g q e =
+          let a = length-left text p.sender i h in
+          let b = l.place in
+          rw (e, codes-are, sender-is)
+          (record {
+            running = λ _. running-for p.sender (get_or text i 0) g (l.running h);
+            place = omega arith;
+            sender = sym (sender-left text p.sender i h) ∙ l.sender;
+          })
 
     -- the room for one character
-    pub left-room : (room : ℕ) → i < length text → p₀.at + length (codes_of p₀.sender (drop i₀ text)) ≤ room
-        → p.at + length (codes_for p.sender (sends Baudot (get_or text i 0))) ≤ room
-    left-room room h g =
+    pub left-room : (room : ℕ) (n : List ℕ) → i < length text
+        → n ≡ codes_for p.sender (sends Baudot (get_or text i 0))
+        → p₀.at + length (codes_of p₀.sender text) ≤ room → p.at + length n ≤ room
+    left-room room n h e g =
         let a = length-left text p.sender i h in
         let b = l.place in
-        omega arith
+        rw e (omega arith)
 
     -- nothing is left
     pub left_end : length text ≤ i
         → p ≡ record {
-          at = p₀.at + length (codes_of p₀.sender (drop i₀ text));
-          sender = sender_after p₀.sender (drop i₀ text);
+          at = p₀.at + length (codes_of p₀.sender text);
+          sender = sender_after p₀.sender text;
         }
     left_end h =
         let n = ap (λ (xs : List ℕ). p.at + length xs) (codes-end text p.sender i h) in
@@ -94,33 +94,30 @@ module _ (text : List ℕ) (p₀ : Placed) (i₀ : ℕ) where
         λ k. record { at = sym a k; sender = b k }
 
 -- The same, with the slice that is written: codes₀ at first, codes at the place p.
-pub record Writing (text codes₀ : List ℕ) (p₀ : Placed) (i₀ : ℕ) (codes : List ℕ) (p : Placed) (i : ℕ) : Type 0 where
-  pub left : Left text p₀ i₀ p i
+pub record Writing (text codes₀ : List ℕ) (p₀ : Placed) (codes : List ℕ) (p : Placed) (i : ℕ) : Type 0 where
+  pub left : Left text p₀ p i
   pub size : length codes ≡ length codes₀
-  pub slice : sets codes p.at (codes_of p.sender (drop i text))
-      ≡ sets codes₀ p₀.at (codes_of p₀.sender (drop i₀ text))
+  pub slice : sets codes p.at (codes_of p.sender (drop i text)) ≡ sets codes₀ p₀.at (codes_of p₀.sender text)
 
-module _ (text codes₀ : List ℕ) (p₀ : Placed) (i₀ : ℕ) where
-  pub writing_start : (i₀ < length text → Running p₀.sender) → Writing text codes₀ p₀ i₀ codes₀ p₀ i₀
-  writing_start r = record { left = left-start text p₀ i₀ r; size = refl; slice = refl }
+module _ (text codes₀ : List ℕ) (p₀ : Placed) where
+  pub writing_start : (0 < length text → Running p₀.sender) → Writing text codes₀ p₀ codes₀ p₀ 0
+  writing_start r = record { left = left-start text p₀ r; size = refl; slice = refl }
 
-  module _ (codes : List ℕ) (p : Placed) (i : ℕ) (w : Writing text codes₀ p₀ i₀ codes p i) where
-    pub writing-turn : (q : Placed) (after : List ℕ) → i < length text → get_or text i 0 < 128
-        → q ≡ record {
-          at = p.at + length (codes_for p.sender (sends Baudot (get_or text i 0)));
-          sender = sender_for p.sender (sends Baudot (get_or text i 0));
-        }
-        → after ≡ sets codes p.at (codes_for p.sender (sends Baudot (get_or text i 0)))
-        → Writing text codes₀ p₀ i₀ after q (i + 1)
-    writing-turn q after h g e f =
+  module _ (codes : List ℕ) (p : Placed) (i : ℕ) (w : Writing text codes₀ p₀ codes p i) where
+    pub writing-turn : (n : List ℕ) (t : Sender) → i < length text
+        → n ≡ codes_for p.sender (sends Baudot (get_or text i 0))
+        → t ≡ sender_for p.sender (sends Baudot (get_or text i 0))
+        → get_or text i 0 < 128 → (q : Placed) → q ≡ record { at = p.at + length n; sender = t }
+        → (after : List ℕ) → after ≡ sets codes p.at n → Writing text codes₀ p₀ after q (i + 1)
+    writing-turn n t h c s g q e after f =
         let x = sends Baudot (get_or text i 0) in
-        let n = codes_for p.sender x in
-        let a = sets-append codes p.at n (codes_of (sender_for p.sender x) (drop (i + 1) text)) in
+        let m = codes_for p.sender x in
+        let a = sets-append codes p.at m (codes_of (sender_for p.sender x) (drop (i + 1) text)) in
         record {
-          left = left-turn text p₀ i₀ p i w.left q h g e;
+          left = left-turn text p₀ p i w.left n t h c s g q e;
           size = ap length f ∙ length-sets codes p.at n ∙ w.size;
-          slice = rw (e, f) (sym a ∙ ap (sets codes p.at) (sym (codes-left text p.sender i h)) ∙ w.slice);
+          slice = rw (e, f, c, s) (sym a ∙ ap (sets codes p.at) (sym (codes-left text p.sender i h)) ∙ w.slice);
         }
 
-    pub writing-end : length text ≤ i → codes ≡ sets codes₀ p₀.at (codes_of p₀.sender (drop i₀ text))
+    pub writing-end : length text ≤ i → codes ≡ sets codes₀ p₀.at (codes_of p₀.sender text)
     writing-end h = ap (sets codes p.at) (sym (codes-end text p.sender i h)) ∙ w.slice

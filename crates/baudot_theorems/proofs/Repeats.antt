@@ -1,5 +1,8 @@
 -- The count of 72, exactly, for any number of characters: a shift code after each 72 of the shift in force, and nowhere
 -- else.
+use Rattle.std.specs.Prelude.{Option, Some, None}
+use Rattle.alphabet.specs.declared.CharCode.{CharCode}
+use Rattle.alphabet.specs.Codes.{char_code}
 use mathlib.Core.Path.{◌≡◌, refl}
 use mathlib.Core.Bool.{true, false}
 use mathlib.Core.List.{List, [], ◌∷◌, ◌++◌}
@@ -10,8 +13,6 @@ use borrow.Author.Tests.{ne_eqb, eq-eqb, le-leb, leb-true, leb-false, not-true}
 use Rattle.lists.proofs.Lists.{by-test, and_left, and_right}
 use Rattle.alphabet.specs.declared.Alphabet.TheVariants.{Baudot}
 use Rattle.alphabet.specs.declared.LineCode.{LineCode}
-use Rattle.alphabet.specs.declared.Sends.{Sends}
-use Rattle.alphabet.specs.declared.Sends.TheVariants.{Nothing, Code}
 use Rattle.alphabet.specs.Baudot.{letters}
 use Rattle.alphabet.specs.Normal.{sends, own_code, own_codes}
 use Rattle.baudot.specs.Sending.{sender, shift_code, differs, wanted, codes_for, sender_for, codes_of, Running}
@@ -43,8 +44,8 @@ module _ (shift own : ℕ) (k : LineCode) (low : 1 ≤ shift) (high : shift ≤ 
   running count h = record { shift_low = low; shift_in = high; count_in = h }
 
   again : (count : ℕ) → count ≤ 72 → 72 ≤ count
-      → (codes_for (sender shift count) (Code own k) ≡ shift_code shift ∷ k.0 ∷ [])
-      × (sender_for (sender shift count) (Code own k) ≡ sender shift 1)
+      → (codes_for (sender shift count) (char_code own k) ≡ shift_code shift ∷ k.0 ∷ [])
+      × (sender_for (sender shift count) (char_code own k) ≡ sender shift 1)
   unfolding codes_for sender_for
   again count h l =
       let w = wanted-again (sender shift count) own (running count h) same l in
@@ -53,8 +54,8 @@ module _ (shift own : ℕ) (k : LineCode) (low : 1 ≤ shift) (high : shift ≤ 
       (simp (w, z, n), simp (w, z, n))
 
   plain : (count : ℕ) → count < 72
-      → (codes_for (sender shift count) (Code own k) ≡ k.0 ∷ [])
-      × (sender_for (sender shift count) (Code own k) ≡ sender shift (count + 1))
+      → (codes_for (sender shift count) (char_code own k) ≡ k.0 ∷ [])
+      × (sender_for (sender shift count) (char_code own k) ≡ sender shift (count + 1))
   unfolding codes_for sender_for
   plain count l =
       let w = wanted-none (sender shift count) own (running count (omega arith)) same l in
@@ -73,24 +74,24 @@ module _ (shift : ℕ) (low : 1 ≤ shift) (high : shift ≤ 2) where
       go (sends Baudot c) (and_left (of_shift shift (sends Baudot c)) (all_of_shift shift cs) t)
       (exactly cs (and_right (of_shift shift (sends Baudot c)) (all_of_shift shift cs) t))
     where
-      go : (x : Sends) → of_shift shift x ≡ true → Exactly cs
+      go : (x : Option CharCode) → of_shift shift x ≡ true → Exactly cs
           → codes_for (sender shift count) x ++ codes_of (sender_for (sender shift count) x) cs
           ≡ with_repeats shift gone (own_code x ++ own_codes Baudot cs)
-      go Nothing o later = later m gone count n
-      go (Code own k) o later =
-          let same = not-true (differs own shift) o in
+      go None o later = later m gone count n
+      go (Some q) o later =
+          let same = not-true (differs q.shift shift) o in
           let s = n.sum in
           let l = n.most in
           by-test (leb 72 count)
           (λ e.
           let h = leb-true 72 count e in
-          let a = again shift own k low high same count l h in
+          let a = again shift q.shift q.code low high same count l h in
           let f : 1 ≤ m + 1 → 1 ≤ 1 = (λ _. omega arith) in
           let r : Counts (m + 1) (gone + 1) 1 = record { sum = omega arith; most = omega arith; followed = f } in
           rw (a.0, a.1, due m gone count n h, later (m + 1) (gone + 1) 1 r) refl)
           (λ e.
           let h = leb-false 72 count e in
-          let p = plain shift own k low high same count h in
+          let p = plain shift q.shift q.code low high same count h in
           let f : 1 ≤ m → 1 ≤ count + 1 = (λ _. omega arith) in
           let r : Counts m (gone + 1) (count + 1) = record { sum = omega arith; most = omega arith; followed = f } in
           rw (p.0, p.1, not-due m gone count n h, later m (gone + 1) (count + 1) r) refl)
@@ -114,11 +115,11 @@ repeats-fresh (c ∷ cs) count t =
     go (sends Baudot c) (and_left (of_shift letters (sends Baudot c)) (all_of_shift letters cs) t) tail
     (repeats-fresh cs count tail)
   where
-    go : (x : Sends) → of_shift letters x ≡ true → all_of_shift letters cs ≡ true
+    go : (x : Option CharCode) → of_shift letters x ≡ true → all_of_shift letters cs ≡ true
         → codes_of (sender 0 count) cs ≡ letters_first (with_repeats letters 0 (own_codes Baudot cs))
         → codes_for (sender 0 count) x ++ codes_of (sender_for (sender 0 count) x) cs
         ≡ letters_first (with_repeats letters 0 (own_code x ++ own_codes Baudot cs))
-    go Nothing o tail later = later
-    go (Code own k) o tail later =
+    go None o tail later = later
+    go (Some q) o tail later =
         let i = repeats-exactly cs letters 1 (omega arith) (omega arith) (omega arith) tail in
-        simp (not-true (differs own letters) o, i)
+        simp (not-true (differs q.shift letters) o, i)

@@ -1,4 +1,7 @@
 -- Reading what was sent gives the normal form of the text.
+use Rattle.std.specs.Prelude.{Option, Some, None}
+use Rattle.alphabet.specs.declared.CharCode.{CharCode}
+use Rattle.alphabet.specs.Codes.{char_code}
 use mathlib.Core.Path.{◌≡◌, ◌∙◌, refl, sym, ap, subst}
 use mathlib.Core.Bool.{Bool, true, false}
 use mathlib.Core.List.{List, [], ◌∷◌, ◌++◌, append_assoc}
@@ -10,8 +13,6 @@ use borrow.Author.Tests.{eqb-true}
 use Rattle.lists.proofs.Lists.{at-most-head, at-most-tail}
 use Rattle.alphabet.specs.declared.Alphabet.TheVariants.{Baudot}
 use Rattle.alphabet.specs.declared.LineCode.{LineCode}
-use Rattle.alphabet.specs.declared.Sends.{Sends}
-use Rattle.alphabet.specs.declared.Sends.TheVariants.{Nothing, Code}
 use Rattle.alphabet.specs.declared.Reads.TheVariants.{Character, Shift}
 use Rattle.alphabet.specs.Baudot.{read_baudot}
 use Rattle.alphabet.specs.Normal.{sends, is_code, reads, chars_of, normal, normal_form, all_chars}
@@ -70,7 +71,7 @@ record Follows (s : Sender) (c : ℕ) : Type 0 where
   shift_is : shift_after s.shift (codes_for s (sends Baudot c)) ≡ (sender_for s (sends Baudot c)).shift
 
 module _ (s : Sender) (c : ℕ) (r : Running s) (h : c < 128) where
-  module _ (own : ℕ) (k : LineCode) (e : sends Baudot c ≡ Code own k) where
+  module _ (own : ℕ) (k : LineCode) (e : sends Baudot c ≡ char_code own k) where
     abbrev lo : 1 ≤ own
     lo = (own_range c own k h e).0
 
@@ -112,10 +113,11 @@ module _ (s : Sender) (c : ℕ) (r : Running s) (h : c < 128) where
   unfolding codes_for sender_for text_of shift_after
   follows = go (sends Baudot c) refl
     where
-      go : (x : Sends) → sends Baudot c ≡ x → Follows s c
-      go Nothing e = record { text-is = simp e; shift_is = simp e }
-      go (Code own k) e =
-          ⊎_elim (follows-none own k e) (follows-some own k e) (ahead s own r (lo own k e) (hi own k e))
+      go : (x : Option CharCode) → sends Baudot c ≡ x → Follows s c
+      go None e = record { text-is = simp e; shift_is = simp e }
+      go (Some o) e =
+          ⊎_elim (follows-none o.shift o.code e) (follows-some o.shift o.code e)
+          (ahead s o.shift r (lo o.shift o.code e) (hi o.shift o.code e))
 
 -- from a running sender, by a reader in its shift
 pub round-trip-running : (text : List ℕ) → all_chars text ≡ true → (s : Sender) → Running s
@@ -150,11 +152,11 @@ unfolding codes_for sender_for codes_of text_of normal_form read_baudot
 round-trip-fresh [] t s z r = refl
 round-trip-fresh (c ∷ cs) t s z r = go (sends Baudot c) refl (round-trip-fresh cs (at-most-tail 0x7f c cs t) s z r)
   where
-    go : (x : Sends) → sends Baudot c ≡ x → text_of r (codes_of s cs) ≡ normal_form Baudot cs
+    go : (x : Option CharCode) → sends Baudot c ≡ x → text_of r (codes_of s cs) ≡ normal_form Baudot cs
         → text_of r (codes_for s (sends Baudot c) ++ codes_of (sender_for s (sends Baudot c)) cs)
         ≡ normal Baudot c ++ normal_form Baudot cs
-    go Nothing e i = simp e i
-    go (Code own k) e i =
+    go None e i = simp e i
+    go (Some o) e i =
         let g = at-most-head 0x7f c cs t in
         let f = fresh-for s z c (omega arith) (ap is_code e) in
         rw (f.0, f.1) (round-trip-running (c ∷ cs) t (sender 1 0) running-letters)

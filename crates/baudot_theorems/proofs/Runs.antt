@@ -1,4 +1,7 @@
 -- Between two shift codes, and after the last, there are never more than 72 characters.
+use Rattle.std.specs.Prelude.{Option, Some, None}
+use Rattle.alphabet.specs.declared.CharCode.{CharCode}
+use Rattle.alphabet.specs.Codes.{char_code}
 use mathlib.Core.Path.{◌≡◌, refl, ap, subst}
 use mathlib.Core.Bool.{true, cond}
 use mathlib.Core.List.{List, [], ◌∷◌, ◌++◌}
@@ -10,8 +13,6 @@ use lib.ListN.{length}
 use Rattle.lists.proofs.Lists.{at-most-head, at-most-tail}
 use Rattle.alphabet.specs.declared.Alphabet.TheVariants.{Baudot}
 use Rattle.alphabet.specs.declared.LineCode.{LineCode}
-use Rattle.alphabet.specs.declared.Sends.{Sends}
-use Rattle.alphabet.specs.declared.Sends.TheVariants.{Nothing, Code}
 use Rattle.alphabet.specs.declared.Reads.{Reads}
 use Rattle.alphabet.specs.Normal.{sends, is_code, reads, chars_of, all_chars}
 use Rattle.alphabet_theorems.proofs.Rule.{rule-of}
@@ -33,7 +34,7 @@ Bounded n [] = n ≤ 72
 Bounded n (k ∷ ks) = (n ≤ 72) × Bounded (since n k) ks
 
 -- the code of a character is no shift code; the code of a shift is one
-not-shift : (c own : ℕ) (k : LineCode) → c < 128 → sends Baudot c ≡ Code own k → shift_one k.0 ≡ 0
+not-shift : (c own : ℕ) (k : LineCode) → c < 128 → sends Baudot c ≡ char_code own k → shift_one k.0 ≡ 0
 unfolding reads
 not-shift c own k h e =
     let a = own-shift Baudot own k (rule-of Baudot c h own k e) in
@@ -59,33 +60,35 @@ bounded-text (c ∷ cs) t s r =
     All : Type 0
     All = Bounded s.count (codes_for s (sends Baudot c) ++ codes_of (sender_for s (sends Baudot c)) cs)
 
-    go : c < 128 → (x : Sends) → sends Baudot c ≡ x
+    go : c < 128 → (x : Option CharCode) → sends Baudot c ≡ x
         → Bounded (sender_for s (sends Baudot c)).count (codes_of (sender_for s (sends Baudot c)) cs) → All
-    go h Nothing e i = rw e (rw e at i)
-    go h (Code own k) e i = ⊎_elim by-none by-some (ahead s own r lo hi)
+    go h None e i = rw e (rw e at i)
+    go h (Some o) e i = ⊎_elim by-none by-some (ahead s o.shift r lo hi)
       where
         Left : Sender → Type 0
         Left x = Bounded x.count (codes_of x cs)
 
-        lo : 1 ≤ own
-        lo = (own_range c own k h e).0
+        lo : 1 ≤ o.shift
+        lo = (own_range c o.shift o.code h e).0
 
-        hi : own ≤ 3
-        hi = (own_range c own k h e).1
+        hi : o.shift ≤ 3
+        hi = (own_range c o.shift o.code h e).1
 
-        j : Bounded (sender_for s (Code own k)).count (codes_of (sender_for s (Code own k)) cs)
+        j : Bounded (sender_for s (char_code o.shift o.code)).count
+            (codes_of (sender_for s (char_code o.shift o.code)) cs)
         j = rw e at i
 
-        by-none : NoneAhead s own r lo hi → All
+        by-none : NoneAhead s o.shift r lo hi → All
         by-none n =
-            let z = sender-none s own r lo hi k n.none in
-            rw (e, codes-none s own r lo hi k n.none, z, not-shift c own k h e) (r.count_in, subst Left z j)
+            let z = sender-none s o.shift r lo hi o.code n.none in
+            rw (e, codes-none s o.shift r lo hi o.code n.none, z, not-shift c o.shift o.code h e)
+            (r.count_in, subst Left z j)
 
-        by-some : Ahead s own r lo hi (wanted s own) → All
+        by-some : Ahead s o.shift r lo hi (wanted s o.shift) → All
         by-some a =
-            let z = sender-some s own r lo hi k a in
-            let w = is-shift (wanted s own) a.low a.high in
-            rw (e, codes-some s own r lo hi k a, z, w, not-shift c own k h e)
+            let z = sender-some s o.shift r lo hi o.code a in
+            let w = is-shift (wanted s o.shift) a.low a.high in
+            rw (e, codes-some s o.shift r lo hi o.code a, z, w, not-shift c o.shift o.code h e)
             (r.count_in, (omega arith, subst Left z j))
 
 -- a fresh sender's codes: none, or 11111 and those of a sender in letters
@@ -94,10 +97,10 @@ unfolding codes_for sender_for codes_of
 bounded-fresh [] t s z = omega arith
 bounded-fresh (c ∷ cs) t s z = go (sends Baudot c) refl (bounded-fresh cs (at-most-tail 0x7f c cs t) s z)
   where
-    go : (x : Sends) → sends Baudot c ≡ x → Bounded 0 (codes_of s cs)
+    go : (x : Option CharCode) → sends Baudot c ≡ x → Bounded 0 (codes_of s cs)
         → Bounded 0 (codes_for s (sends Baudot c) ++ codes_of (sender_for s (sends Baudot c)) cs)
-    go Nothing e i = rw e i
-    go (Code own k) e i =
+    go None e i = rw e i
+    go (Some o) e i =
         let g = at-most-head 0x7f c cs t in
         let f = fresh-for s z c (omega arith) (ap is_code e) in
         rw (f.0, f.1) (omega arith, bounded-text (c ∷ cs) t (sender 1 0) running-letters)

@@ -1,16 +1,16 @@
 -- Document 01, "Baudot alphabet (Annex A)", the count of 72, exactly: what any number of characters of one shift send.
+use Rattle.std.specs.Prelude.{Option, Some, None}
+use Rattle.alphabet.specs.declared.CharCode.{CharCode}
 use Rattle.std.specs.Prelude.{ℕ, ◌+◌, ◌%◌, Bool, true, cond, not, ◌&&◌, List, [], ◌∷◌, ◌++◌, eqb, leb}
 use Rattle.alphabet.specs.declared.Alphabet.TheVariants.{Baudot}
-use Rattle.alphabet.specs.declared.Sends.{Sends}
-use Rattle.alphabet.specs.declared.Sends.TheVariants.{Nothing, Code}
 use Rattle.alphabet.specs.Baudot.{letters_code}
 use Rattle.alphabet.specs.Normal.{sends}
 use Rattle.baudot.specs.Sending.{shift_code, differs}
 
 -- What a character sends is of a shift: a code of it or of both, or nothing.
-abbrev pub of_shift : ℕ → Sends → Bool
-of_shift shift Nothing = true
-of_shift shift (Code own code) = not (differs own shift)
+abbrev pub of_shift : ℕ → Option CharCode → Bool
+of_shift shift None = true
+of_shift shift (Some o) = not (differs o.shift shift)
 
 -- Every character of a text is.
 unfoldable pub all_of_shift : ℕ → List ℕ → Bool

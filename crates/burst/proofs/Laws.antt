@@ -1,4 +1,7 @@
 -- What the functions of this crate need of the definitions.
+use Rattle.std.specs.Prelude.{Option, None}
+use Rattle.alphabet.specs.declared.CharCode.{CharCode}
+use Rattle.alphabet.specs.Codes.{char_code}
 use mathlib.Core.Path.{◌≡◌, ◌∙◌, refl, ap}
 use mathlib.Core.Bool.{Bool, true, false, not, ◌&&◌, and-false}
 use mathlib.Core.List.{List, [], ◌∷◌}
@@ -10,8 +13,6 @@ use borrow.Author.Tests.{eqb-true, eqb-false, ne_eqb, lt-ltb, le-ltb}
 use Rattle.lists.proofs.Lists.{either-by, by-test}
 use Rattle.alphabet.specs.declared.Alphabet.{Alphabet}
 use Rattle.alphabet.specs.declared.Mode.{Mode}
-use Rattle.alphabet.specs.declared.Sends.{Sends}
-use Rattle.alphabet.specs.declared.Sends.TheVariants.{Nothing, Code}
 use Rattle.alphabet.specs.declared.LineCode.{LineCode}
 use Rattle.alphabet.specs.Modes.{preamble_of, alphabet_of}
 use Rattle.alphabet.specs.Normal.{sends, is_code}
@@ -89,11 +90,11 @@ opening-some s =
 
 -- the code that begins, with characters waiting: none, an own code, a shift code
 module _ (a : Alphabet) (l : OnLine) (s : Sender) where
-  pub no_code : (x : Sends) → x ≡ Nothing → next_for a l s x ≡ loaded l s true
+  pub no_code : (x : Option CharCode) → x ≡ None → next_for a l s x ≡ loaded l s true
   unfolding code_begins
   no_code x e = rw (e, and-false) refl
 
-  module _ (x : Sends) (own : ℕ) (k : LineCode) (e : x ≡ Code own k) where
+  module _ (x : Option CharCode) (own : ℕ) (k : LineCode) (e : x ≡ char_code own k) where
     pub own_code : shift_ahead a l s own ≡ 0 → next_for a l s x ≡ loaded (on_line 2 k.0 0) (sender_after_own a s) true
     unfolding code_begins
     own_code =

@@ -1,4 +1,6 @@
 -- What a ms starts with is in range, and every ms keeps what is on the line in range.
+use Rattle.std.specs.Prelude.{Option, Some, None}
+use Rattle.alphabet.specs.declared.CharCode.{CharCode}
 use mathlib.Core.Path.{◌≡◌, refl, sym}
 use mathlib.Core.Bool.{Bool, true, false, cond, not, ◌&&◌, ◌||◌, false≢true}
 use Prim.Native.Nat.{ℕ, ◌<◌, ◌≤◌}
@@ -10,8 +12,6 @@ use Rattle.lists.proofs.Lists.{either, either-by, and_left, and_right}
 use Rattle.alphabet.specs.declared.Alphabet.{Alphabet}
 use Rattle.alphabet.specs.declared.Alphabet.TheVariants.{Baudot, Dtmf, Edt}
 use Rattle.alphabet.specs.declared.Mode.{Mode}
-use Rattle.alphabet.specs.declared.Sends.{Sends}
-use Rattle.alphabet.specs.declared.Sends.TheVariants.{Nothing, Code}
 use Rattle.alphabet.specs.Modes.{alphabet_of, codes}
 use Rattle.alphabet.specs.Normal.{sends}
 use Rattle.alphabet.proofs.Ranges.{some-shift, range-of}
@@ -77,13 +77,13 @@ pub record LoadedIn (mode : Mode) (x : Loaded) : Type 0 where
 pub sends-in : (a : Alphabet) (c : ℕ) → c < 128 → SendsIn a (sends a c)
 sends-in a c h = go (sends a c) refl
   where
-    go : (x : Sends) → sends a c ≡ x → SendsIn a x
-    go Nothing e = tt
-    go (Code own k) e =
-        let r = range-of a c h own k e in
+    go : (x : Option CharCode) → sends a c ≡ x → SendsIn a x
+    go None e = tt
+    go (Some o) e =
+        let r = range-of a c h o.shift o.code e in
         let l = some-shift a in
         let m = r.shift_least in
-        record { own_low = omega arith; own_in = r.shift-most; code_is = sent-code a c h own k e }
+        record { own_low = omega arith; own_in = r.shift-most; code_is = sent-code a c h o.shift o.code e }
 
 -- ---- the sending rule
 
@@ -178,25 +178,26 @@ blank-in mode part p = record {
 }
 
 module _ (mode : Mode) (l : OnLine) (s : Sender) (i : LineIn mode l) (j : SenderIn s) where
-  pub begins-in : (x : Sends) → SendsIn (alphabet_of mode) x → LoadedIn mode (code_begins (alphabet_of mode) l s x)
+  pub begins-in : (x : Option CharCode) → SendsIn (alphabet_of mode) x
+      → LoadedIn mode (code_begins (alphabet_of mode) l s x)
   unfolding code_begins
-  begins-in Nothing h = record { line-in = i; sender-in = j }
-  begins-in (Code own k) h = go (eqb w 0) refl
+  begins-in None h = record { line-in = i; sender-in = j }
+  begins-in (Some o) h = go (eqb w 0) refl
     where
       a : Alphabet
       a = alphabet_of mode
 
       w : ℕ
-      w = shift_wanted a s own
+      w = shift_wanted a s o.shift
 
       go : (b : Bool) → eqb w 0 ≡ b
-          → LoadedIn mode (cond b (loaded (on_line 2 k.0 0) (sender_after_own a s) true) (shift_begins w))
+          → LoadedIn mode (cond b (loaded (on_line 2 o.code.0 0) (sender_after_own a s) true) (shift_begins w))
       go true e = record {
-        line-in = code-starts mode k.0 h.code_is;
-        sender-in = own-sender-in s own h.own_low h.own_in j a e;
+        line-in = code-starts mode o.code.0 h.code_is;
+        sender-in = own-sender-in s o.shift h.own_low h.own_in j a e;
       }
       go false e =
-          shift-starts mode (baudot-wants a s own e) w (any-wanted-in s own h.own_low h.own_in j a)
+          shift-starts mode (baudot-wants a s o.shift e) w (any-wanted-in s o.shift h.own_low h.own_in j a)
 
   pub next-in : (waiting front : ℕ) → (1 ≤ waiting → front < 128) → LoadedIn mode (next_code mode waiting front l s)
   next-in waiting front h =

@@ -1,10 +1,10 @@
 -- What a station has on the line, in numbers: part 0 no burst, 1 the preamble (document 01: lead), 2 a code; `at` of
 -- the part's ms are sent.
+use Rattle.std.specs.Prelude.{Option, Some, None}
+use Rattle.alphabet.specs.declared.CharCode.{CharCode}
 use Rattle.std.specs.Prelude.{ℕ, ◌+◌, Bool, true, false, cond, not, ◌&&◌, List, [], eqb, leb, ltb, length, get_or}
 use Rattle.alphabet.specs.declared.Alphabet.{Alphabet}
 use Rattle.alphabet.specs.declared.Mode.{Mode}
-use Rattle.alphabet.specs.declared.Sends.{Sends}
-use Rattle.alphabet.specs.declared.Sends.TheVariants.{Nothing, Code}
 use Rattle.alphabet.specs.Modes.{alphabet_of}
 use Rattle.alphabet.specs.Normal.{sends}
 use Rattle.baudot.specs.declared.Sender.{Sender}
@@ -52,12 +52,12 @@ shift_begins w = loaded (on_line 2 (shift_code w) 0) (sender w 0) false
 
 -- The front character is next: a shift code where one is wanted ahead of it, else its own code, and it is taken. (One
 -- that sends nothing never waits; it would be taken.)
-unfoldable pub code_begins : Alphabet → OnLine → Sender → Sends → Loaded
-code_begins a l s Nothing = loaded l s true
-code_begins a l s (Code own k) =
-    let w = shift_wanted a s own in
+unfoldable pub code_begins : Alphabet → OnLine → Sender → Option CharCode → Loaded
+code_begins a l s None = loaded l s true
+code_begins a l s (Some o) =
+    let w = shift_wanted a s o.shift in
     cond (eqb w 0)
-    (loaded (on_line 2 k.0 0) (sender_after_own a s) true)
+    (loaded (on_line 2 o.code.0 0) (sender_after_own a s) true)
     (shift_begins w)
 
 -- A shift code is to open the burst, behind its preamble.

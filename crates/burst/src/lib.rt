@@ -12,12 +12,13 @@ ghost use Rattle.baudot.specs.code.Bounds.{SenderIn};
 ghost use Rattle.burst.specs.code.Bounds.{LineIn, SendsIn};
 ghost use Rattle.burst.specs.code.Next.{shift_ahead, next_for, whole};
 
-use alphabet::{Alphabet, Char, LineCode, Mode, Sends};
+use alphabet::{Alphabet, Char, CharCode, LineCode, Mode};
 use baudot::Sender;
 
 pub mod rules;
 
-// What is on the line. Part 0: no burst; 1: the preamble; 2: a code. `at` of the part's ms are sent.
+// What is on the line. Part 0: no burst; 1: the preamble; 2: a code. `at` of the part's ms are sent. Hosts in C lend it
+// with any numbers: so the part is no enum, and its range is asked and no fact of the type.
 #[repr(C)]
 #[derive(Clone, Copy)]
 pub struct OnLine {
@@ -40,67 +41,68 @@ pub const PREAMBLE: u8 = 1;
 
 pub const CODE: u8 = 2;
 
+impl OnLine {
+    pub const IDLE: OnLine = OnLine {
+        at: 0,
+        part: IDLE,
+        code: LineCode(0),
+    };
+
+    // The first ms of the preamble.
+    const PREAMBLE: OnLine = OnLine {
+        at: 0,
+        part: PREAMBLE,
+        code: LineCode(0),
+    };
+
+    // The first ms of a code.
+    fn code(code: LineCode) -> OnLine
+        ensures { result ≡ record { at = 0; part = 2; code = code } }
+    {
+        OnLine {
+            at: 0,
+            part: CODE,
+            code,
+        }
+    }
+}
+
 // Nothing is on the line.
 pub fn idle() -> OnLine
     ensures { result ≡ idle }
 {
-    OnLine {
-        at: 0,
-        part: IDLE,
-        code: LineCode(0),
-    }
+    OnLine::IDLE
 }
 
 // The ms of a part.
 pub fn part_ms(mode: Mode, l: OnLine) -> u16
     ensures { result ≡ length (part_ms mode l) }
 {
-    if l.part == IDLE {
-        return 0;
+    match l.part {
+        IDLE => 0,
+        CODE => signal::duration(mode, l.code),
+        _ => mode.preamble(),
     }
-    if l.part == CODE {
-        return signal::duration(mode, l.code);
-    }
-    mode.preamble()
 }
 
 // In a burst with no ms of the part left?
+#[tactic(auto, unfolding(crate::specs::Line::is_over))]
 pub fn is_over(mode: Mode, l: OnLine) -> bool
     ensures { result ≡ is_over mode l }
 {
-    if l.part == IDLE {
-        return false;
-    }
-    part_ms(mode, l) <= l.at
+    l.part != IDLE && part_ms(mode, l) <= l.at
 }
 
 // In no burst, one begins with its preamble where it is to begin.
+#[tactic(auto, unfolding(crate::specs::Line::begun))]
 pub fn begun(begins: bool, l: OnLine) -> OnLine
     ensures { result ≡ begun begins l }
 {
-    if !begins {
-        return l;
+    if begins && l.part == IDLE {
+        OnLine::PREAMBLE
+    } else {
+        l
     }
-    if l.part != IDLE {
-        return l;
-    }
-    OnLine {
-        at: 0,
-        part: PREAMBLE,
-        code: LineCode(0),
-    }
-}
-
-// The shift code that a Baudot sender wants ahead of an own code, 0 for none.
-fn baudot_wanted(s: Sender, own: u8) -> u8
-    requires sender_in { SenderIn s }
-    requires le_own { (1 ≤ own) × (own ≤ 3) }
-    ensures { result ≡ wanted s own }
-{
-    if s.shift == 0 {
-        return 1;
-    }
-    baudot::sending::wanted(s, own)
 }
 
 // The sender after an own code.
@@ -113,19 +115,7 @@ fn sender_after_own(a: Alphabet, s: Sender) -> Sender
             shift: s.shift,
             count: s.count + 1,
         },
-        Alphabet::Dtmf => s,
-        Alphabet::Edt => s,
-    }
-}
-
-// The first ms of a code.
-fn code_at(code: LineCode) -> OnLine
-    ensures { result ≡ record { at = 0; part = 2; code = code } }
-{
-    OnLine {
-        at: 0,
-        part: CODE,
-        code,
+        Alphabet::Dtmf | Alphabet::Edt => s,
     }
 }
 
@@ -133,44 +123,37 @@ fn code_at(code: LineCode) -> OnLine
 fn opens_with_shift(a: Alphabet) -> bool
     ensures { result ≡ opens_with_shift a }
 {
-    match a {
-        Alphabet::Baudot => true,
-        Alphabet::Dtmf => false,
-        Alphabet::Edt => false,
-    }
+    matches!(a, Alphabet::Baudot)
 }
 
 // The shift that it opens with.
 fn opening_shift(s: Sender) -> u8
     ensures { result ≡ opening_shift s }
 {
-    if s.shift == 0 {
-        return 1;
-    }
-    s.shift
+    if s.shift == 0 { 1 } else { s.shift }
 }
 
 // Is a shift code to open the burst, behind its preamble?
 pub fn is_opening(a: Alphabet, l: OnLine) -> bool
     ensures { result ≡ is_opening a l }
 {
-    if l.part != PREAMBLE {
-        return false;
-    }
-    opens_with_shift(a)
+    l.part == PREAMBLE && opens_with_shift(a)
 }
 
-// The shift code that goes ahead of an own code in Baudot, 0 for none: the one that opens the burst, or the one that is
-// wanted.
+// The shift code that goes ahead of an own code in Baudot, 0 for none, as in the definition `wanted`: the one that
+// opens the burst, or the one that is wanted.
 fn baudot_ahead(l: OnLine, s: Sender, own: u8) -> u8
     requires sender_in { SenderIn s }
     requires le_own { (1 ≤ own) × (own ≤ 3) }
     ensures { result ≡ shift_ahead Baudot l s own }
 {
     if l.part == PREAMBLE {
-        return opening_shift(s);
+        opening_shift(s)
+    } else if s.shift == 0 {
+        1
+    } else {
+        baudot::sending::wanted(s, own)
     }
-    baudot_wanted(s, own)
 }
 
 // The same in any alphabet.
@@ -181,18 +164,17 @@ fn shift_ahead(a: Alphabet, l: OnLine, s: Sender, own: u8) -> u8
 {
     match a {
         Alphabet::Baudot => baudot_ahead(l, s, own),
-        Alphabet::Dtmf => 0,
-        Alphabet::Edt => 0,
+        Alphabet::Dtmf | Alphabet::Edt => 0,
     }
 }
 
 // The next code, with characters waiting: a shift code where one goes ahead of the front character, else its own.
-pub fn code_begins(a: Alphabet, l: OnLine, s: Sender, sends: Sends) -> Loaded
+pub fn code_begins(a: Alphabet, l: OnLine, s: Sender, sends: Option<CharCode>) -> Loaded
     requires sender_in { SenderIn s }
     requires sends_in { SendsIn a sends }
     ensures { result ≡ next_for a l s sends }
 {
-    let Sends::Code { shift: own, code } = sends else {
+    let Some(CharCode { shift: own, code }) = sends else {
         return Loaded {
             line: l,
             sender: s,
@@ -202,13 +184,14 @@ pub fn code_begins(a: Alphabet, l: OnLine, s: Sender, sends: Sends) -> Loaded
     let w = shift_ahead(a, l, s, own);
     if w == 0 {
         return Loaded {
-            line: code_at(code),
+            line: OnLine::code(code),
             sender: sender_after_own(a, s),
             takes: true,
         };
     }
+    // Written out as in `opening_begins`: with one function for both, a text takes more instructions.
     Loaded {
-        line: code_at(baudot::sending::shift_code(w)),
+        line: OnLine::code(baudot::sending::shift_code(w)),
         sender: Sender { shift: w, count: 0 },
         takes: false,
     }
@@ -218,21 +201,19 @@ pub fn code_begins(a: Alphabet, l: OnLine, s: Sender, sends: Sends) -> Loaded
 fn whole(mode: Mode, q: Loaded) -> Loaded
     ensures { result ≡ whole mode q }
 {
-    let l = q.line;
-    let sender = q.sender;
     Loaded {
         line: OnLine {
-            at: signal::duration(mode, l.code),
-            ..l
+            at: signal::duration(mode, q.line.code),
+            ..q.line
         },
-        sender,
+        sender: q.sender,
         takes: q.takes,
     }
 }
 
 // The next code of a burst, with characters waiting, all of whose ms are sent: the place on the line is their number.
 // With it the sender after the code, and whether the front character is taken.
-pub fn whole_code(mode: Mode, a: Alphabet, l: OnLine, s: Sender, sends: Sends) -> Loaded
+pub fn whole_code(mode: Mode, a: Alphabet, l: OnLine, s: Sender, sends: Option<CharCode>) -> Loaded
     requires sender_in { SenderIn s }
     requires sends_in { SendsIn a sends }
     ensures { result ≡ whole mode (next_for a l s sends) }
@@ -245,10 +226,7 @@ pub fn place_after(takes: bool, place: usize) -> usize
     requires { place + 1 < 2 ^ 64 }
     ensures { result ≡ cond takes (place + 1) place }
 {
-    if takes {
-        return place + 1;
-    }
-    place
+    if takes { place + 1 } else { place }
 }
 
 // The shift code that opens the burst.
@@ -257,7 +235,7 @@ fn opening_begins(s: Sender) -> Loaded
 {
     let shift = opening_shift(s);
     Loaded {
-        line: code_at(baudot::sending::shift_code(shift)),
+        line: OnLine::code(baudot::sending::shift_code(shift)),
         sender: Sender { shift, count: 0 },
         takes: false,
     }
@@ -300,12 +278,12 @@ pub fn level_on(mode: Mode, l: OnLine) -> u8
     ensures { result ≡ level_on mode l }
 {
     if part_ms(mode, l) <= l.at {
-        return 0;
+        0
+    } else if l.part == PREAMBLE {
+        Mode::MARK
+    } else {
+        signal::level(mode, l.code, l.at)
     }
-    if l.part == PREAMBLE {
-        return Mode::MARK;
-    }
-    signal::level(mode, l.code, l.at)
 }
 
 // One ms of the part has gone.
@@ -314,32 +292,24 @@ fn one_gone(mode: Mode, l: OnLine) -> OnLine
     ensures { result ≡ one_gone mode l }
 {
     if part_ms(mode, l) <= l.at {
-        return l;
+        l
+    } else {
+        OnLine { at: l.at + 1, ..l }
     }
-    OnLine { at: l.at + 1, ..l }
 }
 
 // With no ms of a part left, is the front character next, or does the burst end? Not if a shift code is to open it.
 pub fn front_is_next(a: Alphabet, over: bool, l: OnLine) -> bool
     ensures { result ≡ (over && not (is_opening a l)) }
 {
-    if !over {
-        return false;
-    }
-    !is_opening(a, l)
+    over && !is_opening(a, l)
 }
 
 // Where the front character would be next, the burst ends if it is to end.
 pub fn ended(next: bool, ends: bool, l: OnLine) -> OnLine
     ensures { result ≡ ended next ends l }
 {
-    if !next {
-        return l;
-    }
-    if !ends {
-        return l;
-    }
-    idle()
+    if next && ends { OnLine::IDLE } else { l }
 }
 
 // What is on the line after a ms.
@@ -367,20 +337,14 @@ fn is_code(a: Alphabet, code: LineCode) -> bool
 fn no_code(l: OnLine) -> bool
     ensures { result ≡ (not (is_code l) && eqb l.code.0 0) }
 {
-    if l.part == CODE {
-        return false;
-    }
-    l.code.0 == 0
+    l.part != CODE && l.code.0 == 0
 }
 
 // A code of the alphabet, or none on the line?
 fn code_in(mode: Mode, l: OnLine) -> bool
     ensures { result ≡ code_in (alphabet_of mode) l }
 {
-    if no_code(l) {
-        return true;
-    }
-    is_code(mode.alphabet(), l.code)
+    no_code(l) || is_code(mode.alphabet(), l.code)
 }
 
 // Is nothing on the line, and all 0? It is asked without a branch between its tests.
@@ -394,14 +358,5 @@ fn is_blank(l: OnLine) -> bool
 pub fn in_range(mode: Mode, l: OnLine) -> bool
     ensures { result ≡ line_in mode l }
 {
-    if is_blank(l) {
-        return true;
-    }
-    if CODE < l.part {
-        return false;
-    }
-    if !code_in(mode, l) {
-        return false;
-    }
-    l.at <= part_ms(mode, l)
+    is_blank(l) || (l.part <= CODE && code_in(mode, l) && l.at <= part_ms(mode, l))
 }

@@ -9,16 +9,15 @@ pub const FREE: u16 = 300;
 pub const INHIBITED: u16 = 300;
 
 // Does a burst begin, if there is none?
+#[tactic(auto, unfolding(crate::specs::Rules::may_begin))]
 pub fn may_begin(waiting: u16, silence: u16) -> bool
     ensures { result ≡ may_begin waiting silence }
 {
-    if waiting == 0 {
-        return false;
-    }
-    FREE <= silence
+    0 < waiting && FREE <= silence
 }
 
 // Does a burst end with this code?
+#[tactic(auto, unfolding(crate::specs::Rules::may_end))]
 pub fn may_end(waiting: u16) -> bool
     ensures { result ≡ may_end waiting }
 {
@@ -29,10 +28,7 @@ pub fn may_end(waiting: u16) -> bool
 pub fn is_inhibited(burst: bool, inhibited: u16) -> bool
     ensures { result ≡ is_inhibited burst inhibited }
 {
-    if burst {
-        return true;
-    }
-    0 < inhibited
+    burst || 0 < inhibited
 }
 
 // The inhibited ms to come, after a ms.
@@ -40,20 +36,15 @@ pub fn inhibited_after(burst: bool, inhibited: u16) -> u16
     ensures { result ≡ inhibited_after burst inhibited }
 {
     if burst {
-        return INHIBITED;
+        INHIBITED
+    } else {
+        inhibited.saturating_sub(1)
     }
-    if inhibited == 0 {
-        return 0;
-    }
-    inhibited - 1
 }
 
 // Is a ms without signal?
 pub fn is_silent(inhibited: bool, heard: u8) -> bool
     ensures { result ≡ is_silent inhibited heard }
 {
-    if inhibited {
-        return true;
-    }
-    heard == 0
+    inhibited || heard == 0
 }

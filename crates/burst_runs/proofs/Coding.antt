@@ -1,4 +1,6 @@
 -- Whole codes of a burst, one after the other: for the loop that sends them.
+use Rattle.std.specs.Prelude.{Option, Some, None}
+use Rattle.alphabet.specs.declared.CharCode.{CharCode}
 use mathlib.Core.Path.{◌≡◌, ◌∙◌, refl, sym, ap, subst}
 use mathlib.Core.Bool.{Bool, true, false, cond, not, ◌&&◌, and-false, false≢true}
 use mathlib.Core.List.{List, [], ◌∷◌, ◌++◌}
@@ -12,8 +14,6 @@ use Rattle.lists.specs.Tables.{tabulate}
 use Rattle.lists.proofs.Lists.{sets-append, either, either-by, and_left, and_right}
 use Rattle.alphabet.specs.declared.Alphabet.{Alphabet}
 use Rattle.alphabet.specs.declared.Mode.{Mode}
-use Rattle.alphabet.specs.declared.Sends.{Sends}
-use Rattle.alphabet.specs.declared.Sends.TheVariants.{Nothing, Code}
 use Rattle.alphabet.specs.Modes.{alphabet_of, codes, longest}
 use Rattle.alphabet.specs.Normal.{sends, is_code}
 use Rattle.baudot.specs.declared.Sender.{Sender}
@@ -32,7 +32,7 @@ use Rattle.burst.specs.code.Bounds.{SendsIn}
 use Rattle.burst.specs.code.Next.{next_for, whole}
 use Rattle.burst.proofs.Laws.{begun-same, waiting-next}
 use Rattle.burst.proofs.Range.{blank-in, sends-in, begins-in, shift-starts, opening-in}
-use Rattle.queue.proofs.Moves.{moved-place}
+use Rattle.queue.proofs.Moves.{moved-by-length, moved-place}
 use Rattle.queue.specs.Queue.{waits, all_wait, waiting_of, moved_by, in_range as queue_in}
 use Rattle.station.specs.declared.Station.{Station}
 use Rattle.station.specs.Station.{station, chars_after, queue_of, station_after, sent_by, words_by}
@@ -43,9 +43,11 @@ use Rattle.station.proofs.Lengths.{sent-length}
 use Rattle.station.proofs.Takings.{taken-after}
 use Rattle.half_duplex_runs.specs.code.Cores.{silence_for, deaf_reader, burst_left, loaded_core, sent_for, coded_core}
 use Rattle.station_stretches.specs.code.Stretches.{between, Stretches}
-use Rattle.half_duplex_runs.proofs.Laws.{silence-full, silence-none, deaf-some, burst-some}
+use Rattle.half_duplex_runs.proofs.Laws.{silence-full, silence-none, deaf_some, burst_some}
 use Rattle.station_stretches.proofs.Laws.{left_over}
 use Rattle.station_stretches.proofs.Joining.{between-length, begin-stretch, send-stretch}
+use borrow.Rule.Slice.PartMut.{put_mid}
+use Rattle.signal_runs.proofs.Filling.{part-set}
 use Rattle.signal_runs.proofs.Elements.{short}
 use Rattle.station.proofs.Cuts.{after_none, sent-none, words-none}
 
@@ -100,17 +102,17 @@ deaf-join r m zero h = absurd (omega arith)
 deaf-join r m (suc n) h =
     let e = needed-after r m in
     let z : (deaf_reader r m).keys.needed - suc n ≡ r.keys.needed - (m + suc n) = omega arith in
-    sym (deaf-some (deaf_reader r m) (suc n) h)
+    sym (deaf_some (deaf_reader r m) (suc n) h)
     ∙ (λ j. record {
       frame = record { place = 0; digits = 0 };
       keys = record { key = 0; ms = 0; needed = z j };
       shift = shift-after r m j;
       prefix = prefix-after r m j;
     })
-    ∙ deaf-some r (m + suc n) (omega arith)
+    ∙ deaf_some r (m + suc n) (omega arith)
 
 burst-join : (i m n : ℕ) → 1 ≤ n → burst_left (burst_left i m) n ≡ burst_left i (m + n)
-burst-join i m n h = sym (burst-some (burst_left i m) n h) ∙ burst-some i (m + n) (omega arith)
+burst-join i m n h = sym (burst_some (burst_left i m) n h) ∙ burst_some i (m + n) (omega arith)
 
 -- those that are gone after one more code
 waiting-join : (waiting taken gone : ℕ) (takes : Bool) → gone ≡ cond takes (taken + 1) taken
@@ -155,20 +157,20 @@ record Begins (mode : Mode) (q : Loaded) : Type 0 where
   code-in : q.line.code.0 < codes (alphabet_of mode)
   sender-in : SenderIn q.sender
 
-begins : (mode : Mode) (l : OnLine) (s : Sender) → SenderIn s → (x : Sends) → is_code x ≡ true
+begins : (mode : Mode) (l : OnLine) (s : Sender) → SenderIn s → (x : Option CharCode) → is_code x ≡ true
     → SendsIn (alphabet_of mode) x → Begins mode (next_for (alphabet_of mode) l s x)
 unfolding code_begins
-begins mode l s j Nothing e h = absurd (false≢true e)
-begins mode l s j (Code own k) e h =
+begins mode l s j None e h = absurd (false≢true e)
+begins mode l s j (Some x) e h =
     either-by (Begins mode) (is_opening a l && true)
     (λ o.
     let opens = and_right (eqb l.part 1) (opens_with_shift a) (and_left (is_opening a l) true o) in
     let i = shift-starts mode opens (opening_shift s) (opening-in s j.shift_in) in
     record { is = refl; code-in = i.line-in.code-in; sender-in = i.sender-in })
     (λ o.
-    let i = begins-in mode (on_line 0 0 0) s (blank-in mode 0 (omega arith)) j (Code own k) h in
+    let i = begins-in mode (on_line 0 0 0) s (blank-in mode 0 (omega arith)) j (Some x) h in
     record {
-      is = either (λ (q : Loaded). q ≡ from_first q) (eqb (shift_wanted a s own) 0) _ _ refl refl;
+      is = either (λ (q : Loaded). q ≡ from_first q) (eqb (shift_wanted a s x.shift) 0) _ _ refl refl;
       code-in = i.line-in.code-in;
       sender-in = i.sender-in;
     })
@@ -468,3 +470,56 @@ module _ (heard chars sent₀ : List ℕ) (c : Core) (i : ℕ) (within : i ≤ l
           place = omega arith;
           words = sym (ap (sets words n) d.words);
         }
+
+-- a turn of the loop, in the words of its code: the characters stand from a place on, and the mode has a name
+module _ (heard cs sent₀ : List ℕ) (c : Core) (from i : ℕ) (within : i ≤ length heard)
+    (ranged : in_range (station c (moved_by from cs)) ≡ true) (full : length cs ≡ 256) (lent : from + c.waiting ≤ 256)
+    (sent₁ : List ℕ) (taken : ℕ) (s : Sender) (line : OnLine) (at : ℕ)
+    (d : Coded heard (moved_by from cs) sent₀ c i sent₁ taken s line at)
+    (mode : Mode) (mode-is : mode ≡ mode_in c) (most : ℕ) (most-is : most ≡ longest mode)
+    (b : Bool) (be : b ≡ (ltb taken c.waiting && leb most (length heard - at))) (bt : b ≡ true) where
+  all-there : length (moved_by from cs) ≡ 256
+  all-there = moved-by-length from cs ∙ full
+
+  test : Goes taken c.waiting (longest (mode_in c)) (length heard - at)
+  test =
+      subst (λ (n : ℕ). Goes taken c.waiting n (length heard - at)) (most-is ∙ ap longest mode-is)
+      (goes taken c.waiting most (length heard - at) b be bt)
+
+  char-at : get_or cs (from + taken) 0 ≡ get_or (moved_by from cs) taken 0
+  char-at = let m = test.more in sym (moved-place from cs taken (omega arith))
+
+  pub char-below : get_or cs (from + taken) 0 < 128
+  char-below =
+      subst (λ (x : ℕ). x < 128) (sym char-at)
+      (char-in-range heard (moved_by from cs) sent₀ c i within ranged all-there sent₁ taken s line at d test)
+
+  module _ (a : Alphabet) (a-is : a ≡ alphabet_of mode) (x : Option CharCode)
+      (x-is : x ≡ sends a (get_or cs (from + taken) 0))
+      (q : Loaded) (q-is : q ≡ whole mode (next_for a line s x)) where
+    code-is : q ≡ whole (mode_in c)
+        (next_for (alphabet_of (mode_in c)) line s
+        (sends (alphabet_of (mode_in c)) (get_or (moved_by from cs) taken 0)))
+    code-is =
+        let e = a-is ∙ ap alphabet_of mode-is in
+        let y = x-is ∙ (λ j. sends (e j) (char-at j)) in
+        q-is ∙ (λ j. whole (mode-is j) (next_for (e j) line s (y j)))
+
+    pub code-whole : Whole mode (length heard - at) q
+    code-whole =
+        subst (λ (m : Mode). Whole m (length heard - at) q) (sym mode-is)
+        (q-whole heard (moved_by from cs) sent₀ c i within ranged all-there sent₁ taken s line at d test q code-is)
+
+    pub code-turn : length heard ≤ length sent₁ → (new : List ℕ) → new ≡ signal mode q.line.code.0
+        → (taken' : ℕ) → taken' ≡ cond q.takes (taken + 1) taken
+        → (line' : OnLine) → line' ≡ ended true (may_end (c.waiting - taken')) q.line
+        → Coded heard (moved_by from cs) sent₀ c i (put_mid at (at + q.line.at - at) sent₁ new) taken' q.sender line'
+        (at + q.line.at)
+    code-turn room new e taken' et line' el =
+        let w = code-whole in
+        let high = d.high in
+        let fits = w.fits in
+        let all = w.all_ms in
+        coded-turn heard (moved_by from cs) sent₀ c i within ranged all-there sent₁ taken s line at d test q code-is _
+        (part-set sent₁ at (at + q.line.at) (omega arith) (omega arith) (signal mode q.line.code.0) new (omega arith) e
+        ∙ ap (λ (m : Mode). sets sent₁ at (signal m q.line.code.0)) mode-is) taken' et line' el

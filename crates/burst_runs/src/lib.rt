@@ -20,10 +20,7 @@ use station_stretches::Stretched;
 fn goes_on(taken: usize, waiting: usize, most: usize, room: usize) -> bool
     ensures { result ≡ (ltb taken waiting && leb most room) }
 {
-    if waiting <= taken {
-        return false;
-    }
-    most <= room
+    taken < waiting && most <= room
 }
 
 // Does a whole code follow? In a burst with no ms of the part left, characters wait, with room for any code.
@@ -31,14 +28,11 @@ pub fn follows(c: Core, room: usize) -> bool
     ensures { result ≡ (is_over (mode_in c) c.line && (ltb 0 c.waiting && leb (longest (mode_in c)) room)) }
 {
     let mode = Mode::of(c.mode);
-    let line = c.line;
-    if !burst::is_over(mode, line) {
-        return false;
-    }
-    goes_on(0, c.waiting as usize, mode.longest() as usize, room)
+    burst::is_over(mode, c.line) && goes_on(0, c.waiting as usize, mode.longest() as usize, room)
 }
 
 // Whole codes, as long as characters wait and any code has room. The front character stands at a place of those lent.
+// By a test: each turn goes on behind the code that it sent, up to where no code may begin.
 pub fn codes(
     c: Core,
     chars: &[u8],
@@ -60,8 +54,8 @@ pub fn codes(
 {
     let mode = Mode::of(c.mode);
     let a = mode.alphabet();
-    let mut table: SendTable = [0; 384];
-    alphabet::table::lay_out_all(&mut table);
+    let mut room = [0; 384];
+    let table = SendTable::laid_out_in(&mut room);
     let most = mode.longest() as usize;
     let waiting = c.waiting as usize;
     let mut taken: usize = 0;
@@ -69,14 +63,15 @@ pub fn codes(
     let mut line = c.line;
     let mut at = i;
     while goes_on(taken, waiting, most, heard.len() - at) {
-        let sends = alphabet::table::lookup_in(&table, a, Char(chars[from + taken]));
+        let sends = table.lookup(a, Char(chars[from + taken]));
         let next = burst::whole_code(mode, a, line, sender, sends);
         let over = next.line;
-        signal_codes::put_whole(mode, over.code, sent, at);
+        let behind = at + over.at as usize;
+        signal_codes::put_whole(mode, over.code, &mut sent[at..behind]);
         taken = burst::place_after(next.takes, taken);
         sender = next.sender;
         line = burst::ended(true, rules::may_end((waiting - taken) as u16), over);
-        at += over.at as usize;
+        at = behind;
     }
     Stretched {
         core: half_duplex_runs::coded(c, taken, sender, line, at - i),

@@ -1,3 +1,4 @@
 pub mod Places
+pub mod Ends
 pub mod OneMs
 pub mod Answers

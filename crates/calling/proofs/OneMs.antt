@@ -1,12 +1,11 @@
 -- One ms of a calling set, by cases: after the choice, with a tone, with none before the pause is over and after it.
 use mathlib.Core.Path.{◌≡◌, ◌∙◌, sym, ap}
-use mathlib.Core.Bool.{Bool, true, false}
+use mathlib.Core.Bool.{true, false}
 use Prim.Native.Nat.{ℕ, ◌+◌, ◌≤◌, ◌<◌}
 use borrow.Author.Tests.{eq-eqb, ne_eqb, eqb-true, eqb-false, lt-ltb, le-ltb, leb-true}
 use lib.Dec.{eqb, leb}
 use Rattle.lists.proofs.Lists.{by-test, and_left, and_right}
 use Rattle.calling.specs.declared.Calling.{Calling}
-use Rattle.calling.specs.declared.Stepped.{Stepped}
 use Rattle.calling.specs.Timetable.{nothing, value_at, place_after}
 use Rattle.calling.specs.Tones.{none, length_of}
 use Rattle.calling.specs.Counting.{counted}
@@ -93,36 +92,3 @@ module _ (s : Calling) (h : ℕ) where
             leaves = simp (e, p, k) (λ i. calling (sym t i) s.ms (place_after s.place) 0);
             says = simp (e, p);
           })
-
-abbrev pub stepped : Calling → ℕ → Stepped
-stepped s v = record { state = s; sent = v }
-
--- The same of what a step gives back, with what its callees gave it.
-module _ (s : Calling) (h : ℕ) where
-  abbrev whole : Stepped
-  whole = stepped (calling_ms s h) (sent_ms s h)
-
-  pub step-chosen : (s.choice ≡ 0 → ⊥) → stepped s nothing ≡ whole
-  step-chosen c =
-      let d = does-chosen s h c in
-      simp (d.leaves, d.says)
-
-  module _ (c : s.choice ≡ 0) where
-    pub step-tone : (l m k : ℕ) → (h ≡ none → ⊥) → l ≡ length_of h → m ≡ counted s.tone s.ms h l
-        → k ≡ reached h m l → stepped (calling h m 0 k) nothing ≡ whole
-    step-tone l m k t e f g =
-        let d = does-tone s h c l m e f t in
-        simp (g, d.leaves, d.says)
-
-    module _ (n : h ≡ none) (b : Bool) (f : b ≡ pause_over s.tone s.ms) where
-      pub step-pause : (m : ℕ) → b ≡ false → m ≡ counted s.tone s.ms none pause
-          → stepped (calling none m 0 s.choice) nothing ≡ whole
-      step-pause m p e =
-          let d = does-pause s h c n (sym f ∙ p) in
-          simp (c, e, d.leaves, d.says)
-
-      pub step-timetable : (p v : ℕ) → b ≡ true → p ≡ place_after s.place → v ≡ value_at s.place
-          → stepped (calling s.tone s.ms p s.choice) v ≡ whole
-      step-timetable p v q i j =
-          let d = does-timetable s h c n (sym f ∙ q) in
-          simp (c, i, j, d.leaves, d.says)

@@ -48,7 +48,7 @@ value_in (p ∷ ps) place =
     cond (ltb place p.ms) p.value later
 
 -- What the timetable sends at a place.
-unfoldable pub value_at : ℕ → ℕ
+abbrev pub value_at : ℕ → ℕ
 value_at place = value_in timetable place
 
 -- Over and over: the first place follows the last.

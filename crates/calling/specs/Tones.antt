@@ -31,7 +31,7 @@ length_in tone (l ∷ ls) =
     let later = length_in tone ls in
     cond (eqb tone l.tone) l.ms later
 
-unfoldable pub length_of : ℕ → ℕ
+abbrev pub length_of : ℕ → ℕ
 length_of tone = length_in tone lengths
 
 -- The longest of these: 1300 Hz.

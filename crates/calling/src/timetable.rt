@@ -1,4 +1,5 @@
-// The timetable of what is sent while nothing is heard.
+// The timetable of what is sent while nothing is heard. A value is a byte of the host's slice: a number, by
+// `cq_calling_run`.
 ghost use Rattle.std.specs.Prelude.{◌≡◌};
 ghost use Rattle.calling.specs.Timetable.{value_at, place_after};
 
@@ -11,43 +12,31 @@ pub const XCI: u8 = 2;
 // The ms of a period.
 pub const PERIOD: u16 = 11_200;
 
-// The value at a place.
+// The value at a place. By thirds, so that few tests decide: one match of all is slower.
+#[tactic(auto, unfolding(crate::specs::Timetable::value_in, crate::specs::Timetable::timetable))]
 pub fn value(place: u16) -> u8
     ensures { result ≡ value_at place }
 {
-    if place < 3_800 {
-        if place < 1_400 {
-            if place < 1_000 {
-                return NOTHING;
-            }
-            return CI;
-        }
-        if place < 3_400 {
-            return NOTHING;
-        }
-        return CI;
+    match place {
+        0..3_800 => match place {
+            0..1_000 => NOTHING,
+            1_000..1_400 => CI,
+            1_400..3_400 => NOTHING,
+            _ => CI,
+        },
+        3_800..8_200 => match place {
+            5_800..6_200 => CI,
+            _ => NOTHING,
+        },
+        8_200..PERIOD => XCI,
+        _ => NOTHING,
     }
-    if place < 8_200 {
-        if place < 5_800 {
-            return NOTHING;
-        }
-        if place < 6_200 {
-            return CI;
-        }
-        return NOTHING;
-    }
-    if place < PERIOD {
-        return XCI;
-    }
-    NOTHING
 }
 
 // The place of the next ms.
+#[tactic(auto, using(crate::proofs::Ends::ends), unfolding(crate::specs::Timetable::place_after))]
 pub fn next(place: u16) -> u16
     ensures { result ≡ place_after place }
 {
-    if place < PERIOD - 1 {
-        return place + 1;
-    }
-    0
+    if place < PERIOD - 1 { place + 1 } else { 0 }
 }

@@ -42,5 +42,5 @@ spread-is (p ∷ ps) =
 
 -- one period is the printed values, each for its ms, in order
 pub period-printed : tabulate value_at period 0 ≡ spread timetable
-unfolding value_at period
+unfolding period
 period-printed = spread-is timetable

@@ -9,12 +9,11 @@ use lib.Dec.{eqb, leb, ltb}
 use Rattle.lists.proofs.Lists.{either, either-by, and_left, and_right}
 use Rattle.lists.proofs.Steps.{after-keeps-most}
 use Rattle.calling.specs.declared.Calling.{Calling}
-use Rattle.calling.specs.declared.Ran.{Ran}
 use Rattle.calling.specs.Timetable.{timetable, total, period, place_after}
 use Rattle.calling.specs.Tones.{none, lengths, length_in, length_of, longest, last_tone, all_tones}
 use Rattle.calling.specs.Counting.{counted}
 use Rattle.calling.specs.Set.{fresh, in_range, enough, ms_after, chosen, sends, calling_ms, after}
-use Rattle.calling.specs.Entry.{answer_to, ran_of}
+use Rattle.calling.specs.Entry.{Ran, answer_to, ran_of}
 use Rattle.calling.proofs.Answers.{succeeds}
 
 -- the period is 11,200 ms
@@ -62,7 +61,7 @@ calling-is s r =
 
 -- no rule asks for more ms in a row
 enough-in : (h : ℕ) → enough h ≤ longest
-unfolding lengths length_in length_of
+unfolding lengths length_in
 enough-in h =
     let P : ℕ → Type 0 = λ n. n ≤ 1_700 in
     either P (eqb h none) _ _ (omega arith)
@@ -113,7 +112,7 @@ ms-in-range s h t r =
 
 -- a fresh state is in range
 pub fresh-in-range : in_range fresh ≡ true
-unfolding timetable total period lengths length_in length_of fresh in_range
+unfolding timetable total period lengths length_in fresh in_range
 fresh-in-range = refl
 
 -- the tones of a run that succeeds keep range

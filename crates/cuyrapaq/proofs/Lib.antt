@@ -1,1 +1,1 @@
-pub mod Drifting
+pub mod Outcomes

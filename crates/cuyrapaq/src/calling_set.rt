@@ -4,6 +4,7 @@ ghost use Rattle.calling.specs.Set.{fresh};
 ghost use Rattle.calling.specs.Entry.{ran_of, sent_after, choice_of};
 
 use calling::{Calling, CallingChosen};
+use refusals::answer;
 
 // A fresh state.
 #[unsafe(no_mangle)]
@@ -18,7 +19,7 @@ pub extern "C" fn cq_calling_fresh() -> Calling
 pub extern "C" fn cq_calling_choice(state: &Calling) -> CallingChosen
     ensures { result ≡ choice_of state.now }
 {
-    calling::choice(*state)
+    CallingChosen::from(*state)
 }
 
 // A run on the state that the host lends: the sent ms of the tones; 0 or the number of the refusal.
@@ -28,8 +29,5 @@ pub extern "C" fn cq_calling_run(state: &mut Calling, tones: &[u8], sent: &mut [
         × ((state.new ≡ (ran_of state.old tones.now (length sent.old)).state)
         × (sent.new ≡ sent_after state.old tones.now sent.old)) }
 {
-    let s = *state;
-    let r = calling::run(s, tones, sent);
-    *state = r.state;
-    r.answer
+    answer(state.run(tones, sent))
 }

@@ -1,5 +1,7 @@
 -- THE CORE OF DEMAND 3: after an idle period (there: a rest) a reader reads what a model takes that is told, ms by ms,
 -- when a burst begins and ends, whoever tells it.
+use Rattle.std.specs.Prelude.{Option, Some, None}
+use Rattle.alphabet.specs.declared.CharCode.{CharCode}
 use mathlib.Core.Path.{◌≡◌, ◌∙◌, refl, sym, ap, subst}
 use mathlib.Core.Bool.{Bool, true, false, cond, true≢false}
 use mathlib.Core.Logic.{inl}
@@ -15,8 +17,6 @@ use Rattle.lists.proofs.Lists.{at-most-head, at-most-tail, at-most-append, at-mo
 use Rattle.alphabet.specs.declared.Alphabet.{Alphabet}
 use Rattle.alphabet.specs.declared.Mode.{Mode}
 use Rattle.alphabet.specs.declared.Mode.TheVariants.{Baudot45, Baudot50, Dtmf, Edt}
-use Rattle.alphabet.specs.declared.Sends.{Sends}
-use Rattle.alphabet.specs.declared.Sends.TheVariants.{Nothing, Code}
 use Rattle.alphabet.specs.Modes.{alphabet_of}
 use Rattle.alphabet.specs.Normal.{sends, normal, normal_form, all_chars}
 use Rattle.alphabet_theorems.proofs.Normal.{normal-code}
@@ -158,9 +158,9 @@ normal-chars : (a : Alphabet) (c : ℕ) → c < 128 → all_chars (normal a c) �
 unfolding all_at_most
 normal-chars a c h = go (sends a c) refl
   where
-    go : (x : Sends) → sends a c ≡ x → all_chars (normal a c) ≡ true
-    go Nothing e = simp e
-    go (Code s k) e = rw (normal-code a c h s k e) (one_char _ (rule-of a c h s k e).char-in)
+    go : (x : Option CharCode) → sends a c ≡ x → all_chars (normal a c) ≡ true
+    go None e = simp e
+    go (Some o) e = rw (normal-code a c h o.shift o.code e) (one_char _ (rule-of a c h o.shift o.code e).char-in)
 
 normal-form-chars : (a : Alphabet) (cs : List ℕ) → all_chars cs ≡ true → all_chars (normal_form a cs) ≡ true
 unfolding normal_form all_at_most

@@ -1,4 +1,7 @@
 -- What a reader makes of the parts of a burst, as laws of a mode, and the four modes' laws.
+use Rattle.std.specs.Prelude.{Option}
+use Rattle.alphabet.specs.declared.CharCode.{CharCode}
+use Rattle.alphabet.specs.Codes.{char_code}
 use mathlib.Core.Path.{◌≡◌, ◌∙◌, refl, sym, ap, subst}
 use mathlib.Core.Bool.{true, false, true≢false, false≢true}
 use mathlib.Core.Logic.{◌⊎◌, inl, inr, ⊎_elim}
@@ -16,8 +19,6 @@ use Rattle.alphabet.specs.declared.LineCode.{LineCode}
 use Rattle.alphabet.specs.declared.Mode.{Mode}
 use Rattle.alphabet.specs.declared.Mode.TheVariants.{Baudot45, Baudot50, Dtmf, Edt}
 use Rattle.alphabet.specs.declared.Reads.TheVariants.{Character}
-use Rattle.alphabet.specs.declared.Sends.{Sends}
-use Rattle.alphabet.specs.declared.Sends.TheVariants.{Code}
 use Rattle.alphabet.specs.Dtmf.{keys_of, read_dtmf}
 use Rattle.alphabet.specs.Modes.{preamble_of, alphabet_of, codes}
 use Rattle.alphabet.specs.Normal.{sends, reads, chars_of, read_back, normal, normal_form}
@@ -53,7 +54,7 @@ pub record Waits (a : Alphabet) (c : ℕ) : Type 0 where
   pub char-in : c < 128
   pub own : ℕ
   pub code : LineCode
-  pub sent : sends a c ≡ Code own code
+  pub sent : sends a c ≡ char_code own code
 
 -- from the reader r, the ms xs give the words ws and leave a reader of which P holds
 pub record Makes (mode : Mode) (r : Reader) (xs ws : List ℕ) (P : Reader → Type 0) : Type 0 where
@@ -238,7 +239,7 @@ module _ (mode : Mode) (code : CodeReads mode) where
     codes-are =
         let a = rule-at w in
         let own = codes-none s w.own u a.shift_least a.shift-most w.code ahead_none.none in
-        ap (λ (x : Sends). codes_for s x ++ []) w.sent ∙ ap (λ (l : List ℕ). l ++ []) own
+        ap (λ (x : Option CharCode). codes_for s x ++ []) w.sent ∙ ap (λ (l : List ℕ). l ++ []) own
 
     sender-is : sender_after s (c ∷ []) ≡ counted s
     unfolding sender_after
@@ -332,7 +333,7 @@ unfolding reads
 edt-own c w r u =
     let q = hunts-is r u in
     let g = code-edt r.keys r.shift r.prefix w.code.0 (rule-at w).code-in in
-    let back = ap (λ (x : Sends). chars_of (read_back edt x)) w.sent in
+    let back = ap (λ (x : Option CharCode). chars_of (read_back edt x)) w.sent in
     gives-by Edt q (record { after = g.after ∙ sym q; heard = g.heard ∙ sym back })
 
 -- the laws

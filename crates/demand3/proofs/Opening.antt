@@ -1,5 +1,7 @@
 -- A burst of the send model begins only with characters waiting, and its preamble takes none: it ends with a code, as
 -- document 01 says.
+use Rattle.std.specs.Prelude.{Option, Some, None}
+use Rattle.alphabet.specs.declared.CharCode.{CharCode}
 use mathlib.Core.Path.{◌≡◌, refl}
 use mathlib.Core.Bool.{Bool, true, false}
 use mathlib.Core.List.{List, [], ◌∷◌, ◌++◌}
@@ -10,8 +12,6 @@ use lib.ListN.{length, length-append}
 use borrow.Author.Tests.{ltb-true, ne_eqb}
 use Rattle.lists.proofs.Lists.{either, and_left}
 use Rattle.alphabet.specs.declared.Mode.{Mode}
-use Rattle.alphabet.specs.declared.Sends.{Sends}
-use Rattle.alphabet.specs.declared.Sends.TheVariants.{Nothing, Code}
 use Rattle.alphabet.specs.Modes.{alphabet_of}
 use Rattle.alphabet.specs.Normal.{sends}
 use Rattle.baudot.specs.declared.Sender.{Sender}
@@ -51,12 +51,13 @@ begun-opening mode Idle ws silence h = go (may_begin (length ws) silence) refl
 abbrev OpeningBy : Loaded → Type 0
 OpeningBy l = Opening l.on_line l.waiting
 
-code-opening : (mode : Mode) (c : ℕ) (cs : List ℕ) (s : Sender) (x : Sends) → OpeningBy (code_begins mode c cs s x)
+code-opening : (mode : Mode) (c : ℕ) (cs : List ℕ) (s : Sender) (x : Option CharCode)
+    → OpeningBy (code_begins mode c cs s x)
 unfolding Opening code_begins
-code-opening mode c cs s Nothing = tt
-code-opening mode c cs s (Code own k) =
-    let w = shift_wanted (alphabet_of mode) s own in
-    either OpeningBy (eqb w 0) (own_begins mode c cs s k) (shift_begins mode (c ∷ cs) w) tt tt
+code-opening mode c cs s None = tt
+code-opening mode c cs s (Some o) =
+    let w = shift_wanted (alphabet_of mode) s o.shift in
+    either OpeningBy (eqb w 0) (own_begins mode c cs s o.code) (shift_begins mode (c ∷ cs) w) tt tt
 
 front-opening : (mode : Mode) (ws : List ℕ) (part : Part) (s : Sender) → Opening (Sending part []) ws
     → OpeningBy (front_begins mode ws part s)

@@ -1,4 +1,6 @@
 -- What a station has on the line, in numbers, beside what its model has there.
+use Rattle.std.specs.Prelude.{Option, Some, None}
+use Rattle.alphabet.specs.declared.CharCode.{CharCode}
 use mathlib.Core.Path.{◌≡◌, ◌∙◌, refl, sym, ap, subst}
 use mathlib.Core.Bool.{Bool, true, false, cond, not, ◌&&◌, true≢false}
 use mathlib.Core.List.{List, [], ◌∷◌}
@@ -12,8 +14,6 @@ use borrow.Author.Tests.{leb-true, leb-false, ltb-true, ltb-false, lt-ltb}
 use Rattle.lists.proofs.Lists.{by-test}
 use Rattle.alphabet.specs.declared.Alphabet.{Alphabet}
 use Rattle.alphabet.specs.declared.Mode.{Mode}
-use Rattle.alphabet.specs.declared.Sends.{Sends}
-use Rattle.alphabet.specs.declared.Sends.TheVariants.{Nothing, Code}
 use Rattle.alphabet.specs.Modes.{alphabet_of}
 use Rattle.alphabet.specs.Normal.{sends, is_code}
 use Rattle.baudot.specs.declared.Sender.{Sender}
@@ -152,22 +152,22 @@ module _ (mode : Mode) where
   shift-like ws w = record { line-is = sending shift-2 (shift_code w) 0; sender-is = refl; waiting-is = refl }
 
   -- a code begins: the front character sends one
-  begins-like : (c : ℕ) (cs : List ℕ) (l : Line) (s : Sender) (x : Sends) → is_code x ≡ true
+  begins-like : (c : ℕ) (cs : List ℕ) (l : Line) (s : Sender) (x : Option CharCode) → is_code x ≡ true
       → LoadedLike (c ∷ cs) (line.code_begins (alphabet_of mode) l s x) (code_begins mode c cs s x)
   unfolding line.code_begins code_begins part_ms
-  begins-like c cs l s Nothing h = absurd (true≢false (sym h))
-  begins-like c cs l s (Code own k) h = go (eqb w 0)
+  begins-like c cs l s None h = absurd (true≢false (sym h))
+  begins-like c cs l s (Some o) h = go (eqb w 0)
     where
       w : ℕ
-      w = shift_wanted (alphabet_of mode) s own
+      w = shift_wanted (alphabet_of mode) s o.shift
 
       own_code : LoadedLine
-      own_code = line.loaded (on_line 2 k.0 0) (sender_after_own (alphabet_of mode) s) true
+      own_code = line.loaded (on_line 2 o.code.0 0) (sender_after_own (alphabet_of mode) s) true
 
       go : (b : Bool)
           → LoadedLike (c ∷ cs) (cond b own_code (line.shift_begins w))
-          (cond b (own_begins mode c cs s k) (shift_begins mode (c ∷ cs) w))
-      go true = record { line-is = sending own-2 k.0 0; sender-is = refl; waiting-is = refl }
+          (cond b (own_begins mode c cs s o.code) (shift_begins mode (c ∷ cs) w))
+      go true = record { line-is = sending own-2 o.code.0 0; sender-is = refl; waiting-is = refl }
       go false = shift-like (c ∷ cs) w
 
   stays-next : (ws : List ℕ) (part : Part) (ms : List ℕ) (at : ℕ) (s : Sender) → at < length ms

@@ -1,5 +1,7 @@
 -- What a ms of a model that is told can begin with and end in: views that every proof over it goes by. In them it is
 -- left open when a burst begins and ends.
+use Rattle.std.specs.Prelude.{Option, Some, None}
+use Rattle.alphabet.specs.declared.CharCode.{CharCode}
 use mathlib.Core.Path.{◌≡◌, refl, sym, subst}
 use mathlib.Core.Bool.{Bool, true, false, not, ◌&&◌, true≢false, false≢true}
 use mathlib.Core.List.{List, [], ◌∷◌, ◌++◌}
@@ -10,8 +12,6 @@ use borrow.Author.Tests.{leb-true}
 use Rattle.lists.proofs.Lists.{either, either-by, and_left, and_right}
 use Rattle.alphabet.specs.declared.Alphabet.{Alphabet}
 use Rattle.alphabet.specs.declared.Mode.{Mode}
-use Rattle.alphabet.specs.declared.Sends.{Sends}
-use Rattle.alphabet.specs.declared.Sends.TheVariants.{Nothing, Code}
 use Rattle.alphabet.specs.Modes.{alphabet_of}
 use Rattle.alphabet.specs.Normal.{sends, is_code}
 use Rattle.baudot.specs.declared.Sender.{Sender}
@@ -80,11 +80,11 @@ waits-append mode (x ∷ xs) ys h k = (h.0, waits-append mode xs ys h.1 k)
 waiter : (a : Alphabet) (c : ℕ) → waits a c ≡ true → Waits a c
 waiter a c h = go (sends a c) refl (and_right (leb c 0x7f) (is_code (sends a c)) h)
   where
-    go : (x : Sends) → sends a c ≡ x → is_code x ≡ true → Waits a c
-    go Nothing e z = absurd (true≢false (sym z))
-    go (Code own k) e z =
+    go : (x : Option CharCode) → sends a c ≡ x → is_code x ≡ true → Waits a c
+    go None e z = absurd (true≢false (sym z))
+    go (Some o) e z =
         let l = leb-true c 0x7f (and_left (leb c 0x7f) (is_code (sends a c)) h) in
-        record { char-in = omega arith; own = own; code = k; sent = e }
+        record { char-in = omega arith; own = o.shift; code = o.code; sent = e }
 
 all-wait : (mode : Mode) (cs : List ℕ) → all_wait (alphabet_of mode) cs ≡ true → AllWait mode cs
 unfolding all_wait
@@ -113,7 +113,7 @@ module _ (mode : Mode) (L : LawsOf mode) where
       → (w : Waits a c) → Begins mode (c ∷ cs) (Sending part []) s (code_begins mode c cs s (sends a c))
   unfolding code_begins
   code_view part o c cs s i w =
-      subst (λ (x : Sends). Begins mode (c ∷ cs) (Sending part []) s (code_begins mode c cs s x)) (sym w.sent)
+      subst (λ (x : Option CharCode). Begins mode (c ∷ cs) (Sending part []) s (code_begins mode c cs s x)) (sym w.sent)
       (either-by (Begins mode (c ∷ cs) (Sending part []) s) (eqb (shift_wanted a s w.own) 0)
       (owns part o c cs s w) (λ e. shifts (shift_wanted a s w.own) (L.wanted-in s c w i e)))
 

@@ -1,11 +1,11 @@
 -- Document 01, "Demand 3 is a single claim": the send model (there: a station's book), ms by ms. It is kept from offers
 -- that succeed and heard ms alone, and never looks at a station.
+use Rattle.std.specs.Prelude.{Option, Some, None}
+use Rattle.alphabet.specs.declared.CharCode.{CharCode}
 use Rattle.std.specs.Prelude.{ℕ, suc, ◌≡◌, Bool, true, false, cond, not, ◌&&◌, List, [], ◌∷◌, ◌++◌, map, eqb, length}
 use Rattle.alphabet.specs.declared.Alphabet.{Alphabet}
 use Rattle.alphabet.specs.declared.LineCode.{LineCode}
 use Rattle.alphabet.specs.declared.Mode.{Mode}
-use Rattle.alphabet.specs.declared.Sends.{Sends}
-use Rattle.alphabet.specs.declared.Sends.TheVariants.{Nothing, Code}
 use Rattle.alphabet.specs.Modes.{alphabet_of}
 use Rattle.alphabet.specs.Normal.{sends}
 use Rattle.baudot.specs.declared.Sender.{Sender}
@@ -72,11 +72,11 @@ own_begins mode c cs s k = loaded cs (Sending OwnCode (signal mode k.0)) (sender
 
 -- The front character is next: a shift code where one is wanted ahead of it, else its own code. (A character that sends
 -- nothing never waits.)
-unfoldable pub code_begins : Mode → ℕ → List ℕ → Sender → Sends → Loaded
-code_begins mode c cs s Nothing = loaded cs (Sending OwnCode []) s (c ∷ [])
-code_begins mode c cs s (Code own k) =
-    let w = shift_wanted (alphabet_of mode) s own in
-    cond (eqb w 0) (own_begins mode c cs s k) (shift_begins mode (c ∷ cs) w)
+unfoldable pub code_begins : Mode → ℕ → List ℕ → Sender → Option CharCode → Loaded
+code_begins mode c cs s None = loaded cs (Sending OwnCode []) s (c ∷ [])
+code_begins mode c cs s (Some o) =
+    let w = shift_wanted (alphabet_of mode) s o.shift in
+    cond (eqb w 0) (own_begins mode c cs s o.code) (shift_begins mode (c ∷ cs) w)
 
 -- The next code for those that wait, behind a part; none if none waits.
 abbrev pub front_begins : Mode → List ℕ → Part → Sender → Loaded

@@ -1,4 +1,6 @@
 -- A burst: every ms of it is inhibited, as many as the station needs to be idle, and those after it.
+use Rattle.std.specs.Prelude.{Option, Some, None}
+use Rattle.alphabet.specs.declared.CharCode.{CharCode}
 use mathlib.Core.Path.{◌≡◌, ◌∙◌, refl, sym, ap, subst}
 use mathlib.Core.Bool.{Bool, true, false, cond, not, ◌&&◌, and-false, false≢true}
 use mathlib.Core.List.{List}
@@ -10,8 +12,6 @@ use borrow.Author.Tests.{not-true, eqb-true}
 use Rattle.lists.proofs.Lists.{either, by-test, and_left, and_right}
 use Rattle.alphabet.specs.declared.Alphabet.{Alphabet}
 use Rattle.alphabet.specs.declared.Mode.{Mode}
-use Rattle.alphabet.specs.declared.Sends.{Sends}
-use Rattle.alphabet.specs.declared.Sends.TheVariants.{Nothing, Code}
 use Rattle.alphabet.specs.Modes.{alphabet_of}
 use Rattle.alphabet.specs.Normal.{sends}
 use Rattle.baudot.specs.declared.Sender.{Sender}
@@ -44,12 +44,12 @@ abbrev Busy : Loaded → Type 0
 Busy q = in_burst q.line ≡ true
 
 -- a code begins in a burst
-code-bursts : (a : Alphabet) (l : OnLine) (s : Sender) (x : Sends) → in_burst l ≡ true
+code-bursts : (a : Alphabet) (l : OnLine) (s : Sender) (x : Option CharCode) → in_burst l ≡ true
     → Busy (code_begins a l s x)
 unfolding code_begins
-code-bursts a l s Nothing b = b
-code-bursts a l s (Code own k) b =
-    either Busy (eqb (shift_wanted a s own) 0) _ _ refl refl
+code-bursts a l s None b = b
+code-bursts a l s (Some o) b =
+    either Busy (eqb (shift_wanted a s o.shift) 0) _ _ refl refl
 
 next-bursts : (mode : Mode) (n c : ℕ) (l : OnLine) (s : Sender) → in_burst l ≡ true → Busy (next_code mode n c l s)
 unfolding next_code

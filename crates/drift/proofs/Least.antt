@@ -1,4 +1,7 @@
 -- A burst in Baudot takes 150 ms at least for each character that waits.
+use Rattle.std.specs.Prelude.{Option, Some, None}
+use Rattle.alphabet.specs.declared.CharCode.{CharCode}
+use Rattle.alphabet.specs.Codes.{char_code}
 use mathlib.Core.Path.{◌≡◌, sym, subst}
 use mathlib.Core.Bool.{true, false≢true}
 use mathlib.Core.List.{List, [], ◌∷◌, ◌++◌}
@@ -11,8 +14,6 @@ use Rattle.lists.proofs.Lists.{either, either-by, and_left, and_right}
 use Rattle.alphabet.specs.declared.Alphabet.TheVariants.{Baudot}
 use Rattle.alphabet.specs.declared.Mode.{Mode}
 use Rattle.alphabet.specs.declared.Mode.TheVariants.{Baudot45, Baudot50, Dtmf, Edt}
-use Rattle.alphabet.specs.declared.Sends.{Sends}
-use Rattle.alphabet.specs.declared.Sends.TheVariants.{Nothing, Code}
 use Rattle.alphabet.specs.Modes.{alphabet_of}
 use Rattle.alphabet.specs.Normal.{sends, is_code}
 use Rattle.baudot.specs.declared.Sender.{Sender}
@@ -40,13 +41,14 @@ codes-least s (c ∷ cs) w =
     let others = and_right (waits Baudot c) (all_wait Baudot cs) w in
     go (sends Baudot c) (and_right (leb c 0x7f) (is_code (sends Baudot c)) v) (λ t. codes-least t cs others)
   where
-    go : (x : Sends) → is_code x ≡ true → ((t : Sender) → length cs ≤ length (codes_of t cs))
+    go : (x : Option CharCode) → is_code x ≡ true → ((t : Sender) → length cs ≤ length (codes_of t cs))
         → suc (length cs) ≤ length (codes_for s x ++ codes_of (sender_for s x) cs)
-    go Nothing e rest = absurd (false≢true e)
-    go (Code own k) e rest =
-        let l = length-append (codes_ahead s own) (k.0 ∷ []) in
-        let m = length-append (codes_for s (Code own k)) (codes_of (sender_for s (Code own k)) cs) in
-        let n = rest (sender_for s (Code own k)) in
+    go None e rest = absurd (false≢true e)
+    go (Some o) e rest =
+        let l = length-append (codes_ahead s o.shift) (o.code.0 ∷ []) in
+        let m = length-append (codes_for s (char_code o.shift o.code))
+        (codes_of (sender_for s (char_code o.shift o.code)) cs) in
+        let n = rest (sender_for s (char_code o.shift o.code)) in
         omega arith
 
 module _ (mode : Mode) (m : is_measured mode ≡ true) (cs : List ℕ) (w : all_wait (alphabet_of mode) cs ≡ true) where

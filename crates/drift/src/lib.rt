@@ -28,29 +28,27 @@ fn free_at(silence: u16, deaf: usize, heard: &[u8]) -> usize
     ensures { result ≡ free_at silence deaf heard.now }
 {
     let mut s = silence;
-    let mut i: usize = 0;
-    while i < heard.len() {
+    for (i, x) in heard.iter().enumerate() {
         if rules::FREE <= s {
             return i;
         }
-        s = half_duplex::silence_after(rules::is_silent(i < deaf, heard[i]), s);
-        i += 1;
+        s = half_duplex::silence_after(rules::is_silent(i < deaf, *x), s);
     }
-    i
+    heard.len()
 }
 
 // The first ms of a run that is in a burst, or the length if none is.
+#[tactic(auto, unfolding(crate::specs::code::Moments::burst_at))]
 fn burst_at(c: Core, heard: &[u8]) -> usize
     ensures { result ≡ burst_at c heard.now }
 {
-    let line = c.line;
-    if line.part != burst::IDLE {
-        return 0;
+    if c.line.part != burst::IDLE {
+        0
+    } else if c.waiting == 0 {
+        heard.len()
+    } else {
+        free_at(c.silence, c.inhibited as usize, heard)
     }
-    if c.waiting == 0 {
-        return heard.len();
-    }
-    free_at(c.silence, c.inhibited as usize, heard)
 }
 
 // The ms of a burst: those that are left of one on the line, or all of one that begins, the line being free.
@@ -79,21 +77,19 @@ fn frame_behind(n: usize, f: Frame) -> Frame
     ensures { result ≡ frame_behind n f }
 {
     if n == 0 {
-        return f;
-    }
-    Frame {
-        place: 0,
-        digits: 0,
+        f
+    } else {
+        Frame {
+            place: 0,
+            digits: 0,
+        }
     }
 }
 
 fn edges_behind(n: usize, w: Edges) -> Edges
     ensures { result ≡ edges_behind n w }
 {
-    if 0 < n {
-        return edges::none();
-    }
-    w
+    if 0 < n { edges::none() } else { w }
 }
 
 // A report with the edges of the ms from one place to another, which are heard; those right before them are inhibited.
@@ -116,9 +112,13 @@ fn heard_in(
     if to <= from {
         return r;
     }
-    let frame = frame_behind(from, f);
-    let edges = edges_behind(from, w);
-    edges_runs::measure(mode, frame, edges, r, &heard[from..to])
+    edges_runs::measure(
+        mode,
+        frame_behind(from, f),
+        edges_behind(from, w),
+        r,
+        &heard[from..to],
+    )
 }
 
 // A report with the edges that count in a run: of what is heard before a burst, and of what is heard after it. Where
@@ -135,8 +135,7 @@ pub fn report_after(c: Core, w: Edges, chars: &[u8], r: Report, heard: &[u8]) ->
     if edges::element(mode) == 0 {
         return r;
     }
-    let reader = c.reader;
-    let f = reader.frame;
+    let f = c.reader.frame;
     let len = heard.len();
     let to = burst_at(c, heard);
     let before = heard_in(mode, f, w, r, heard, c.inhibited as usize, to);

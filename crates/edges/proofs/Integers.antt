@@ -1,17 +1,18 @@
 -- Laws on integers that the proofs share: how large a sum, the smaller or larger of two and a displacement are, and
 -- what fits.
 use mathlib.Core.Path.{◌≡◌, ◌∙◌, sym, ap}
-use mathlib.Core.Bool.{Bool, cond}
 use Prim.Native.Nat.{ℕ, zero, suc, ◌+◌, ◌-◌, ◌*◌, ◌%◌, ◌≤◌, ◌<◌}
 use native.Mathlib.Omega.{arith}
 use native.Mathlib.Nat.{mod-lt}
 use lib.Dec.{eqb, leb, ltb}
 use lib.IntN.{ℤ, pos, negsuc, nat_abs, sub_ℕ, ◌+ℤ◌, ◌-ℤ◌}
-use lib.Signed.{le_z, mag}
+use lib.Signed.{le_z}
 use mir.Syntax.{w32}
 use mir.Val.{SFits, to_z, of_z}
 use mir.ValLaws.{to_z-of_z}
 use borrow.Author.Tests.{eq-eqb, ne_eqb, eqb-true, eqb-false, ltb-true, ltb-false, leb-true, leb-false}
+use Rattle.std.specs.Int.{int_min, int_max}
+use Rattle.std.proofs.lemmas.Int.{ints}
 use Rattle.lists.proofs.Lists.{either, either-by, by-test}
 use Rattle.edges.specs.Edges.{smaller, larger, displacement}
 
@@ -40,6 +41,13 @@ pub zero_is : (z : ℤ) → nat_abs z ≡ 0 → z ≡ pos 0
 zero_is (pos a) e = ap pos e
 zero_is (negsuc a) e = absurd (omega arith)
 
+-- what the library calls the smaller and the larger
+pub least : (a b : ℤ) → int_min a b ≡ smaller a b
+least a b = grind (arith, ints)
+
+pub most : (a b : ℤ) → int_max a b ≡ larger a b
+most a b = grind (arith, ints)
+
 pub smaller-size : (n : ℕ) (a b : ℤ) → nat_abs a ≤ n → nat_abs b ≤ n → nat_abs (smaller a b) ≤ n
 smaller-size n a b h k = either (λ (z : ℤ). nat_abs z ≤ n) (le_z a b) a b h k
 
@@ -60,16 +68,6 @@ displacement-size e m o h =
     let l = leb-false (2 * (m % e)) e t in
     let s = early-size e (m % e) (mod-lt m o) in
     omega arith)
-
--- what a test of two numbers that were stored chooses
-pub chosen : {a b : ℤ} → SFits w32 a → SFits w32 b → (x y : ℤ) {t : Bool}
-    → le_z (to_z w32 (of_z w32 a)) (to_z w32 (of_z w32 b)) ≡ t → cond t x y ≡ cond (le_z a b) x y
-chosen {a} {b} f g x y e =
-    ap (λ (t : Bool). cond t x y) (sym e ∙ λ i. le_z (to_z-of_z w32 a f i) (to_z-of_z w32 b g i))
-
--- the size of a number that was stored
-pub size_is : (z : ℤ) {n : ℕ} → mag z < 2_147_483_648 → n ≡ nat_abs (to_z w32 (of_z w32 z)) → n ≡ nat_abs z
-size_is z h e = e ∙ ap nat_abs (to_z-of_z w32 z (record { sfits = h }))
 
 -- a number that was stored is 0 if its size is
 pub zero_test : (z : ℤ) → SFits w32 z → eqb (of_z w32 z) 0 ≡ eqb (nat_abs z) 0

@@ -1,5 +1,5 @@
 -- Where a frame ends: from sample to sample, and from frame to frame.
-use mathlib.Core.Path.{◌≡◌, ◌∙◌, refl, ap}
+use mathlib.Core.Path.{◌≡◌, ◌∙◌, refl, sym, ap, subst}
 use mathlib.Core.List.{List}
 use Prim.Native.Nat.{ℕ, ◌+◌, ◌-◌, ◌≤◌, ◌<◌}
 use native.Mathlib.Omega.{arith}
@@ -11,28 +11,19 @@ use Rattle.frames.specs.declared.samples.Effect.{Effect}
 use Rattle.frames.specs.declared.samples.Effect.TheVariants.{On, Hunts, Breaks, Ends}
 use Rattle.frames.specs.Samples.{samples_of}
 use Rattle.frames.specs.code.Bounds.{Framed, FrameOf}
-use Rattle.frames.specs.code.Samples.{kind_of, done_by, Does}
+use Rattle.frames.specs.code.Samples.{done_by}
 use Rattle.frames_runs.specs.code.Passing.{frame_at, place_after, Stays}
 use Rattle.frames_runs.proofs.Walking.{walks-none, walks-chain}
-use Rattle.frames_runs.proofs.Framing.{Ahead, ahead-here, ahead-here-walks, ahead-end, ahead-end-walks, sample-step, alike_next, alike-walks-as, alike-walks-next-as}
+use Rattle.std.specs.Prelude.{Option, None, Some, MatchOption}
+use Rattle.frames_runs.specs.declared.Walk.{Walk}
+use Rattle.frames_runs.specs.declared.Stop.{Stop}
+use Rattle.frames_runs.specs.code.Walking.{frame_of, Stopped, StopsBy, Stops}
+use Rattle.frames_runs.proofs.Framing.{alike_next, alike-walks-as, alike-walks-next-as}
 use Rattle.edges.specs.Edges.{is_code}
 use Rattle.edges_runs.specs.declared.Ended.{Ended}
-use Rattle.edges_runs.specs.code.Counting.{Clean, Reached, place_behind, finds_code, ended_by, EndedAt}
+use Rattle.edges_runs.specs.code.Counting.{Clean, Reached, place_behind, finds_code, ended_by, EndedAt, EndsNone, NextEnd}
 
 -- ---- a sample that does not let its frame go on
-
-abbrev pub Stopped : Effect → Type 0
-Stopped (On digits) = ⊥
-Stopped Hunts = Unit {0}
-Stopped (Breaks cause) = Unit {0}
-Stopped Ends = Unit {0}
-
--- what is left if it is told that it does not
-pub stopped : (e : Effect) → ((d : ℕ) → e ≡ On d → ⊥) → Stopped e
-stopped (On d) p = absurd (p d refl)
-stopped Hunts p = tt
-stopped (Breaks cause) p = tt
-stopped Ends p = tt
 
 done_next : (e : Effect) (m digits : ℕ) → Stopped e → (done_by e m digits).frame ≡ frame_at (place_behind e) 0
 done_next (On d) m digits t = absurd t
@@ -46,41 +37,32 @@ done-code Hunts m digits = refl
 done-code (Breaks cause) m digits = refl
 done-code Ends m digits = refl
 
-module _ (mode : Mode) (framed : Framed mode) (heard : List ℕ) (f : Frame) (h : FrameOf mode f) (i j s at digits : ℕ)
-    (a : Ahead mode heard f i j s at digits) where
-  pub ended_here : at < length heard → (e : Effect) → Does (kind_of mode j) digits (get_or heard at 0) e → Stopped e
-      → EndedAt mode heard f i (ended_by (s + 1) at e)
-  ended_here l e does t =
-      let p = ahead-here mode framed heard f h i j s at digits a l in
-      let step = sample-step mode framed heard f h i j s at digits a l ∙ does s in
+module _ (mode : Mode) (heard : List ℕ) (w : Walk) (s : Stop) (t : Stops mode heard w s) where
+  -- the walk up to where it ends
+  walked : Reached mode heard (frame_of w) w.to (frame_of s.walk) s.walk.to
+  walked = record { low = t.passes.low; high = t.passes.high; ranged = t.passes.ranged; walks = t.walks }
+
+  pub ended_here : (e : Effect) → s.effect ≡ Some e → EndedAt mode heard w (ended_by s.walk.place s.walk.to e)
+  ended_here e i =
+      let b = subst (λ (o : Option Effect).
+      MatchOption o (s.walk.to ≡ length heard) (λ e. StopsBy mode heard s.walk e)) i t.stops in
+      let m = s.walk.place - 1 in
       record {
-        frame = frame_at (s + 1) digits;
-        reached = record {
-          low = p.low;
-          high = p.high;
-          ranged = p.ranged;
-          walks = ahead-here-walks mode framed heard f h i j s at digits a l;
-        };
-        ends = λ _. record {
+        frame = frame_of s.walk;
+        reached = walked;
+        inside = b.inside;
+        ends = record {
           place = refl;
-          next = ap (λ (r : FrameRead). r.frame) step ∙ done_next e s digits t;
-          code = ap (λ (r : FrameRead). is_code r.found) step ∙ done-code e s digits;
+          next = ap (λ (r : FrameRead). r.frame) b.step ∙ done_next e m s.walk.digits b.stopped;
+          code = ap (λ (r : FrameRead). is_code r.found) b.step ∙ done-code e m s.walk.digits;
         };
       }
 
-  pub ended-list : length heard ≤ at → EndedAt mode heard f i (ended_by 0 (length heard) Hunts)
-  ended-list l =
-      let p = ahead-end mode framed heard f h i j s at digits a l in
-      record {
-        frame = frame_at (s + 1 - (at - length heard)) digits;
-        reached = record {
-          low = p.low;
-          high = p.high;
-          ranged = p.ranged;
-          walks = ahead-end-walks mode framed heard f h i j s at digits a l;
-        };
-        ends = λ m. absurd (omega arith);
-      }
+  pub ended-list : s.effect ≡ None → EndsNone mode heard w
+  ended-list i =
+      let b = subst (λ (o : Option Effect).
+      MatchOption o (s.walk.to ≡ length heard) (λ e. StopsBy mode heard s.walk e)) i t.stops in
+      record { frame = frame_of s.walk; reached = rw b at walked }
 
 -- ---- from frame to frame
 
@@ -108,28 +90,27 @@ module _ (mode : Mode) (framed : Framed mode) (heard : List ℕ) (f : Frame) (i 
   module _ (place digits to : ℕ) (r : Reached mode heard f i (frame_at place digits) to)
       (clean : Clean (frame_at place digits)) where
     -- a frame that ends behind another reader
-    pub ended-far : (p : Ended) → EndedAt mode heard (frame_at place digits) to p → EndedAt mode heard f i p
-    ended-far p e = record {
+    pub ended-far : (w : Walk) → frame_of w ≡ f → w.to ≡ i → (p : Option Ended)
+        → NextEnd mode heard (record { place = place; digits = digits; to = to }) p → NextEnd mode heard w p
+    ended-far w ef ei None e = record { frame = e.frame; reached = rw (ef, ei) (reached-chain _ _ to _ r e.reached) }
+    ended-far w ef ei (Some p) e = record {
       frame = e.frame;
-      reached = reached-chain _ _ to _ r e.reached;
+      reached = rw (ef, ei) (reached-chain _ _ to _ r e.reached);
+      inside = e.inside;
       ends = e.ends;
     }
 
     module _ (low : place ≤ 1) (k : ℕ) (s : Stays heard place to k) where
-      pub ended-none : k ≡ length heard → EndedAt mode heard f i (ended_by 0 k Hunts)
-      ended-none z =
+      pub reached-none : k ≡ length heard → Reached mode heard f i (frame_at place 0) (length heard)
+      reached-none z =
           let g = r.ranged in
           let n = g.digits_in in
-          record {
-            frame = frame_at place 0;
-            reached = reached-chain _ _ to k r (record {
-              low = s.low;
-              high = s.high;
-              ranged = record { place_in = g.place_in; digits_in = omega arith };
-              walks = alike-walks-as mode framed heard place digits to k clean low s;
-            });
-            ends = λ m. absurd (omega arith);
-          }
+          rw (sym z) (reached-chain _ _ to k r (record {
+            low = s.low;
+            high = s.high;
+            ranged = record { place_in = g.place_in; digits_in = omega arith };
+            walks = alike-walks-as mode framed heard place digits to k clean low s;
+          }))
 
       pub reached-next : k < length heard → (p : ℕ) → p ≡ place_after place (get_or heard k 0)
           → Reached mode heard f i (frame_at p 0) (k + 1)

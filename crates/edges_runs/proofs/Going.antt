@@ -101,11 +101,11 @@ module _ (e p : ℕ) (w : Edges) (xs : List ℕ) (p' : ℕ) (w' : Edges) where
   began-case n l m (Went a b c d) = absurd (omega arith)
 
   went-case : (length xs ≡ 0 → ⊥) → 2 ≤ p' → length xs < p' - 1 → Seen e p w xs p' w'
-      → with_all e (p - 1) w (take (length xs - 0) (drop 0 xs)) ≡ w'
+      → with_all e (p - 1) w xs ≡ w'
   went-case n l m (Empty a b c) = absurd (n a)
   went-case n l m (Fell a b c) = absurd (omega arith)
   went-case n l m (Began a b c) = absurd (omega arith)
-  went-case n l m (Went a b c d) = ap (with_all e (p - 1) w) (take_all (length xs - 0) xs (omega arith)) ∙ d
+  went-case n l m (Went a b c d) = d
 
   pub latest-empty : length xs ≡ 0 → Goes e p w xs p' w' → w ≡ w'
   latest-empty n g = empty-case n (seen e p w xs p' w' g)
@@ -118,5 +118,5 @@ module _ (e p : ℕ) (w : Edges) (xs : List ℕ) (p' : ℕ) (w' : Edges) where
   latest-began z l n en m u eu g = rw (en, eu) (began-case z l (omega arith) (seen e p w xs p' w' g))
 
   pub latest-went : (length xs ≡ 0 → ⊥) → 2 ≤ p' → (n : ℕ) → n ≡ p' - 1 → length xs < n → (m : ℕ) → m ≡ p - 1
-      → Goes e p w xs p' w' → with_all e m w (take (length xs - 0) (drop 0 xs)) ≡ w'
+      → Goes e p w xs p' w' → with_all e m w xs ≡ w'
   latest-went z l n en k m em g = rw em (went-case z l (omega arith) (seen e p w xs p' w' g))

@@ -19,6 +19,7 @@ use Rattle.frames.specs.Samples.{Placed, samples_of}
 use Rattle.frames.specs.Frames.{frame_step, frame_next, frame_found, frame_after}
 use Rattle.frames.specs.code.Bounds.{Framed, FrameOf}
 use Rattle.frames.proofs.Range.{next-in, place-255}
+use Rattle.frames_runs.specs.declared.Walk.{Walk}
 use Rattle.frames_runs.specs.code.Passing.{frame_at}
 use Rattle.frames_runs.proofs.Walking.{part}
 use Rattle.edges.specs.declared.Report.{Report}
@@ -29,7 +30,7 @@ use Rattle.edges.specs.code.Measuring.{edges_over, report_over}
 use Rattle.edges.proofs.Range.{more_of, waiting_few, counted-measured, element-few, element-some}
 use Rattle.edges_runs.specs.declared.Ended.{Ended}
 use Rattle.edges_runs.specs.code.Latest.{Goes}
-use Rattle.edges_runs.specs.code.Counting.{Clean, clean_digits, Reached, EndsSo, with_code, CountOf}
+use Rattle.edges_runs.specs.code.Counting.{Clean, clean_digits, Reached, EndsSo, EndedAt, EndsNone, with_code, CountOf}
 use Rattle.edges_runs.proofs.Reading.{report-append, goes_over, walks-after, walks-report}
 use Rattle.edges.proofs.Bound.{fine_of}
 use Rattle.edges_runs.proofs.Bound.{report-most, report-fine}
@@ -112,6 +113,7 @@ pub record Given (mode : Mode) (f : Frame) (w : Edges) (r : Report) (heard : Lis
 -- before ms i the reader is at a place, with some digits and the report so far
 pub record At (mode : Mode) (f : Frame) (w : Edges) (r : Report) (heard : List ℕ) (place digits i : ℕ) (report : Report)
     : Type 0 where
+  pub given : Given mode f w r heard
   pub within : i ≤ length heard
   pub ranged : FrameOf mode (frame_at place digits)
   pub clean : Clean (frame_at place digits)
@@ -133,6 +135,7 @@ module _ (mode : Mode) (f : Frame) (w : Edges) (r : Report) (heard : List ℕ) (
   pub at-start : At mode f w r heard f.place (clean_digits f) 0 r
   unfolding state_after report_over
   at-start = record {
+    given = g;
     within = omega arith;
     ranged = cleaned-in mode f g.frame;
     clean = cleaned-clean f;
@@ -157,12 +160,13 @@ module _ (mode : Mode) (f : Frame) (w : Edges) (r : Report) (heard : List ℕ) (
 
     -- up to the ms that ends a frame
     module _ (k : Frame) (to : ℕ) (h : Reached mode heard (frame_at place digits) i k to) where
-      pub at-reached : At mode f w r heard k.place k.digits to report
+      at-reached : At mode f w r heard k.place k.digits to report
       at-reached =
           let ps = part heard i to in
           let c = take_on heard i to h.low in
           let at = edges_over mode (cleaned f) w (take i heard) in
           record {
+            given = g;
             within = h.high;
             ranged = h.ranged;
             clean = reached-clean mode heard (frame_at place digits) i k to a.clean h;
@@ -178,13 +182,13 @@ module _ (mode : Mode) (f : Frame) (w : Edges) (r : Report) (heard : List ℕ) (
                 ∙ walks-report mode (frame_at place digits) k at report ps report-in.none h.walks;
           }
 
-    pub at-end : i ≡ length heard → report ≡ report_over mode f w r heard
+    at-end : i ≡ length heard → report ≡ report_over mode f w r heard
     at-end z =
         sym a.report-is
         ∙ ap (report_over mode (cleaned f) w r) (take_all i heard (omega arith))
         ∙ sym (cleaned-report mode f w r heard)
 
-    pub at-counts : i < length heard → CountOf e w heard i report
+    at-counts : i < length heard → CountOf e w heard i report
     at-counts l = record {
       some = element-some mode g.measured;
       few = element-few mode;
@@ -207,10 +211,10 @@ module _ (mode : Mode) (f : Frame) (w : Edges) (r : Report) (heard : List ℕ) (
     v = edges_over mode (cleaned f) w before
 
     module _ (h : EndsSo mode k x p) where
-      pub place-few : p.place < 255
+      place-few : p.place < 255
       place-few = subst (λ (n : ℕ). n < 255) h.place (place-255 mode k a.ranged)
 
-      pub code_inside : p.code ≡ true → 2 ≤ p.place
+      code_inside : p.code ≡ true → 2 ≤ p.place
       code_inside t = subst (λ (n : ℕ). 2 ≤ n) h.place (code-in ss k.place k.digits x (h.code ∙ t))
 
       goes-here : Goes e f.place w before p.place v
@@ -227,12 +231,13 @@ module _ (mode : Mode) (f : Frame) (w : Edges) (r : Report) (heard : List ℕ) (
             ∙ (λ t. with_code e (h.place t) v x (h.code t) report)
             ∙ sym (all v goes-here)
 
-        pub at_ended : At mode f w r heard p.next 0 (p.to + 1) q
+        at_ended : At mode f w r heard p.next 0 (p.to + 1) q
         unfolding state_after report_over
         at_ended =
             let n = h.next in
             let c = take_next heard p.to l in
             record {
+              given = g;
               within = omega arith;
               ranged =
                   subst (FrameOf mode) n
@@ -249,3 +254,33 @@ module _ (mode : Mode) (f : Frame) (w : Edges) (r : Report) (heard : List ℕ) (
                   ∙ (λ t. joined (a.report-is t) (counted_ms mode (a.frame t) v x))
                   ∙ counted-here;
             }
+
+-- from a walk to the ms that ends the next frame
+module _ (mode : Mode) (f : Frame) (w : Edges) (r : Report) (heard : List ℕ) (walk : Walk) (report : Report)
+    (a : At mode f w r heard walk.place walk.digits walk.to report) (p : Ended) (h : EndedAt mode heard walk p)
+  where
+    before-end : At mode f w r heard h.frame.place h.frame.digits p.to report
+    before-end = at-reached mode f w r heard a.given walk.place walk.digits walk.to report a h.frame p.to h.reached
+
+    pub end-counts : (e : ℕ) → e ≡ element_of mode → CountOf e w heard p.to report
+    end-counts e n = rw n (at-counts mode f w r heard a.given _ _ _ report before-end h.inside)
+
+    pub end-few : p.place < 255
+    end-few = place-few mode f w r heard a.given h.frame p report before-end h.inside h.ends
+
+    pub end-code : p.code ≡ true → 2 ≤ p.place
+    end-code = code_inside mode f w r heard a.given h.frame p report before-end h.inside h.ends
+
+    pub behind-end : (e : ℕ) → e ≡ element_of mode → (q : Report)
+        → ((u : Edges) → Goes e f.place w (take p.to heard) p.place u
+        → q ≡ with_code e p.place u (get_or heard p.to 0) p.code report)
+        → At mode f w r heard p.next 0 (p.to + 1) q
+    behind-end e n q all = at_ended mode f w r heard a.given h.frame p report before-end h.inside h.ends q (rw n at all)
+
+-- no frame ends
+pub at-last : (mode : Mode) (f : Frame) (w : Edges) (r : Report) (heard : List ℕ) (walk : Walk) (report : Report)
+    → At mode f w r heard walk.place walk.digits walk.to report → EndsNone mode heard walk
+    → report ≡ report_over mode f w r heard
+at-last mode f w r heard walk report a h =
+    at-end mode f w r heard a.given _ _ _ report
+    (at-reached mode f w r heard a.given walk.place walk.digits walk.to report a h.frame (length heard) h.reached) refl

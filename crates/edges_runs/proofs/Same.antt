@@ -46,19 +46,19 @@ with-run e m w (x ∷ xs) h =
 
 -- ---- the loop: ms of a level, from a place of the list on
 
-module _ (e m : ℕ) (heard : List ℕ) (from to : ℕ) (fits : to ≤ length heard) where
+module _ (e m : ℕ) (heard : List ℕ) (to : ℕ) (fits : to ≤ length heard) where
   -- what is left, with the edges so far
   abbrev left : Edges → ℕ → Edges
-  left w i = with_all e (m + (i - from)) w (part heard i to)
+  left w i = with_all e (m + i) w (part heard i to)
 
-  left-next : (w : Edges) (i : ℕ) → from ≤ i → i < to
-      → left w i ≡ left (with_ms e (m + (i - from)) w (get_or heard i 0)) (i + 1)
+  left-next : (w : Edges) (i : ℕ) → i < to
+      → left w i ≡ left (with_ms e (m + i) w (get_or heard i 0)) (i + 1)
   unfolding with_all
-  left-next w i l h =
-      let v = with_ms e (m + (i - from)) w (get_or heard i 0) in
+  left-next w i h =
+      let v = with_ms e (m + i) w (get_or heard i 0) in
       let z : to - i ≡ suc (to - (i + 1)) = omega arith in
-      let y : m + (i - from) + 1 ≡ m + (i + 1 - from) = omega arith in
-      ap (with_all e (m + (i - from)) w)
+      let y : m + i + 1 ≡ m + (i + 1) = omega arith in
+      ap (with_all e (m + i) w)
       (ap (λ (n : ℕ). take n (drop i heard)) z ∙ part-cons heard i (to - (i + 1)) (omega arith))
       ∙ ap (λ (n : ℕ). with_all e n v (part heard (i + 1) to)) y
 
@@ -67,22 +67,22 @@ module _ (e m : ℕ) (heard : List ℕ) (from to : ℕ) (fits : to ≤ length he
       rw (get_or-take (j - i) (drop i heard) k 0 l, get_or-drop i heard k 0)
       (t.same (i + k) (omega arith) (omega arith))
 
-  left-same : (w : Edges) (x i j : ℕ) → from ≤ i → w.level ≡ x → Through heard i to x j → left w i ≡ left w j
-  left-same w x i j l level t =
+  left-same : (w : Edges) (x i j : ℕ) → w.level ≡ x → Through heard i to x j → left w i ≡ left w j
+  left-same w x i j level t =
       let low = t.low in
       let high = t.high in
       let a = part heard i j in
       let b = part heard j to in
       let n : length a ≡ j - i = simp (length-take, length-drop) (omega arith) in
-      let y : m + (i - from) + length a ≡ m + (j - from) = omega arith in
-      ap (with_all e (m + (i - from)) w) (part-chain heard i j to low high)
-      ∙ with_append e (m + (i - from)) w a b
-      ∙ ap (λ (k : ℕ). with_all e k (with_all e (m + (i - from)) w a) b) y
-      ∙ ap (λ (v : Edges). with_all e (m + (j - from)) v b)
-      (with-run e (m + (i - from)) w a
+      let y : m + i + length a ≡ m + j = omega arith in
+      ap (with_all e (m + i) w) (part-chain heard i j to low high)
+      ∙ with_append e (m + i) w a b
+      ∙ ap (λ (k : ℕ). with_all e k (with_all e (m + i) w a) b) y
+      ∙ ap (λ (v : Edges). with_all e (m + j) v b)
+      (with-run e (m + i) w a
       (λ (k : ℕ) (h : k < length a). same_at x i j t k (omega arith) ∙ sym level))
 
-  pub left-turn : (w : Edges) (i j : ℕ) → from ≤ i → i < to → Through heard (i + 1) to (get_or heard i 0) j
-      → left w i ≡ left (with_ms e (m + (i - from)) w (get_or heard i 0)) j
+  pub left-turn : (w : Edges) (i j : ℕ) → i < to → Through heard (i + 1) to (get_or heard i 0) j
+      → left w i ≡ left (with_ms e (m + i) w (get_or heard i 0)) j
   unfolding with_ms
-  left-turn w i j l h t = left-next w i l h ∙ left-same _ _ (i + 1) j (omega arith) refl t
+  left-turn w i j h t = left-next w i h ∙ left-same _ _ (i + 1) j refl t

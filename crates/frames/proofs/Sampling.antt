@@ -12,12 +12,13 @@ use Rattle.lists.specs.Tables.{passes}
 use Rattle.lists.proofs.Tables.{both_left, both_right, passes_at}
 use Rattle.alphabet.specs.declared.Mode.{Mode}
 use Rattle.alphabet.specs.declared.Mode.TheVariants.{Baudot45, Baudot50, Dtmf, Edt}
-use Rattle.frames.specs.declared.Cause.TheVariants.{Quiet}
+use Rattle.frames.specs.declared.Found.TheVariants.{Code}
+use Rattle.frames.specs.declared.Cause.TheVariants.{Quiet, StopNotMark}
 use Rattle.frames.specs.declared.samples.Effect.{Effect}
-use Rattle.frames.specs.declared.samples.Effect.TheVariants.{Breaks}
-use Rattle.frames.specs.Frames.{sampled}
+use Rattle.frames.specs.declared.samples.Effect.TheVariants.{On, Breaks, Ends}
+use Rattle.frames.specs.Frames.{hunting, gives, goes_on, faulty, sampled}
 use Rattle.frames.specs.Samples.{Sample, None, Start, Digit, Parity, Stop, Last, is_later, samples_of, placed, sample_at, baudot_kinds, baudot_place, baudot_samples, edt_kinds, edt_place, edt_samples}
-use Rattle.frames.specs.code.Samples.{number_at, sample_ms, kind_of, Does}
+use Rattle.frames.specs.code.Samples.{number_at, sample_ms, kind_of, done_by, Does}
 
 -- samples at any places
 module _ (place : ℕ → ℕ) where
@@ -152,6 +153,27 @@ not_on mode m h =
 -- what a kind does, another does that is the same
 pub does-as : (k l : Sample) (digits heard : ℕ) (e : Effect) → k ≡ l → Does l digits heard e → Does k digits heard e
 does-as k l digits heard e p = subst (λ (x : Sample). Does x digits heard e) (sym p)
+
+-- a stop, and the last one
+pub stop-does : (digits heard : ℕ) {e : Effect} → (heard ≡ 0 → ⊥)
+    → e ≡ cond (eqb heard 1) (On digits) (Breaks StopNotMark) → Does Stop digits heard e
+unfolding sampled
+stop-does digits heard n p = λ m. simp (ne_eqb heard 0 n, p) (go m (eqb heard 1))
+  where
+    go : (m : ℕ) (b : Bool) → cond b (goes_on m digits) (faulty StopNotMark m)
+        ≡ done_by (cond b (On digits) (Breaks StopNotMark)) m digits
+    go m true = refl
+    go m false = refl
+
+pub last-does : (digits heard : ℕ) {e : Effect} → (heard ≡ 0 → ⊥)
+    → e ≡ cond (eqb heard 1) Ends (Breaks StopNotMark) → Does Last digits heard e
+unfolding sampled
+last-does digits heard n p = λ m. simp (ne_eqb heard 0 n, p) (go m (eqb heard 1))
+  where
+    go : (m : ℕ) (b : Bool) → cond b (gives hunting (Code (record { 0 = digits }))) (faulty StopNotMark m)
+        ≡ done_by (cond b Ends (Breaks StopNotMark)) m digits
+    go m true = refl
+    go m false = refl
 
 -- the first sample is the start's
 pub first-start : (mode : Mode) (j : ℕ) → j ≡ 0 → j < length (samples_of mode) → kind_of mode j ≡ Start

@@ -14,10 +14,11 @@ use alphabet::{LineCode, Mode};
 
 pub mod samples;
 
-// Why something that was heard gives a fault. A frame has the first three, DTMF the last two.
-#[derive(Clone, Copy)]
+// Why something that was heard gives a fault, with its number in an output word. A frame has the first three, DTMF the
+// last two.
+#[derive(Clone, Copy, Debug, PartialEq, Eq)]
 pub enum Cause {
-    Quiet,
+    Quiet = 1,
     StopNotMark,
     OddParity,
     NoRow,
@@ -25,9 +26,9 @@ pub enum Cause {
 }
 
 // A reader of frames. Place 0: hunting; 1: waiting after a fault; m + 1: in a frame whose ms m is to come. The digits
-// so far, the latest one at the top.
+// so far, the latest one at the top. Hosts in C lend it with any numbers, so its range is no fact of the type.
 #[repr(C)]
-#[derive(Clone, Copy)]
+#[derive(Clone, Copy, Debug, PartialEq, Eq)]
 pub struct Frame {
     pub place: u8,
     pub digits: u8,
@@ -51,26 +52,43 @@ const HUNTING: u8 = 0;
 
 const WAITING: u8 = 1;
 
-// A ms that finds nothing leaves the reader at a place.
-fn at(place: u8, digits: u8) -> FrameRead
-    ensures { result ≡ gives (record { place = place; digits = digits }) found.Nothing }
-{
-    FrameRead {
-        frame: Frame { place, digits },
-        found: Found::Nothing,
-    }
+impl Frame {
+    pub const HUNTING: Frame = Frame {
+        place: HUNTING,
+        digits: 0,
+    };
+
+    const WAITING: Frame = Frame {
+        place: WAITING,
+        digits: 0,
+    };
+
+    // Ms 0 of a frame was heard.
+    const BEGUN: Frame = Frame {
+        place: 2,
+        digits: 0,
+    };
 }
 
-// One fault, and then the wait.
-fn fault(cause: Cause, ms: u8) -> FrameRead
-    ensures { result ≡ faulty cause ms }
-{
-    FrameRead {
-        frame: Frame {
-            place: WAITING,
-            digits: 0,
-        },
-        found: Found::Fault(cause, ms),
+impl FrameRead {
+    // A ms that finds nothing.
+    fn nothing(frame: Frame) -> FrameRead
+        ensures { result ≡ gives frame found.Nothing }
+    {
+        FrameRead {
+            frame,
+            found: Found::Nothing,
+        }
+    }
+
+    // One fault, and then the wait.
+    fn fault(cause: Cause, ms: u8) -> FrameRead
+        ensures { result ≡ faulty cause ms }
+    {
+        FrameRead {
+            frame: Frame::WAITING,
+            found: Found::Fault(cause, ms),
+        }
     }
 }
 
@@ -81,14 +99,14 @@ fn done(e: Effect, f: Frame) -> FrameRead
     ensures { result ≡ done_by e (f.place - 1) f.digits }
 {
     match e {
-        Effect::On(digits) => at(f.place + 1, digits as u8),
-        Effect::Hunts => at(HUNTING, 0),
-        Effect::Breaks(cause) => fault(cause, f.place - 1),
+        Effect::On(digits) => FrameRead::nothing(Frame {
+            place: f.place + 1,
+            digits: digits as u8,
+        }),
+        Effect::Hunts => FrameRead::nothing(Frame::HUNTING),
+        Effect::Breaks(cause) => FrameRead::fault(cause, f.place - 1),
         Effect::Ends => FrameRead {
-            frame: Frame {
-                place: HUNTING,
-                digits: 0,
-            },
+            frame: Frame::HUNTING,
             found: Found::Code(LineCode(f.digits)),
         },
     }
@@ -102,10 +120,14 @@ fn in_frame(mode: Mode, f: Frame, heard: u8) -> FrameRead
 {
     let m = (f.place - 1) as usize;
     let j = samples::number_at(mode, m);
-    if samples::sample_ms(mode, j) != m {
-        return at(f.place + 1, f.digits);
+    if samples::sample_ms(mode, j) == m {
+        done(samples::effect_of(mode, j, f.digits as usize, heard), f)
+    } else {
+        FrameRead::nothing(Frame {
+            place: f.place + 1,
+            ..f
+        })
     }
-    done(samples::effect_of(mode, j, f.digits as usize, heard), f)
 }
 
 // One ms of reading frames.
@@ -113,27 +135,17 @@ pub fn frame_step(mode: Mode, f: Frame, heard: u8) -> FrameRead
     requires { FrameOf mode f }
     ensures { result ≡ frame_step (samples_of mode) f heard }
 {
-    if f.place == HUNTING {
-        if heard == 2 {
-            return at(2, 0);
-        }
-        return at(HUNTING, 0);
+    match f.place {
+        HUNTING if heard == Mode::SPACE => FrameRead::nothing(Frame::BEGUN),
+        WAITING if heard == Mode::SPACE => FrameRead::nothing(Frame::WAITING),
+        HUNTING | WAITING => FrameRead::nothing(Frame::HUNTING),
+        _ => in_frame(mode, f, heard),
     }
-    if f.place == WAITING {
-        if heard == 2 {
-            return at(WAITING, 0);
-        }
-        return at(HUNTING, 0);
-    }
-    in_frame(mode, f, heard)
 }
 
 // Question 1, of a frame.
 pub fn in_range(mode: Mode, f: Frame) -> bool
     ensures { result ≡ frame_in mode f }
 {
-    if mode.last_sample() + 1 < f.place {
-        return false;
-    }
-    f.digits < mode.frame_codes()
+    f.place <= mode.last_sample() + 1 && f.digits < mode.frame_codes()
 }

@@ -1,5 +1,5 @@
 -- Frames: ms that end in nothing.
-use mathlib.Core.Path.{◌≡◌, ◌∙◌, refl, sym, ap}
+use mathlib.Core.Path.{◌≡◌, ◌∙◌, refl, sym, ap, subst}
 use mathlib.Core.Bool.{Bool, true, false, cond}
 use mathlib.Core.List.{List}
 use Prim.Native.Nat.{ℕ, zero, suc, ◌+◌, ◌-◌, ◌≤◌, ◌<◌}
@@ -18,26 +18,31 @@ use Rattle.frames.specs.Samples.{Sample, None, Placed, sample_at, samples_of}
 use Rattle.frames.specs.Frames.{gives, sampled, frame_step, frame_next, frame_found}
 use Rattle.frames.specs.code.Bounds.{Framed, FrameOf, is_found}
 use Rattle.frames.proofs.Range.{digits-128, next-in, in_frame-step}
-use Rattle.frames.specs.declared.samples.Effect.TheVariants.{On, Hunts}
-use Rattle.frames.specs.code.Samples.{number_at, sample_ms, kind_of, Does}
+use Rattle.frames.specs.declared.samples.Effect.{Effect}
+use Rattle.frames.specs.declared.samples.Effect.TheVariants.{On, Hunts, Breaks, Ends}
+use Rattle.frames.specs.code.Samples.{number_at, sample_ms, kind_of, done_by, Does}
+use Rattle.std.specs.Prelude.{Option, None, Some, MatchOption}
+use Rattle.frames_runs.specs.declared.Walk.{Walk}
+use Rattle.frames_runs.specs.declared.Stop.{Stop}
 use Rattle.frames_runs.specs.code.Passing.{frame_at, FramePasses, FrameWalks, place_after, Stays}
+use Rattle.frames_runs.specs.code.Walking.{frame_of, Gains, Stopped, StopsBy, Stops}
 use Rattle.frames_runs.proofs.Walking.{walks-none, walks-one, walks-chain, walks-to}
-use Rattle.frames_runs.proofs.Numbered.{next_of, number-next, ms-grows}
+use Rattle.frames_runs.proofs.Numbered.{next_of, number-next, ms-grows, ms-few}
 
 -- ---- hunting and waiting: the place stays
 
 module _ (heard : List ℕ) (place i to : ℕ) where
-  pub hunts-stay : place ≡ 0 → Until heard i (length heard) 2 to → Stays heard place i to
+  pub hunts_stay : place ≡ 0 → Until heard i (length heard) 2 to → Stays heard place i to
   unfolding place_after
-  hunts-stay e u = record {
+  hunts_stay e u = record {
     low = u.low;
     high = u.high;
     stays = λ (k : ℕ) (l : i ≤ k) (m : k < to). rw (ne_eqb (get_or heard k 0) 2 (u.others k l m)) (sym e);
   }
 
-  pub waits-stay : place ≡ 1 → Through heard i (length heard) 2 to → Stays heard place i to
+  pub waits_stay : place ≡ 1 → Through heard i (length heard) 2 to → Stays heard place i to
   unfolding place_after
-  waits-stay e u = record {
+  waits_stay e u = record {
     low = u.low;
     high = u.high;
     stays = λ (k : ℕ) (l : i ≤ k) (m : k < to). rw (u.same k l m, e) refl;
@@ -168,14 +173,13 @@ module _ (mode : Mode) where
       ∙ ap (λ (a : Sample). sampled a m digits x) (ap (sample_at (samples_of mode)) z ∙ e)
       ∙ ap (λ (n : ℕ). gives (frame_at n digits) nothing) y
 
--- where passing ends, nothing is asked of the place
-pub stops : (i to : ℕ) → false ≡ true → i < to
-stops i to e = let z : ◌≡◌ {A = ℕ} 0 1 = cc in absurd (omega arith)
-
 -- Before the sample number j, on ms s of the frame and at a place of the list; or at its end, if it ends before that.
 pub record Ahead (mode : Mode) (heard : List ℕ) (f : Frame) (i j s at digits : ℕ) : Type 0 where
   pub ms : s ≡ sample_ms mode j
   pub number : j < length (samples_of mode)
+  pub few : j ≤ 10
+  pub grows : s < sample_ms mode (j + 1)
+  pub next-high : sample_ms mode (j + 1) ≤ 254
   pub low : 1 ≤ s
   pub high : s ≤ 254
   pub from : i ≤ at
@@ -212,6 +216,8 @@ module _ (mode : Mode) (framed : Framed mode) (heard : List ℕ) (f : Frame) (h 
       let g = p.ranged in
       let n = next_of mode place digits g l j s ej es in
       let behind = n.low in
+      let few = n.few in
+      let grows = ms-grows mode j in
       let to = at - (at - length heard) in
       let z : place + (to - t) ≡ s + 1 - (at - length heard) = omega arith in
       let none : (k : ℕ) → k < to - t → sample_at (samples_of mode) (place - 1 + k) ≡ None
@@ -221,6 +227,9 @@ module _ (mode : Mode) (framed : Framed mode) (heard : List ℕ) (f : Frame) (h 
       record {
         ms = es;
         number = n.number;
+        few = few;
+        grows = omega arith;
+        next-high = ms-few mode (j + 1) (omega arith);
         low = omega arith;
         high = n.high;
         from = omega arith;
@@ -238,14 +247,6 @@ module _ (mode : Mode) (framed : Framed mode) (heard : List ℕ) (f : Frame) (h 
       (rw (← e) (walks-none (samples_of mode) heard f i)) l j s _ ej es refl
 
   module _ (j s at digits : ℕ) (a : Ahead mode heard f i j s at digits) where
-    pub ahead-end : length heard ≤ at
-        → FramePasses mode heard f i (frame_at (s + 1 - (at - length heard)) digits) (length heard)
-    ahead-end l = let z : at - (at - length heard) ≡ length heard = omega arith in rw z at a.passes
-
-    pub ahead-end-walks : length heard ≤ at
-        → FrameWalks mode heard f i (frame_at (s + 1 - (at - length heard)) digits) (length heard)
-    ahead-end-walks l = let z : at - (at - length heard) ≡ length heard = omega arith in rw z at a.walks
-
     module _ (l : at < length heard) where
       abbrev x : ℕ
       x = get_or heard at 0
@@ -282,9 +283,6 @@ module _ (mode : Mode) (framed : Framed mode) (heard : List ℕ) (f : Frame) (h 
           walks-chain (samples_of mode) heard _ _ _ i at (at + 1) a.from (omega arith) ahead-here-walks
           (walks-one (samples_of mode) heard _ g at l (sample-step ∙ e))
 
-      pub ahead-hunts : Does (kind_of mode j) digits x Hunts → FramePasses mode heard f i (frame_at 0 0) (at + 1)
-      ahead-hunts e = sample-passes (frame_at 0 0) (e s)
-
       pub ahead-turn : (after : ℕ) → Does (kind_of mode j) digits x (On after)
           → (k next to : ℕ) → k ≡ j + 1 → next ≡ sample_ms mode k → to ≡ at + (next - s)
           → Ahead mode heard f i k next to after
@@ -297,3 +295,42 @@ module _ (mode : Mode) (framed : Framed mode) (heard : List ℕ) (f : Frame) (h 
           let g = frame_at (s + 1 + 1) after in
           ahead (s + 1 + 1) after (at + 1) (sample-passes g (e s)) (sample-walks g (e s)) (omega arith) k next to
           (ek ∙ sym (number-next mode j) ∙ ap (number_at mode) z) en (omega arith)
+
+-- ---- where the walk ends
+
+-- what does not let a frame go on
+pub stopped : (e : Effect) → ((d : ℕ) → e ≡ On d → ⊥) → Stopped e
+stopped (On d) p = absurd (p d refl)
+stopped Hunts p = tt
+stopped (Breaks cause) p = tt
+stopped Ends p = tt
+
+module _ (mode : Mode) (framed : Framed mode) (heard : List ℕ) (w : Walk) (h : FrameOf mode (frame_of w))
+    (j s at digits : ℕ) (a : Ahead mode heard (frame_of w) w.to j s at digits) where
+  pub stops-here : at < length heard → (e : Effect) → Does (kind_of mode j) digits (get_or heard at 0) e
+      → ((d : ℕ) → e ≡ On d → ⊥)
+      → Stops mode heard w (record { walk = record { place = s + 1; digits = digits; to = at }; effect = Some e })
+  stops-here l e does n = record {
+    passes = ahead-here mode framed heard (frame_of w) h w.to j s at digits a l;
+    walks = ahead-here-walks mode framed heard (frame_of w) h w.to j s at digits a l;
+    stops = record {
+      inside = l;
+      stopped = stopped e n;
+      step = let z : s ≡ s + 1 - 1 = omega arith in
+          sample-step mode framed heard (frame_of w) h w.to j s at digits a l ∙ does s
+          ∙ ap (λ (m : ℕ). done_by e m digits) z;
+    };
+  }
+
+-- past a start that is not space
+pub hunts-on : (mode : Mode) → Framed mode → (heard : List ℕ) (w : Walk) (s : Stop) → Stops mode heard w s
+    → s.effect ≡ Some Hunts → Gains mode heard w (record { place = 0; digits = 0; to = s.walk.to + 1 })
+hunts-on mode framed heard w s p e =
+    let b = subst (λ (o : Option Effect).
+    MatchOption o (s.walk.to ≡ length heard) (λ e. StopsBy mode heard s.walk e)) e p.stops in
+    let low = p.passes.low in
+    record {
+      passes = pass-chain mode framed heard _ _ _ w.to s.walk.to (s.walk.to + 1) p.passes
+          (pass-one mode framed heard _ _ s.walk.to p.passes.ranged b.inside b.step);
+      further = omega arith;
+    }

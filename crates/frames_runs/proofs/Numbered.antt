@@ -16,6 +16,7 @@ use Rattle.frames_runs.specs.code.Passing.{frame_at}
 -- The next sample is one of the mode's, at no ms before, and no sample is before it.
 pub record Next (mode : Mode) (m j s : ℕ) : Type 0 where
   pub number : j < length (samples_of mode)
+  pub few : j ≤ 10
   pub low : m ≤ s
   pub high : s ≤ 254
   pub none : (k : ℕ) → k < s - m → sample_at (samples_of mode) (m + k) ≡ None
@@ -67,6 +68,7 @@ next-at mode m o h =
     let few = samples-few mode in
     record {
       number = n;
+      few = omega arith;
       low = low-at mode m;
       high = ms-few mode (number_at mode m) (omega arith);
       none =

@@ -16,7 +16,8 @@ use burst::{Loaded, OnLine, rules};
 use reader::{Event, Reader, Reading};
 
 // A station beside its queue: how many wait, the ms of silence up to 300, the inhibited ms to come, what is on the
-// line, the sender, the reader, the mode's number.
+// line, the sender, the reader, the mode's number. Hosts in C lend it with any numbers: so the mode is no enum, and its
+// range is asked (question 1) and no fact of the type.
 #[repr(C)]
 #[derive(Clone, Copy)]
 pub struct Core {
@@ -38,16 +39,17 @@ pub struct Stepped {
 }
 
 // The ms of silence after a ms.
+#[tactic(auto, unfolding(crate::specs::Core::silence_after))]
 pub fn silence_after(silent: bool, silence: u16) -> u16
     ensures { result ≡ silence_after silent silence }
 {
     if !silent {
-        return 0;
+        0
+    } else if silence < rules::FREE {
+        silence + 1
+    } else {
+        silence
     }
-    if silence < rules::FREE {
-        return silence + 1;
-    }
-    silence
 }
 
 // One ms of the reader.
@@ -56,13 +58,13 @@ pub fn read(mode: Mode, inhibited: bool, r: Reader, heard: u8) -> Reading
     ensures { result ≡ record { reader = reader_ms mode inhibited r heard; event = event_ms mode inhibited r heard } }
 {
     if inhibited {
-        let reader = reader::inhibited(r);
-        return Reading {
-            reader,
+        Reading {
+            reader: reader::inhibited(r),
             event: Event::Nothing,
-        };
+        }
+    } else {
+        reader::hear(mode, r, heard)
     }
-    reader::hear(mode, r, heard)
 }
 
 // Within each ms, sending is settled first. A burst begins if it is told to and there is none.
@@ -71,10 +73,13 @@ pub fn settle_by(begins: bool, c: Core, front: Char) -> Loaded
     requires front_bound { 1 ≤ c.waiting → front.0 < 128 }
     ensures { result ≡ settled_by begins c front.0 }
 {
-    let before = c.line;
-    let line = burst::begun(begins, before);
-    let s = c.sender;
-    burst::next_code(Mode::of(c.mode), c.waiting, front, line, s)
+    burst::next_code(
+        Mode::of(c.mode),
+        c.waiting,
+        front,
+        burst::begun(begins, c.line),
+        c.sender,
+    )
 }
 
 // The same for a station by itself.
@@ -90,13 +95,11 @@ pub fn settle(c: Core, front: Char) -> Loaded
 pub fn waiting_after(takes: bool, waiting: u16) -> u16
     ensures { result ≡ waiting_after takes waiting }
 {
-    if !takes {
-        return waiting;
+    if takes {
+        waiting.saturating_sub(1)
+    } else {
+        waiting
     }
-    if waiting == 0 {
-        return 0;
-    }
-    waiting - 1
 }
 
 // A core after what a ms starts with; the reader has been asked already.
@@ -105,16 +108,14 @@ fn core_from(ends: bool, c: Core, l: Loaded, heard: u8, reader: Reader) -> Core
     requires reader_value { reader ≡ reader_ms (mode_in c) (is_inhibited (in_burst l.line) c.inhibited) c.reader heard }
     ensures { result ≡ core_from_by ends c l heard }
 {
-    let now = l.line;
-    let burst = now.part != burst::IDLE;
+    let burst = l.line.part != burst::IDLE;
     let deaf = rules::is_inhibited(burst, c.inhibited);
-    let sender = l.sender;
     Core {
         waiting: waiting_after(l.takes, c.waiting),
         silence: silence_after(rules::is_silent(deaf, heard), c.silence),
         inhibited: rules::inhibited_after(burst, c.inhibited),
-        line: burst::line_after(Mode::of(c.mode), ends, now),
-        sender,
+        line: burst::line_after(Mode::of(c.mode), ends, l.line),
+        sender: l.sender,
         reader,
         mode: c.mode,
     }
@@ -126,22 +127,18 @@ pub fn step_by(ends: bool, c: Core, l: Loaded, heard: u8) -> Stepped
     requires line_in { LineIn (mode_in c) l.line }
     ensures { result ≡ stepped_by ends c l heard }
 {
-    let now = l.line;
     let mode = Mode::of(c.mode);
-    let sent = burst::level_on(mode, now);
-    let before = c.reader;
+    let sent = burst::level_on(mode, l.line);
     let q = read(
         mode,
-        rules::is_inhibited(now.part != burst::IDLE, c.inhibited),
-        before,
+        rules::is_inhibited(l.line.part != burst::IDLE, c.inhibited),
+        c.reader,
         heard,
     );
-    let event = q.event;
-    let reader = q.reader;
     Stepped {
-        core: core_from(ends, c, l, heard, reader),
+        core: core_from(ends, c, l, heard, q.reader),
         sent,
-        event,
+        event: q.event,
     }
 }
 
@@ -163,16 +160,7 @@ pub fn step(c: Core, l: Loaded, heard: u8) -> Stepped
 fn timers_in(c: Core) -> bool
     ensures { result ≡ timers_in c }
 {
-    if c.mode < 1 {
-        return false;
-    }
-    if 4 < c.mode {
-        return false;
-    }
-    if rules::FREE < c.silence {
-        return false;
-    }
-    c.inhibited <= rules::INHIBITED
+    1 <= c.mode && c.mode <= 4 && c.silence <= rules::FREE && c.inhibited <= rules::INHIBITED
 }
 
 // Are what is on the line, the sender and the reader in range?
@@ -180,24 +168,15 @@ fn parts_in(c: Core) -> bool
     ensures { result ≡ parts_in c }
 {
     let mode = Mode::of(c.mode);
-    let l = c.line;
-    if !burst::in_range(mode, l) {
-        return false;
-    }
-    let s = c.sender;
-    if !baudot::sending::in_range(s) {
-        return false;
-    }
-    let r = c.reader;
-    reader::in_range(mode, r)
+    burst::in_range(mode, c.line)
+        && baudot::sending::in_range(c.sender)
+        && reader::in_range(mode, c.reader)
 }
 
 // Question 1 of a station beside its queue.
+#[tactic(auto, unfolding(crate::specs::Range::core_in))]
 pub fn in_range(c: Core) -> bool
     ensures { result ≡ core_in c }
 {
-    if !timers_in(c) {
-        return false;
-    }
-    parts_in(c)
+    timers_in(c) && parts_in(c)
 }

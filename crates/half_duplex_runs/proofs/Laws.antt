@@ -1,13 +1,18 @@
 -- What the functions on cores need of the definitions.
-use mathlib.Core.Path.{◌≡◌, ◌∙◌, refl, sym, ap}
+use mathlib.Core.Path.{◌≡◌, ◌∙◌, refl, sym, ap, subst}
 use mathlib.Core.Bool.{Bool, true, false, cond, not, ◌||◌, false≢true}
 use mathlib.Core.List.{List, [], ◌∷◌}
-use Prim.Native.Nat.{ℕ, zero, suc, ◌+◌, ◌-◌, ◌≤◌, ◌<◌}
+use Prim.Native.Nat.{ℕ, zero, suc, ◌+◌, ◌-◌, ◌≤◌, ◌<◌, min}
 use native.Mathlib.Omega.{arith}
 use lib.Dec.{eqb, ltb}
-use lib.ListN.{length, get_or, take}
+use lib.ListN.{length, get_or, take, length-reverse}
+use Rattle.std.proofs.Common.{None, Some, reverse}
+use Rattle.std.specs.List.{position}
+use Rattle.std.proofs.lemmas.List.{length-take, get_or-take, get_or-reverse}
+use Rattle.std.proofs.lemmas.List.Quantifiers.{position-Some}
+use Rattle.std.proofs.lemmas.List.Sums.{fails_before_first}
 use lib.Seq.{take-suc, take_all}
-use borrow.Author.Tests.{eqb-true, ne_eqb, lt-ltb, le-ltb, le-leb, ltb-true, ltb-false}
+use borrow.Author.Tests.{eqb-true, eqb-false, ne_eqb, lt-ltb, le-ltb, le-leb, ltb-true, ltb-false}
 use Rattle.lists.specs.Lists.{all_at_most}
 use Rattle.lists.specs.Steps.{state_after}
 use Rattle.lists.proofs.Lists.{at-most-head, at-most-tail}
@@ -139,6 +144,93 @@ module _ (heard : List ℕ) (silence : ℕ) (h : silence ≤ 300) where
         let e : left ≡ 0 = omega arith in
         sym (ap (λ (m : ℕ). silence_for (silence_over silence (take m heard)) n) e) ∙ t.silent
 
+  -- so many are quiet, from the last one back
+  quiet-tail : (n : ℕ) → n ≤ 300 → n ≤ length heard
+      → ((k : ℕ) → k < n → get_or heard (length heard - 1 - k) 0 ≡ 0) → Tail heard silence (length heard - n) n
+  quiet-tail zero a b q = let z : length heard ≡ length heard - 0 = omega arith in rw z at tail-start
+  quiet-tail (suc n) a b q =
+      let t = quiet-tail n (omega arith) (omega arith) (λ (k : ℕ) (l : k < n). q k (omega arith)) in
+      let z : length heard - 1 - n ≡ length heard - n - 1 = omega arith in
+      let y : length heard - n - 1 ≡ length heard - suc n = omega arith in
+      let x : n + 1 ≡ suc n = omega arith in
+      let u = tail-quiet (length heard - n) n t (omega arith) (λ (e : n ≡ 300). omega arith)
+      (ap (λ (i : ℕ). get_or heard i 0) (sym z) ∙ q n (omega arith)) in
+      subst (λ (l : ℕ). Tail heard silence l (suc n)) y (subst (Tail heard silence (length heard - n - 1)) x u)
+
+quiet-is : (x : ℕ) → not (eqb x 0) ≡ false → x ≡ 0
+quiet-is x = go (eqb x 0) refl
+  where
+    go : (b : Bool) → eqb x 0 ≡ b → not b ≡ false → x ≡ 0
+    go true e f = eqb-true x 0 e
+    go false e f = absurd (false≢true (sym f))
+
+signal-is : (x : ℕ) → not (eqb x 0) ≡ true → x ≡ 0 → ⊥
+signal-is x = go (eqb x 0) refl
+  where
+    go : (b : Bool) → eqb x 0 ≡ b → not b ≡ true → x ≡ 0 → ⊥
+    go true e f = absurd (false≢true f)
+    go false e f = eqb-false x 0 e
+
+none-false : (b : Bool) (n : ℕ) → cond b (Some n) None ≡ None → b ≡ false
+none-false true n e = cc
+none-false false n e = refl
+
+-- the place of the last ms with a signal, from the last one back, among 300
+module _ (heard : List ℕ) (silence : ℕ) (h : silence ≤ 300) where
+  abbrev is_signal : ℕ → Bool
+  is_signal x = not (eqb x 0)
+
+  abbrev backwards : List ℕ
+  backwards = take 300 (reverse heard)
+
+  back-length : length backwards ≡ min 300 (length heard)
+  back-length = length-take 300 (reverse heard) ∙ ap (min 300) (length-reverse heard)
+
+  back-at : (k : ℕ) → k < length backwards → get_or backwards k 0 ≡ get_or heard (length heard - 1 - k) 0
+  back-at k l =
+      let b = back-length in get_or-take 300 (reverse heard) k 0 (omega arith) ∙ get_or-reverse heard k 0 (omega arith)
+
+  pub signal-few : (n : ℕ) → position is_signal backwards ≡ Some n → n < 300
+  signal-few n e = let l = (position-Some is_signal backwards n 0 e).0 in let b = back-length in omega arith
+
+  pub signal-at : (n : ℕ) → position is_signal backwards ≡ Some n → n ≡ silence_over silence heard
+  signal-at n e =
+      let s = position-Some is_signal backwards n 0 e in
+      let l = s.0 in
+      let b = back-length in
+      let t = quiet-tail heard silence h n (omega arith) (omega arith)
+      (λ (k : ℕ) (g : k < n). sym (back-at k (omega arith)) ∙ quiet-is _ (s.2 k g)) in
+      let z : length heard - 1 - n ≡ length heard - n - 1 = omega arith in
+      tail-signal heard silence h (length heard - n) n t (omega arith) (λ (f : n ≡ 300). omega arith)
+      (λ (f : get_or heard (length heard - n - 1) 0 ≡ 0).
+      signal-is _ s.1 (back-at n l ∙ ap (λ (i : ℕ). get_or heard i 0) z ∙ f))
+
+  pub signal-none : position is_signal backwards ≡ None
+      → silence_for silence (length heard) ≡ silence_over silence heard
+  signal-none e =
+      let f = ltb-false _ _ (none-false _ _ e) in
+      let b = back-length in
+      let quiet = λ (k : ℕ) (g : k < length backwards).
+      sym (back-at k g) ∙ quiet-is _ (fails_before_first is_signal backwards k 0 (omega arith)) in
+      go (ltb (length heard) 300) refl quiet
+    where
+      go : (b : Bool) → ltb (length heard) 300 ≡ b
+          → ((k : ℕ) → k < length backwards → get_or heard (length heard - 1 - k) 0 ≡ 0)
+          → silence_for silence (length heard) ≡ silence_over silence heard
+      go true e quiet =
+          let l = ltb-true (length heard) 300 e in
+          let b = back-length in
+          let t = quiet-tail heard silence h (length heard) (omega arith) (omega arith)
+          (λ (k : ℕ) (g : k < length heard). quiet k (omega arith)) in
+          tail-end heard silence h (length heard - length heard) (length heard) t (omega arith)
+      go false e quiet =
+          let l = ltb-false (length heard) 300 e in
+          let b = back-length in
+          let t = quiet-tail heard silence h 300 (omega arith) (omega arith)
+          (λ (k : ℕ) (g : k < 300). quiet k (omega arith)) in
+          silence-full silence (length heard) (omega arith)
+          ∙ tail-free heard silence h (length heard - 300) 300 t refl
+
 -- no burst may begin while characters wait: the line is not free
 pub not_free : (waiting silence : ℕ) → may_begin waiting silence ≡ false → (waiting ≡ 0 → ⊥) → silence < 300
 unfolding may_begin
@@ -164,13 +256,13 @@ sends-not c = go (eqb c.line.part 0) refl
 
 -- ---- readers
 
-pub deaf-some : (r : Reader) (n : ℕ) → 1 ≤ n
+pub deaf_some : (r : Reader) (n : ℕ) → 1 ≤ n
     → reader hunting (needs (r.keys.needed - n)) r.shift r.prefix ≡ deaf_reader r n
 unfolding deaf_reader
-deaf-some r zero h = absurd (omega arith)
-deaf-some r (suc n) h = refl
+deaf_some r zero h = absurd (omega arith)
+deaf_some r (suc n) h = refl
 
-pub burst-some : (i n : ℕ) → 1 ≤ n → 300 ≡ burst_left i n
+pub burst_some : (i n : ℕ) → 1 ≤ n → 300 ≡ burst_left i n
 unfolding burst_left
-burst-some i zero h = absurd (omega arith)
-burst-some i (suc n) h = refl
+burst_some i zero h = absurd (omega arith)
+burst_some i (suc n) h = refl

@@ -1,7 +1,7 @@
 // Cores after some ms that go alike.
 #![tactic(auto)]
 
-ghost use Rattle.std.specs.Prelude.{◌≡◌, true, ◌&&◌, ◌+◌, ◌-◌, ◌≤◌, eqb};
+ghost use Rattle.std.specs.Prelude.{◌≡◌, true, not, ◌&&◌, ◌+◌, ◌-◌, ◌≤◌, eqb, take, reverse, position};
 ghost use Rattle.lists.specs.Lists.{all_at_most};
 ghost use Rattle.alphabet.specs.declared.Mode.TheVariants as mode;
 ghost use Rattle.alphabet.specs.Modes.{longest};
@@ -23,9 +23,21 @@ pub fn silence_for(silence: u16, n: usize) -> u16
     ensures { result ≡ silence_for silence n }
 {
     if rules::FREE as usize - silence as usize <= n {
-        return rules::FREE;
+        rules::FREE
+    } else {
+        silence + n as u16
     }
-    silence + n as u16
+}
+
+// How many quiet ms stand behind the last that isn't, if that is one of the last 300.
+fn quiet_behind(heard: &[u8]) -> Option<usize>
+    ensures { result ≡ position (λ x. not (eqb x 0)) (take free_ms (reverse heard.now)) }
+{
+    heard
+        .iter()
+        .rev()
+        .take(rules::FREE as usize)
+        .position(|x| *x != 0)
 }
 
 // The silence after some ms that the receiver hears: the quiet ms at their end, and the silence before if all are
@@ -38,50 +50,29 @@ pub fn silence_over(silence: u16, heard: &[u8], bound: u8) -> u16
     if bound == 0 {
         return silence_for(silence, heard.len());
     }
-    let mut left = heard.len();
-    let mut n: usize = 0;
-    while 0 < left {
-        if n == rules::FREE as usize {
-            return rules::FREE;
-        }
-        left -= 1;
-        if heard[left] != 0 {
-            return n as u16;
-        }
-        n += 1;
+    match quiet_behind(heard) {
+        Some(n) => n as u16,
+        None => silence_for(silence, heard.len()),
     }
-    silence_for(silence, n)
 }
 
 // Is a reader idle?
+#[tactic(auto, unfolding(crate::specs::code::Cores::is_idle))]
 fn is_idle(r: Reader) -> bool
     ensures { result ≡ is_idle r }
 {
-    let f = r.frame;
-    if f.place != 0 {
-        return false;
-    }
-    if f.digits != 0 {
-        return false;
-    }
-    let k = r.keys;
-    if k.key != 0 {
-        return false;
-    }
-    if k.ms != 0 {
-        return false;
-    }
-    k.needed == 0
+    r.frame.place == 0
+        && r.frame.digits == 0
+        && r.keys.key == 0
+        && r.keys.ms == 0
+        && r.keys.needed == 0
 }
 
 // Does an idle reader hear quiet ms alone, where none is above the bound? Then it stays as it is.
 pub fn stays_idle(r: Reader, bound: u8) -> bool
     ensures { result ≡ (is_idle r && eqb bound 0) }
 {
-    if !is_idle(r) {
-        return false;
-    }
-    bound == 0
+    is_idle(r) && bound == 0
 }
 
 // The quiet ms that a reader of keys still needs, after n quiet ms.
@@ -89,17 +80,18 @@ fn needed_for(needed: u8, n: usize) -> u8
     ensures { result ≡ needed - n }
 {
     if needed as usize <= n {
-        return 0;
+        0
+    } else {
+        needed - n as u8
     }
-    needed - n as u8
 }
 
 // A reader after n inhibited ms.
+#[tactic(auto, using(crate::proofs::Laws::deaf_some))]
 fn deaf_reader(r: Reader, n: usize) -> Reader
     requires { 1 ≤ n }
     ensures { result ≡ deaf_reader r n }
 {
-    let k = r.keys;
     Reader {
         frame: Frame {
             place: 0,
@@ -108,7 +100,7 @@ fn deaf_reader(r: Reader, n: usize) -> Reader
         keys: Keys {
             key: 0,
             ms: 0,
-            needed: needed_for(k.needed, n),
+            needed: needed_for(r.keys.needed, n),
         },
         ..r
     }
@@ -126,15 +118,14 @@ fn further(l: OnLine, n: usize) -> OnLine
 }
 
 // A core in which what a ms starts with is loaded already.
+#[tactic(auto, unfolding(crate::specs::code::Cores::loaded_core))]
 pub fn loaded(c: Core, l: Loaded) -> Core
     ensures { result ≡ loaded_core c l }
 {
-    let line = l.line;
-    let sender = l.sender;
     Core {
         waiting: half_duplex::waiting_after(l.takes, c.waiting),
-        line,
-        sender,
+        line: l.line,
+        sender: l.sender,
         ..c
     }
 }
@@ -147,26 +138,23 @@ pub fn sent_for(c: Core, n: usize, next: bool) -> Core
     requires n_bound { c.line.at + n ≤ longest mode.Dtmf }
     ensures { result ≡ sent_for c n }
 {
-    let before = c.line;
-    let line = further(before, n);
-    let reader = c.reader;
     Core {
         silence: silence_for(c.silence, n),
         inhibited: rules::INHIBITED,
-        line: burst::ended(next, rules::may_end(c.waiting), line),
-        reader: deaf_reader(reader, n),
+        line: burst::ended(next, rules::may_end(c.waiting), further(c.line, n)),
+        reader: deaf_reader(c.reader, n),
         ..c
     }
 }
 
 // A core after n ms of whole codes, which took so many characters.
+#[tactic(auto, using(crate::proofs::Laws::burst_some), unfolding(crate::specs::code::Cores::coded_core))]
 pub fn coded(c: Core, taken: usize, sender: Sender, line: OnLine, n: usize) -> Core
     requires le_n { 1 ≤ n }
     requires taken_le_waiting { taken ≤ c.waiting }
     requires silence_le_free_ms { c.silence ≤ free_ms }
     ensures { result ≡ coded_core c taken sender line n }
 {
-    let reader = c.reader;
     let inhibited = rules::INHIBITED;
     Core {
         waiting: c.waiting - taken as u16,
@@ -174,28 +162,29 @@ pub fn coded(c: Core, taken: usize, sender: Sender, line: OnLine, n: usize) -> C
         inhibited,
         line,
         sender,
-        reader: deaf_reader(reader, n),
+        reader: deaf_reader(c.reader, n),
         ..c
     }
 }
 
 // A core after n inhibited ms in no burst.
+#[tactic(auto, unfolding(crate::specs::code::Cores::deaf_for))]
 pub fn deaf_for(c: Core, n: usize) -> Core
     requires le_n { 1 ≤ n }
     requires n_le_inhibited { n ≤ c.inhibited }
     requires silence_le_free_ms { c.silence ≤ free_ms }
     ensures { result ≡ deaf_for c n }
 {
-    let reader = c.reader;
     Core {
         silence: silence_for(c.silence, n),
         inhibited: c.inhibited - n as u16,
-        reader: deaf_reader(reader, n),
+        reader: deaf_reader(c.reader, n),
         ..c
     }
 }
 
 // A core with another silence and another reader.
+#[tactic(auto, unfolding(crate::specs::code::Cores::listened))]
 pub fn listened(c: Core, silence: u16, reader: Reader) -> Core
     ensures { result ≡ listened c silence reader }
 {

@@ -1,5 +1,5 @@
 -- DTMF: ms of one level.
-use mathlib.Core.Path.{◌≡◌, ◌∙◌, refl, sym, ap, subst}
+use mathlib.Core.Path.{◌≡◌, ◌∙◌, refl, sym, ap, subst, subst₂}
 use mathlib.Core.Bool.{Bool, true, false, cond}
 use mathlib.Core.List.{List}
 use Prim.Native.Nat.{ℕ, zero, suc, ◌+◌, ◌-◌, ◌≤◌, ◌<◌}
@@ -12,9 +12,8 @@ use Rattle.lists.specs.code.Places.{UpTo}
 use Rattle.lists.proofs.Lists.{either}
 use Rattle.keys.specs.declared.Keys.{Keys}
 use Rattle.keys.specs.Keys.{keys_at, needs, counts, key_step}
-use Rattle.keys.specs.code.Bounds.{KeysIn}
-use Rattle.keys_runs.specs.declared.Keyed.{Keyed}
-use Rattle.keys_runs.specs.code.Passing.{keys_of, row_of, KeyPasses, ms_next}
+use Rattle.keys_runs.specs.declared.levels.Keyed.{Keyed}
+use Rattle.keys_runs.specs.code.Passing.{keys_of, row_of, KeysPass, ms_next}
 use Rattle.keys_runs.proofs.Rows.{next-same}
 use Rattle.keys_runs.proofs.Keying.{quiet_step, still-step, next-step, pass-none, keys-pass}
 
@@ -28,8 +27,13 @@ unfolding after
 after-some k g zero h = absurd (omega arith)
 after-some k g (suc n) h = refl
 
-abbrev keyed_at : Keys → ℕ → Keyed
-keyed_at k to = record { key = k.key; ms = k.ms; needed = k.needed; to = to }
+-- from the place of a reader on, keys are then others
+abbrev pub PassesTo : List ℕ → Keyed → Keys → ℕ → Type 0
+PassesTo heard k q to = KeysPass heard (keys_of k) k.to q to
+
+pub passes-as : (heard : List ℕ) (k : Keyed) {q s : Keys} {i to : ℕ} → q ≡ s → i ≡ to → PassesTo heard k s to
+    → PassesTo heard k q i
+passes-as heard k e f p = subst₂ (λ (x : Keys) (n : ℕ). PassesTo heard k x n) (sym e) (sym f) p
 
 -- the quiet that is left to be needed
 pub quiet-left : (needed n to : ℕ) → UpTo 0 needed n to → needed - to ≡ needed - n
@@ -58,16 +62,16 @@ row-39 k x = go (eqb x k.key) refl
     go true e h = (eqb-true x k.key e, h)
     go false e h = absurd (omega arith)
 
-module _ (heard : List ℕ) (levels : all_at_most 16 heard ≡ true) (k : Keyed) (i : KeysIn (keys_of k)) (level to : ℕ)
+module _ (heard : List ℕ) (levels : all_at_most 16 heard ≡ true) (k : Keyed) (level to : ℕ)
     (h : to ≤ length heard)
     (same : (j : ℕ) → k.to ≤ j → j < to → get_or heard j 0 ≡ level) (some : k.to < to) where
   held : (g : ℕ → Keys) → key_step (keys_of k) level ≡ counts (g 1) 0
       → ((n : ℕ) → 1 ≤ n → n < to - k.to → key_step (g n) level ≡ counts (g (suc n)) 0)
-      → KeyPasses heard k (keyed_at (g (to - k.to)) to)
+      → PassesTo heard k (g (to - k.to)) to
   unfolding after
   held g first next =
-      subst (λ (x : Keys). KeyPasses heard k (keyed_at x to)) (after-some (keys_of k) g (to - k.to) (omega arith))
-      (keys-pass heard levels (keys_of k) i k.to (after (keys_of k) g) refl to (omega arith) h step)
+      subst (λ (x : Keys). PassesTo heard k x to) (after-some (keys_of k) g (to - k.to) (omega arith))
+      (keys-pass heard levels (keys_of k) k.ranged k.to (after (keys_of k) g) refl to (omega arith) h step)
     where
       step : (n : ℕ) → n < to - k.to
           → key_step (after (keys_of k) g n) (get_or heard (k.to + n) 0) ≡ counts (after (keys_of k) g (suc n)) 0
@@ -77,7 +81,7 @@ module _ (heard : List ℕ) (levels : all_at_most 16 heard ≡ true) (k : Keyed)
 
   -- quiet
   pub held-quiet : level ≡ 0 → (left : ℕ) → left ≡ k.needed - (to - k.to)
-      → KeyPasses heard k (record { key = 0; ms = 0; needed = left; to = to })
+      → PassesTo heard k (keys_at 0 0 left) to
   held-quiet e left p =
       rw p (held (λ (n : ℕ). needs (k.needed - n)) (quiet_step (keys_of k) level e)
       (λ (n : ℕ) (a : 1 ≤ n) (b : n < to - k.to). let z : k.needed - n - 1 ≡ k.needed - suc n = omega arith in
@@ -85,7 +89,7 @@ module _ (heard : List ℕ) (levels : all_at_most 16 heard ≡ true) (k : Keyed)
 
   -- a key, while quiet is needed
   pub held-still : (level ≡ 0 → ⊥) → (k.needed ≡ 0 → ⊥)
-      → KeyPasses heard k (record { key = 0; ms = 0; needed = 40; to = to })
+      → PassesTo heard k (keys_at 0 0 40) to
   held-still e n =
       held (λ (m : ℕ). needs 40) (still-step (keys_of k) level n e)
       (λ (m : ℕ) (a : 1 ≤ m) (b : m < to - k.to). still-step (needs 40) level (λ z. omega arith) e)
@@ -93,7 +97,7 @@ module _ (heard : List ℕ) (levels : all_at_most 16 heard ≡ true) (k : Keyed)
   -- a key that does not count yet
   pub held-row : (level ≡ 0 → ⊥) → k.needed ≡ 0 → row_of (keys_of k) level + (to - k.to) < 40
       → (ms : ℕ) → ms ≡ row_of (keys_of k) level + (to - k.to)
-      → KeyPasses heard k (record { key = level; ms = ms; needed = 0; to = to })
+      → PassesTo heard k (keys_at level ms 0) to
   held-row e n f ms p = rw p (held (λ (m : ℕ). keys_at level (row + m) 0) first next)
     where
       row : ℕ
@@ -115,23 +119,23 @@ module _ (heard : List ℕ) (levels : all_at_most 16 heard ≡ true) (k : Keyed)
           ∙ ap (λ (i : ℕ). counts (keys_at level i 0) 0) (r ∙ z)
 
 -- up to the ms in which a key counts
-pub held-count : (heard : List ℕ) → all_at_most 16 heard ≡ true → (k : Keyed) → KeysIn (keys_of k) → (level end : ℕ)
+pub held-count : (heard : List ℕ) → all_at_most 16 heard ≡ true → (k : Keyed) → (level end : ℕ)
     → end ≤ length heard
     → ((j : ℕ) → k.to ≤ j → j < end → get_or heard j 0 ≡ level) → (level ≡ 0 → ⊥) → k.needed ≡ 0 → k.ms < 40
     → (to : ℕ) → to ≡ k.to + (39 - row_of (keys_of k) level) → to < end
-    → KeyPasses heard k (record { key = level; ms = 39; needed = 0; to = to })
-held-count heard levels k i level end h same e n f to p l = go (eqb (row_of (keys_of k) level) 39) refl
+    → PassesTo heard k (keys_at level 39 0) to
+held-count heard levels k level end h same e n f to p l = go (eqb (row_of (keys_of k) level) 39) refl
   where
     go : (b : Bool) → eqb (row_of (keys_of k) level) 39 ≡ b
-        → KeyPasses heard k (record { key = level; ms = 39; needed = 0; to = to })
+        → PassesTo heard k (keys_at level 39 0) to
     go true z =
         let r = eqb-true (row_of (keys_of k) level) 39 z in
         let q = row-39 (keys_of k) level r in
         let t : to ≡ k.to = omega arith in
-        rw (q.0, sym q.1, sym n, t) (pass-none heard levels (keys_of k) k.to i (omega arith))
+        rw (q.0, sym q.1, sym n, t) (pass-none heard levels (keys_of k) k.to k.ranged (omega arith))
     go false z =
         let r = eqb-false (row_of (keys_of k) level) 39 z in
         let s = row-few (keys_of k) level f in
-        held-row heard levels k i level to (omega arith)
+        held-row heard levels k level to (omega arith)
         (λ (j : ℕ) (a : k.to ≤ j) (b : j < to). same j a (omega arith)) (omega (arith, r)) e n (omega arith) 39
         (omega arith)

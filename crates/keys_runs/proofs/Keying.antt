@@ -18,8 +18,8 @@ use Rattle.keys.specs.declared.KeyRead.{KeyRead}
 use Rattle.keys.specs.Keys.{keys_at, ready, needs, counts, nth_ms, key_step, key_next, key_counts}
 use Rattle.keys.specs.code.Bounds.{KeysIn, is_key}
 use Rattle.keys.proofs.Range.{key-step-in}
-use Rattle.keys_runs.specs.declared.Keyed.{Keyed}
-use Rattle.keys_runs.specs.code.Passing.{KeysPass, KeyPasses, QuietFrom, ms_next, key_after, ms_after}
+use Rattle.keys_runs.specs.declared.levels.Keyed.{Keyed}
+use Rattle.keys_runs.specs.code.Passing.{keys_of, KeysPass, QuietFrom, ms_next, key_after, ms_after}
 use Rattle.keys_runs.proofs.Rows.{next-40, after-most}
 
 -- a quiet ms, and one of a key while quiet is needed
@@ -154,13 +154,29 @@ module _ (heard : List ℕ) (levels : all_at_most 16 heard ≡ true) where
       unfolding ms_after
       next_last = let z : to + (last - to) ≡ last = omega arith in e ∙ (rw z refl)
 
-      pub counted-row : (n ≡ 40 → ⊥) → Counted heard s i (get_or heard last 0) n (last + 1)
+      counted-row : (n ≡ 40 → ⊥) → Counted heard s i (get_or heard last 0) n (last + 1)
       counted-row g = counted-turn _ _ last before_last l n next_last g
 
-      pub counted-40 : n ≡ 40 → KeysPass heard s i (keys_at (get_or heard last 0) 39 0) last
+      counted-40 : n ≡ 40 → KeysPass heard s i (keys_at (get_or heard last 0) 39 0) last
       counted-40 g =
           let q = next-40 _ _ _ (sym next_last ∙ g) in
           rw (q.0, q.1) at before_last.passes
+
+    -- up to the first ms in which a key can count
+    module _ (key ms to last : ℕ) (c : Counted heard s i key ms to) (l : to < length heard)
+        (u : UpTo to (39 - ms) (length heard - 1) last) (n : ℕ)
+        (e : n ≡ ms_after heard to key ms (suc (last - to))) where
+      inside : last < length heard
+      inside = let high = u.high in omega arith
+
+      soon : ms + (last - to) < 40
+      soon = let few = c.few in let near = u.few in omega arith
+
+      pub turn-row : (n ≡ 40 → ⊥) → Counted heard s i (get_or heard last 0) n (last + 1)
+      turn-row g = counted-row key ms to last c u.low inside soon n e g
+
+      pub turn-40 : n ≡ 40 → KeysPass heard s i (keys_at (get_or heard last 0) 39 0) last
+      turn-40 g = counted-40 key ms to last c u.low inside soon n e g
 
   pub counted_start : (key ms i : ℕ) → key ≤ 16 → ms < 40 → i ≤ length heard
       → Counted heard (keys_at key ms 0) i key ms i
@@ -178,7 +194,6 @@ module _ (heard : List ℕ) (levels : all_at_most 16 heard ≡ true) where
       pass-chain s s _ i from to (still-passes s h i a b from f) (needed-passes s h from a b end to u t)
 
 -- keys that need no quiet
-pub needs-none : (heard : List ℕ) (k q : Keyed) → k.needed ≡ 0
-    → KeyPasses heard (record { key = k.key; ms = k.ms; needed = 0; to = k.to }) q → KeyPasses heard k q
-needs-none heard k q n p =
-    subst (λ (m : ℕ). KeyPasses heard (record { key = k.key; ms = k.ms; needed = m; to = k.to }) q) (sym n) p
+pub needs-none : (heard : List ℕ) (k : Keyed) (s : Keys) (to : ℕ) → k.needed ≡ 0
+    → KeysPass heard (keys_at k.key k.ms 0) k.to s to → KeysPass heard (keys_of k) k.to s to
+needs-none heard k s to n p = subst (λ (m : ℕ). KeysPass heard (keys_at k.key k.ms m) k.to s to) (sym n) p

@@ -1,12 +1,13 @@
 // Keys over many ms: those in which none counts are passed over.
 #![tactic(auto)]
 
-ghost use Rattle.std.specs.Prelude.{◌≡◌, true, suc, ◌+◌, ◌-◌, ◌≤◌, ◌<◌, length};
-ghost use Rattle.lists.specs.Lists.{all_at_most};
-ghost use Rattle.lists.specs.code.Places.{Alike};
-ghost use Rattle.keys.specs.Keys.{key_ms};
-ghost use Rattle.keys.specs.code.Bounds.{KeysIn};
+ghost use Rattle.std.specs.Prelude.{◌≡◌, suc, ◌+◌, ◌-◌, ◌≤◌, ◌<◌, length};
+ghost use Rattle.keys.specs.Keys.{key_ms, quiet_ms, needs};
 ghost use Rattle.keys_runs.specs.code.Passing.{keys_of, row_of, ms_after, KeyPasses, HeldPasses, QuietFrom};
+
+pub mod levels;
+
+use levels::{Keyed, Levels};
 
 // A key counts at this ms in a row, and with so many not yet; then so many quiet ms are needed.
 const KEY_MS: usize = keys::KEY_MS as usize;
@@ -14,15 +15,6 @@ const KEY_MS: usize = keys::KEY_MS as usize;
 const NOT_YET: usize = KEY_MS - 1;
 
 const QUIET_MS: usize = keys::QUIET_MS as usize;
-
-// A reader of keys before the ms at a place: a key, its ms in a row, the quiet ms needed; the place.
-#[derive(Clone, Copy)]
-pub struct Keyed {
-    pub key: u8,
-    pub ms: usize,
-    pub needed: usize,
-    pub to: usize,
-}
 
 // The ms in a row of what is heard on the last ms, if no key counts before it: 0 for quiet.
 fn ms_after(heard: &[u8], to: usize, key: u8, ms: usize, last: usize) -> usize
@@ -37,28 +29,23 @@ fn ms_after(heard: &[u8], to: usize, key: u8, ms: usize, last: usize) -> usize
     }
     let from = lists::places::back(heard, to, last, x);
     let n = last + 1 - from;
-    if to < from {
-        return n;
-    }
-    if x != key {
-        return n;
-    }
-    ms + n
+    if from <= to && x == key { ms + n } else { n }
 }
 
-// DTMF, while no quiet is needed: up to the ms in which a key counts. Each turn goes to the first ms in which one can.
-fn pass_count(heard: &[u8], k: Keyed) -> Keyed
-    requires keys_in { KeysIn (keys_of k) }
-    requires heard_value { all_at_most 16 heard.now ≡ true }
-    requires to_in_bounds { k.to ≤ length heard.now }
-    ensures { KeyPasses heard.now k result }
+// While no quiet is needed: up to the ms in which a key counts. The loop has three numbers, since it sees no field by
+// its name of a `Keyed` that it changes.
+fn pass_count(levels: Levels, k: Keyed) -> Keyed
+    requires { k.to ≤ length levels.heard.now }
+    ensures { KeyPasses levels.entry.heard.now k result }
 {
     if k.needed != 0 {
         return k;
     }
+    let heard = levels.heard;
     let mut key = k.key;
     let mut ms = k.ms;
     let mut to = k.to;
+    // Each turn goes on behind the first ms in which a key can count.
     while to < heard.len() {
         let last = lists::places::up_to(to, NOT_YET - ms, heard.len() - 1);
         let n = ms_after(heard, to, key, ms, last);
@@ -88,27 +75,21 @@ fn quiet_from(heard: &[u8], needed: usize, i: usize) -> usize
     ensures { QuietFrom heard.now needed i result }
 {
     if needed != QUIET_MS {
-        return i;
+        i
+    } else {
+        lists::places::until(heard, i, heard.len(), 0)
     }
-    lists::places::until(heard, i, heard.len(), 0)
 }
 
-// DTMF, while quiet is needed: up to where quiet begins, and the quiet ms.
-fn pass_quiet(heard: &[u8], k: Keyed) -> Keyed
-    requires keys_in { KeysIn (keys_of k) }
-    requires heard_value { all_at_most 16 heard.now ≡ true }
-    requires to_in_bounds { k.to ≤ length heard.now }
-    ensures { KeyPasses heard.now k result }
+// While quiet is needed: up to where quiet begins, and the quiet ms.
+fn pass_quiet(levels: Levels, k: Keyed) -> Keyed
+    requires { k.to ≤ length levels.heard.now }
+    ensures { KeyPasses levels.entry.heard.now k result }
 {
-    if k.needed == 0 {
+    if k.needed == 0 || k.key != 0 || k.ms != 0 {
         return k;
     }
-    if k.key != 0 {
-        return k;
-    }
-    if k.ms != 0 {
-        return k;
-    }
+    let heard = levels.heard;
     let from = quiet_from(heard, k.needed, k.to);
     let end = lists::places::up_to(from, k.needed, heard.len());
     let to = lists::places::through(heard, from, end, 0);
@@ -124,15 +105,14 @@ fn pass_quiet(heard: &[u8], k: Keyed) -> Keyed
 fn row(k: Keyed, level: u8) -> usize
     ensures { result ≡ row_of (keys_of k) level }
 {
-    if level == k.key {
-        return k.ms;
-    }
-    0
+    if level == k.key { k.ms } else { 0 }
 }
 
 // A reader that needs quiet, before the ms at a place.
 fn needing(needed: usize, to: usize) -> Keyed
-    ensures { result ≡ record { key = 0; ms = 0; needed = needed; to = to } }
+    requires { needed ≤ quiet_ms }
+    ensures keys { keys_of result ≡ needs needed }
+    ensures place { result.to ≡ to }
 {
     Keyed {
         key: 0,
@@ -142,9 +122,9 @@ fn needing(needed: usize, to: usize) -> Keyed
     }
 }
 
-// DTMF, where one level stands up to the end: to the end, or up to the ms in which the key counts.
+// Where one level stands up to the end: to the end, or up to the ms in which the key counts.
 fn pass_held(k: Keyed, level: u8, end: usize) -> Keyed
-    requires keys_in { KeysIn (keys_of k) }
+    requires level_bound { level ≤ 16 }
     requires to_lt_end { k.to < end }
     ensures { HeldPasses k level end result }
 {
@@ -172,20 +152,17 @@ fn pass_held(k: Keyed, level: u8, end: usize) -> Keyed
     }
 }
 
-// DTMF: the quiet that is needed, then up to the ms in which a key counts. Ms that are all alike are passed at once.
-pub fn pass_keys(heard: &[u8], alike: bool, k: Keyed) -> Keyed
-    requires alike { alike ≡ true → Alike heard.now }
-    requires keys_in { KeysIn (keys_of k) }
-    requires heard_value { all_at_most 16 heard.now ≡ true }
-    requires to_in_bounds { k.to ≤ length heard.now }
-    ensures { KeyPasses heard.now k result }
+// The quiet that is needed, then up to the ms in which a key counts. Ms that are all alike are passed at once.
+pub fn pass_keys(levels: Levels, k: Keyed) -> Keyed
+    requires { k.to ≤ length levels.heard.now }
+    ensures { KeyPasses levels.entry.heard.now k result }
 {
-    if !alike {
-        return pass_count(heard, pass_quiet(heard, k));
+    if !levels.alike {
+        return pass_count(levels, pass_quiet(levels, k));
     }
-    let at = k.to;
-    if at == heard.len() {
+    let heard = levels.heard;
+    if k.to == heard.len() {
         return k;
     }
-    pass_held(k, heard[at], heard.len())
+    pass_held(k, heard[k.to], heard.len())
 }

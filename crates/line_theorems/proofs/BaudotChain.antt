@@ -1,4 +1,6 @@
 -- The whole chain in Baudot and EDT.
+use Rattle.std.specs.Prelude.{Option, Some, None}
+use Rattle.alphabet.specs.declared.CharCode.{CharCode}
 use mathlib.Core.Path.{◌≡◌, ◌∙◌, refl}
 use mathlib.Core.Bool.{true}
 use mathlib.Core.List.{List, [], ◌∷◌}
@@ -11,8 +13,6 @@ use Rattle.lists.proofs.Lists.{either, at-most-head, at-most-tail, at-most-appen
 use Rattle.alphabet.specs.declared.Alphabet.TheVariants.{Baudot}
 use Rattle.alphabet.specs.declared.Mode.{Mode}
 use Rattle.alphabet.specs.declared.Mode.TheVariants.{Baudot45, Baudot50, Edt}
-use Rattle.alphabet.specs.declared.Sends.{Sends}
-use Rattle.alphabet.specs.declared.Sends.TheVariants.{Nothing, Code}
 use Rattle.alphabet.specs.declared.Reads.{Reads}
 use Rattle.alphabet.specs.declared.Reads.TheVariants.{Shift}
 use Rattle.alphabet.specs.Baudot.{read_baudot}
@@ -45,16 +45,17 @@ shift-codes w =
     either (λ (l : List ℕ). all_at_most 31 l ≡ true) (eqb w 0) [] (shift_code w ∷ []) refl
     (either (λ (n : ℕ). all_at_most 31 (n ∷ []) ≡ true) (eqb w 2) 0b11011 0b11111 refl refl)
 
-codes-for : (s : Sender) (c : ℕ) → c < 128 → (x : Sends) → sends Baudot c ≡ x → all_at_most 31 (codes_for s x) ≡ true
+codes-for : (s : Sender) (c : ℕ) → c < 128 → (x : Option CharCode) → sends Baudot c ≡ x
+    → all_at_most 31 (codes_for s x) ≡ true
 unfolding codes_for all_at_most
-codes-for s c h Nothing e = refl
-codes-for s c h (Code own k) e =
-    let b = (rule-of Baudot c h own k e).code-in in
-    at-most-append 31 (codes_ahead s own) (k.0 ∷ [])
-    (at-most-append 31 (shift_codes (wanted s own)) (shift_codes (wanted (opened s own) own))
-    (shift-codes (wanted s own))
-    (shift-codes (wanted (opened s own) own)))
-    (rw (le-leb k.0 31 (omega arith)) refl)
+codes-for s c h None e = refl
+codes-for s c h (Some o) e =
+    let b = (rule-of Baudot c h o.shift o.code e).code-in in
+    at-most-append 31 (codes_ahead s o.shift) (o.code.0 ∷ [])
+    (at-most-append 31 (shift_codes (wanted s o.shift)) (shift_codes (wanted (opened s o.shift) o.shift))
+    (shift-codes (wanted s o.shift))
+    (shift-codes (wanted (opened s o.shift) o.shift)))
+    (rw (le-leb o.code.0 31 (omega arith)) refl)
 
 pub five-bits : (s : Sender) (cs : List ℕ) → all_chars cs ≡ true → all_at_most 31 (codes_of s cs) ≡ true
 unfolding codes_of all_at_most

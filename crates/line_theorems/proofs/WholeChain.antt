@@ -1,5 +1,7 @@
 -- The whole chain: preamble and codes of a text, heard by a reader that is between codes and in the sender's shift,
 -- give the words of the text's normal form, in order.
+use Rattle.std.specs.Prelude.{Option, Some, None}
+use Rattle.alphabet.specs.declared.CharCode.{CharCode}
 use mathlib.Core.Path.{◌≡◌, ◌∙◌, refl, sym, ap}
 use mathlib.Core.Bool.{true}
 use mathlib.Core.Logic.{◌⊎◌, inl, inr}
@@ -11,8 +13,6 @@ use Rattle.alphabet.specs.declared.Alphabet.{Alphabet}
 use Rattle.alphabet.specs.declared.Alphabet.TheVariants.{Baudot, Dtmf as dtmf, Edt as edt}
 use Rattle.alphabet.specs.declared.Mode.{Mode}
 use Rattle.alphabet.specs.declared.Mode.TheVariants.{Baudot45, Baudot50, Dtmf, Edt}
-use Rattle.alphabet.specs.declared.Sends.{Sends}
-use Rattle.alphabet.specs.declared.Sends.TheVariants.{Nothing, Code}
 use Rattle.alphabet.specs.Modes.{alphabet_of}
 use Rattle.alphabet.specs.Normal.{sends, own_code, own_codes, reads, chars_of, read_back, normal_form, all_chars}
 use Rattle.alphabet.specs.declared.LineCode.{LineCode}
@@ -54,11 +54,12 @@ signals-append mode (k ∷ ks) js =
 module _ (mode : Mode) (a : Alphabet) (r : Reader)
     (law : (w : ℕ) (k : LineCode) → ReadBack a w k
     → Gives mode r (signal mode k.0) (chars_of (reads a w k.0)) r) where
-  own_code-is : (c : ℕ) → c < 128 → (x : Sends) → sends a c ≡ x
+  own_code-is : (c : ℕ) → c < 128 → (x : Option CharCode) → sends a c ≡ x
       → Gives mode r (signals mode (own_code x)) (chars_of (read_back a x)) r
   unfolding signals
-  own_code-is c h Nothing e = none mode r
-  own_code-is c h (Code w k) e = rw (append-nil (signal mode k.0)) (law w k (rule-of a c h w k e))
+  own_code-is c h None e = none mode r
+  own_code-is c h (Some o) e =
+      rw (append-nil (signal mode o.code.0)) (law o.shift o.code (rule-of a c h o.shift o.code e))
 
   own-codes : (cs : List ℕ) → all_chars cs ≡ true → Gives mode r (signals mode (own_codes a cs)) (normal_form a cs) r
   unfolding own_codes normal_form signals

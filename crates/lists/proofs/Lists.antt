@@ -1,10 +1,11 @@
 -- Laws on tests, and on lists that are written and read from the front.
 use mathlib.Core.Path.{◌≡◌, ◌∙◌, refl, sym, ap}
-use mathlib.Core.Bool.{Bool, true, false, cond, ◌&&◌, and-true, and-false, and_assoc, and_comm}
+use mathlib.Core.Bool.{Bool, true, false, cond, ◌&&◌, and-true, and-false, and_assoc}
 use mathlib.Core.List.{List, [], ◌∷◌, ◌++◌}
-use Prim.Native.Nat.{ℕ, zero, suc, ◌+◌, ◌-◌, ◌≤◌, ◌<◌}
+use Prim.Native.Nat.{ℕ, zero, suc, ◌+◌, ◌-◌, ◌≤◌, ◌<◌, max, min}
 use native.Mathlib.Nat.{add-zero, zero-add, add-suc, suc-add, le_of_suc-le-suc, not-suc-le-zero}
 use native.Mathlib.Numerals.{add-one}
+use Rattle.std.proofs.Math.Nat.{le-max_left, le-max_right, max-le, min-le_left, min-le_right, le-min}
 use native.Mathlib.Omega.{arith}
 use lib.Dec.{leb}
 use lib.ListN.{length, get_or, set, take, drop, drop_of_length-le, take-append-drop}
@@ -53,17 +54,32 @@ both e f = rw (e, f) refl
 pub last-decides : {a b : Bool} → a ≡ true → b ≡ (a && b)
 last-decides e = rw e refl
 
--- what follows from a test does not change it
-pub and-weaker : (a b : Bool) → (a ≡ true → b ≡ true) → a ≡ (b && a)
-and-weaker true b h = rw (h refl) refl
-and-weaker false b h = sym (and-false b)
-
-pub and-implied : (a b : Bool) → (a ≡ true → b ≡ true) → a ≡ (a && b)
-and-implied a b h = and-weaker a b h ∙ and_comm b a
-
 -- two tests that follow from each other
 each_way : (a b : Bool) → (a ≡ true → b ≡ true) → (b ≡ true → a ≡ true) → a ≡ b
-each_way a b f g = and-weaker a b f ∙ sym (and-implied b a g)
+each_way true b f g = sym (f refl)
+each_way false true f g = g refl
+each_way false false f g = refl
+
+-- the larger of two is at most m if both are; the smaller one is at least m if both are
+pub larger-at-most : (a b m : ℕ) → leb (max a b) m ≡ (leb a m && leb b m)
+larger-at-most a b m =
+    let l = le-max_left a b in
+    let r = le-max_right a b in
+    each_way (leb (max a b) m) (leb a m && leb b m)
+    (λ e. let h = leb-true (max a b) m e in both (le-leb a m (omega arith)) (le-leb b m (omega arith)))
+    (λ e.
+    le-leb (max a b) m
+    (max-le (leb-true a m (and_left (leb a m) (leb b m) e)) (leb-true b m (and_right (leb a m) (leb b m) e))))
+
+pub smaller-at-least : (a b m : ℕ) → leb m (min a b) ≡ (leb m a && leb m b)
+smaller-at-least a b m =
+    let l = min-le_left a b in
+    let r = min-le_right a b in
+    each_way (leb m (min a b)) (leb m a && leb m b)
+    (λ e. let h = leb-true m (min a b) e in both (le-leb m a (omega arith)) (le-leb m b (omega arith)))
+    (λ e.
+    le-leb m (min a b)
+    (le-min (leb-true m a (and_left (leb m a) (leb m b) e)) (leb-true m b (and_right (leb m a) (leb m b) e))))
 
 -- two pairs of tests, one of each first
 pub and-across : (a b c d : Bool) → (a && b && (c && d)) ≡ (a && c && (b && d))
@@ -91,7 +107,7 @@ module _ {test : ℕ → Bool} {all : List ℕ → Bool} (every : Every test all
   every-end : (xs : List ℕ) (i : ℕ) → length xs ≤ i → all (drop i xs) ≡ true
   every-end xs i h = rw (drop_of_length-le xs h) every.none
 
-  -- a loop that looks at every number and keeps one of those passed, by whose test it answers: ..
+  -- a loop that looks at every number and answers by what it keeps of those passed: one more, ..
   module _ (xs : List ℕ) (i : ℕ) (kept : Bool) where
     abbrev now : Bool
     now = test (get_or xs i 0)
@@ -105,15 +121,7 @@ module _ {test : ℕ → Bool} {all : List ℕ → Bool} (every : Every test all
     every-kept : i < length xs → (kept && now && rest) ≡ (kept && all (drop i xs))
     every-kept h = and_assoc kept now rest ∙ ap (λ (b : Bool). kept && b) (sym (every-left h))
 
-    -- .. the number at the place is kept, ..
-    every-stricter : i < length xs → (now ≡ true → kept ≡ true) → (now && rest) ≡ (kept && all (drop i xs))
-    every-stricter h f = ap (λ (b : Bool). b && rest) (and-weaker now kept f) ∙ every-kept h
-
-    -- .. or passed, ..
-    every-looser : i < length xs → (kept ≡ true → now ≡ true) → (kept && rest) ≡ (kept && all (drop i xs))
-    every-looser h f = ap (λ (b : Bool). b && rest) (and-implied kept now f) ∙ every-kept h
-
-    -- .. and there is none left
+    -- .. until there is none left
     every-all : length xs ≤ i → (kept && all (drop i xs)) ≡ all xs → kept ≡ all xs
     every-all h e = sym (and-true kept) ∙ ap (λ (b : Bool). kept && b) (sym (every-end xs i h)) ∙ e
 
@@ -183,21 +191,12 @@ module _ (m : ℕ) (xs : List ℕ) (i j : ℕ) where
       (λ e. both (at-most-front m (take i xs) (drop i xs) (rw take-append-drop e)) (at-most-drop m xs j e))
 
 -- a loop that looks at every number: the largest of those passed
-module _ (m : ℕ) (xs : List ℕ) (i largest : ℕ) (h : i < length xs) where
-  abbrev x : ℕ
-  x = get_or xs i 0
-
-  pub at-most-larger : largest < x
-      → (leb x m && all_at_most m (drop (i + 1) xs)) ≡ (leb largest m && all_at_most m (drop i xs))
-  at-most-larger g =
-      every-stricter (every-most m) xs i (leb largest m) h
-      (λ e. let l = leb-true x m e in le-leb largest m (omega arith))
-
-  pub at-most-others : x ≤ largest
-      → (leb largest m && all_at_most m (drop (i + 1) xs)) ≡ (leb largest m && all_at_most m (drop i xs))
-  at-most-others g =
-      every-looser (every-most m) xs i (leb largest m) h
-      (λ e. let l = leb-true largest m e in le-leb x m (omega arith))
+pub at-most-larger : (m : ℕ) (xs : List ℕ) (i largest : ℕ) → i < length xs
+    → (leb (max largest (get_or xs i 0)) m && all_at_most m (drop (i + 1) xs))
+    ≡ (leb largest m && all_at_most m (drop i xs))
+at-most-larger m xs i largest h =
+    ap (λ (b : Bool). b && all_at_most m (drop (i + 1) xs)) (larger-at-most largest (get_or xs i 0) m)
+    ∙ every-kept (every-most m) xs i (leb largest m) h
 
 pub at-most-all : (m : ℕ) (xs : List ℕ) (i : ℕ) (ok : Bool) → length xs ≤ i
     → (ok && all_at_most m (drop i xs)) ≡ all_at_most m xs → ok ≡ all_at_most m xs
@@ -223,21 +222,12 @@ pub at-least-end : (m : ℕ) (xs : List ℕ) (i : ℕ) → length xs ≤ i → a
 at-least-end m = every-end (every-least m)
 
 -- a loop that looks at every number: the smallest of those passed
-module _ (m : ℕ) (xs : List ℕ) (i smallest : ℕ) (h : i < length xs) where
-  abbrev y : ℕ
-  y = get_or xs i 0
-
-  pub at-least-smaller : y < smallest
-      → (leb m y && all_at_least m (drop (i + 1) xs)) ≡ (leb m smallest && all_at_least m (drop i xs))
-  at-least-smaller g =
-      every-stricter (every-least m) xs i (leb m smallest) h
-      (λ e. let l = leb-true m y e in le-leb m smallest (omega arith))
-
-  pub at-least-others : smallest ≤ y
-      → (leb m smallest && all_at_least m (drop (i + 1) xs)) ≡ (leb m smallest && all_at_least m (drop i xs))
-  at-least-others g =
-      every-looser (every-least m) xs i (leb m smallest) h
-      (λ e. let l = leb-true m smallest e in le-leb m y (omega arith))
+pub at-least-smaller : (m : ℕ) (xs : List ℕ) (i smallest : ℕ) → i < length xs
+    → (leb m (min smallest (get_or xs i 0)) && all_at_least m (drop (i + 1) xs))
+    ≡ (leb m smallest && all_at_least m (drop i xs))
+at-least-smaller m xs i smallest h =
+    ap (λ (b : Bool). b && all_at_least m (drop (i + 1) xs)) (smaller-at-least smallest (get_or xs i 0) m)
+    ∙ every-kept (every-least m) xs i (leb m smallest) h
 
 pub at-least-all : (m : ℕ) (xs : List ℕ) (i : ℕ) (ok : Bool) → length xs ≤ i
     → (ok && all_at_least m (drop i xs)) ≡ all_at_least m xs → ok ≡ all_at_least m xs

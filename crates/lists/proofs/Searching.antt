@@ -1,13 +1,12 @@
 -- A search, place by place.
-use mathlib.Core.Path.{◌≡◌, ◌∙◌, refl, sym}
-use mathlib.Core.Bool.{Bool, true, false}
+use mathlib.Core.Path.{◌≡◌, ◌∙◌, sym}
 use mathlib.Core.List.{List}
-use Prim.Native.Nat.{ℕ, ◌+◌, ◌-◌, ◌≤◌, ◌<◌}
+use Prim.Native.Nat.{ℕ, ◌+◌, ◌≤◌, ◌<◌}
 use native.Mathlib.Omega.{arith}
-use lib.Dec.{eqb, ltb}
+use lib.Dec.{ltb}
 use lib.ListN.{get_or}
-use borrow.Author.Tests.{eqb-true, eqb-false, ltb-true, ltb-false}
-use Rattle.lists.specs.code.Places.{Until, Through, Back}
+use borrow.Author.Tests.{ltb-true, ltb-false}
+use Rattle.lists.specs.code.Places.{Until, Through}
 use Rattle.lists.proofs.Lists.{by-test}
 
 -- what holds at each place before mid, and at each from there on, holds at each
@@ -61,36 +60,3 @@ until-through xs from mid end x y to n u t = record {
   others = two-parts (λ (k : ℕ). get_or xs k 0 ≡ x → ⊥) from mid to u.others
       (λ (k : ℕ) (l : mid ≤ k) (m : k < to) (p : get_or xs k 0 ≡ x). n (sym (t.same k l m) ∙ p));
 }
-
--- a search back
-module _ (xs : List ℕ) (from end x i : ℕ) (t : Through xs i end x end) (l : from ≤ i) where
-  pub back-turn : 1 ≤ i → get_or xs (i - 1) 0 ≡ x → Through xs (i - 1) end x end
-  back-turn h p =
-      let low = t.low in
-      record {
-        low = omega arith;
-        high = t.high;
-        same = λ (k : ℕ) (a : i - 1 ≤ k) (b : k < end). go k a b (eqb (i - 1) k) refl;
-      }
-    where
-      go : (k : ℕ) → i - 1 ≤ k → k < end → (b : Bool) → eqb (i - 1) k ≡ b → get_or xs k 0 ≡ x
-      go k a b true e = let q = eqb-true (i - 1) k e in rw q at p
-      go k a b false e = let q = eqb-false (i - 1) k e in t.same k (omega arith) b
-
-  pub back-stop : (get_or xs (i - 1) 0 ≡ x → ⊥) → Back xs from end x i
-  back-stop n = record {
-    low = l;
-    high = t.low;
-    same = t.same;
-    other =
-        λ (k : ℕ) (a : from ≤ k) (e : k + 1 ≡ i) (p : get_or xs k 0 ≡ x).
-        (let z : k ≡ i - 1 = omega arith in n (rw z at p));
-  }
-
-  pub back_end : i ≤ from → Back xs from end x i
-  back_end h = record {
-    low = l;
-    high = t.low;
-    same = t.same;
-    other = λ (k : ℕ) (a : from ≤ k) (e : k + 1 ≡ i) (p : get_or xs k 0 ≡ x). omega arith;
-  }

@@ -7,16 +7,6 @@ ghost use Rattle.lists.specs.code.Checks.{LargestOfFronts};
 // The most ms of one call: question 5, for a station and for a calling set.
 pub const MOST_MS: usize = 4_096;
 
-// The larger of two bytes.
-fn larger(a: u8, b: u8) -> u8
-    ensures { (m : ℕ) → leb result m ≡ (leb a m && leb b m) }
-{
-    if a < b {
-        return b;
-    }
-    a
-}
-
 // The largest of the first 16 bytes of two slices: the compiler makes two vector loads of them.
 fn largest_of_fronts(xs: &[u8], ys: &[u8]) -> u8
     requires in_bounds { 16 ≤ length xs.now }
@@ -24,10 +14,8 @@ fn largest_of_fronts(xs: &[u8], ys: &[u8]) -> u8
     ensures { LargestOfFronts 16 xs.now ys.now result }
 {
     let mut largest: u8 = 0;
-    let mut i: usize = 0;
-    while i < 16 {
-        largest = larger(largest, larger(xs[i], ys[i]));
-        i += 1;
+    for i in 0..16 {
+        largest = largest.max(xs[i].max(ys[i]));
     }
     largest
 }
@@ -37,13 +25,8 @@ fn largest_of_all(xs: &[u8]) -> u8
     ensures { (m : ℕ) → leb result m ≡ all_at_most m xs.now }
 {
     let mut largest: u8 = 0;
-    let mut i: usize = 0;
-    while i < xs.len() {
-        let x = xs[i];
-        if largest < x {
-            largest = x;
-        }
-        i += 1;
+    for x in xs {
+        largest = largest.max(*x);
     }
     largest
 }
@@ -54,8 +37,7 @@ pub fn largest(xs: &[u8]) -> u8
 {
     let n = xs.len();
     if (16 <= n) & (n <= 32) {
-        let j = n - 16;
-        return largest_of_fronts(xs, &xs[j..n]);
+        return largest_of_fronts(xs, &xs[n - 16..]);
     }
     largest_of_all(xs)
 }
@@ -72,13 +54,8 @@ fn smallest(xs: &[u8]) -> u8
     ensures { (m : ℕ) → m ≤ 255 → leb m result ≡ all_at_least m xs.now }
 {
     let mut smallest: u8 = 255;
-    let mut i: usize = 0;
-    while i < xs.len() {
-        let x = xs[i];
-        if x < smallest {
-            smallest = x;
-        }
-        i += 1;
+    for x in xs {
+        smallest = smallest.min(*x);
     }
     smallest
 }
@@ -87,12 +64,8 @@ fn smallest(xs: &[u8]) -> u8
 pub fn all_at_least(xs: &[u8], m: u8) -> bool
     ensures { result ≡ all_at_least m xs.now }
 {
-    let n = xs.len();
-    if n == 0 {
-        return true;
+    match xs {
+        [.., last] if *last < m => false,
+        _ => m <= smallest(xs),
     }
-    if xs[n - 1] < m {
-        return false;
-    }
-    m <= smallest(xs)
 }

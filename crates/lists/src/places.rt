@@ -1,7 +1,7 @@
 // Places of a list.
 ghost use Rattle.std.specs.Prelude.{◌≡◌, ◌+◌, ◌/◌, ◌≤◌, ◌<◌, length};
 ghost use Rattle.std.specs.Int.Count.{count_trailing_zeros};
-ghost use Rattle.lists.specs.code.Places.{UpTo, Until, Through, Back, two_at, four_at, eight_at};
+ghost use Rattle.lists.specs.code.Places.{UpTo, Until, Through, Back, eight_at};
 
 // Eight bytes of 1, as one number.
 const EIGHT_ONES: u64 = 72_340_172_838_076_673;
@@ -11,73 +11,54 @@ pub fn up_to(i: usize, most: usize, len: usize) -> usize
     requires { i ≤ len }
     ensures { UpTo i most len result }
 {
-    if len - i < most {
-        return len;
-    }
-    i + most
+    i + most.min(len - i)
 }
 
-// The first place of a byte, from a place to another; the end if it has none.
+// The first place of a byte, from a place to another; the end if it has none. Here and below the whole list is lent and
+// not a part of it, since callers go on in the whole list at the place that they get.
 pub fn until(xs: &[u8], from: usize, end: usize, x: u8) -> usize
     requires from_le_end { from ≤ end }
     requires end_in_bounds { end ≤ length xs.now }
     ensures { Until xs.now from end x result }
 {
-    let mut i = from;
-    while i < end {
+    for i in from..end {
         if xs[i] == x {
             return i;
         }
-        i += 1;
     }
-    i
+    end
 }
 
-// The first place of another byte.
+// The first place of another byte. A loop of its own, four lines as those of `until`: one function for both would take
+// the test, and its contract would say of a closure what these say of a byte.
 pub fn through(xs: &[u8], from: usize, end: usize, x: u8) -> usize
     requires from_le_end { from ≤ end }
     requires end_in_bounds { end ≤ length xs.now }
     ensures { Through xs.now from end x result }
 {
-    let mut i = from;
-    while i < end {
+    for i in from..end {
         if xs[i] != x {
             return i;
         }
-        i += 1;
     }
-    i
+    end
 }
 
-// A byte as a wide number; two, four and eight bytes as one number: the compiler makes one load of them.
-fn wide(x: u8) -> u64
-    ensures value { result ≡ x }
-    ensures upper_bound { result < 256 }
-{
-    x as u64
-}
-
-fn two(xs: &[u8], i: usize) -> u64
-    requires { i + 2 ≤ length xs.now }
-    ensures value { result ≡ two_at xs.now i }
-    ensures upper_bound { result < 65_536 }
-{
-    wide(xs[i]) + wide(xs[i + 1]) * 256
-}
-
-fn four(xs: &[u8], i: usize) -> u64
-    requires { i + 4 ≤ length xs.now }
-    ensures value { result ≡ four_at xs.now i }
-    ensures upper_bound { result < 4_294_967_296 }
-{
-    two(xs, i) + two(xs, i + 2) * 65_536
-}
-
+// Eight bytes as one number, the first lowest: the compiler makes one load of them.
 fn eight(xs: &[u8], i: usize) -> u64
     requires { i + 8 ≤ length xs.now }
     ensures { result ≡ eight_at xs.now i }
 {
-    four(xs, i) + four(xs, i + 4) * 4_294_967_296
+    u64::from_le_bytes([
+        xs[i],
+        xs[i + 1],
+        xs[i + 2],
+        xs[i + 3],
+        xs[i + 4],
+        xs[i + 5],
+        xs[i + 6],
+        xs[i + 7],
+    ])
 }
 
 // How many bytes of two numbers are alike, from the lowest on, if they differ by these bits.
@@ -96,8 +77,9 @@ pub fn through_run(xs: &[u8], from: usize, end: usize, x: u8) -> usize
     if end < 8 {
         return through(xs, from, end, x);
     }
-    let same = wide(x) * EIGHT_ONES;
+    let same = u64::from(x) * EIGHT_ONES;
     let last = end - 8;
+    // By index: it goes on from each place by eight.
     let mut i = from;
     while i <= last {
         let others = eight(xs, i) ^ same;
@@ -115,6 +97,7 @@ pub fn until_run(xs: &[u8], from: usize, end: usize, x: u8) -> usize
     requires end_in_bounds { end ≤ length xs.now }
     ensures { Until xs.now from end x result }
 {
+    // By index: each turn goes on behind the run that it passed.
     let mut i = from;
     while i < end {
         let y = xs[i];
@@ -132,13 +115,10 @@ pub fn back(xs: &[u8], from: usize, end: usize, x: u8) -> usize
     requires end_in_bounds { end ≤ length xs.now }
     ensures { Back xs.now from end x result }
 {
-    let mut i = end;
-    while from < i {
-        let k = i - 1;
+    for k in (from..end).rev() {
         if xs[k] != x {
-            return i;
+            return k + 1;
         }
-        i = k;
     }
-    i
+    from
 }

@@ -1,4 +1,7 @@
 -- The ms of the codes that characters send, code by code.
+use Rattle.std.specs.Prelude.{Option, Some, None}
+use Rattle.alphabet.specs.declared.CharCode.{CharCode}
+use Rattle.alphabet.specs.Codes.{char_code}
 use mathlib.Core.Path.{◌≡◌, ◌∙◌, refl, ap}
 use mathlib.Core.Bool.{Bool, true, false, cond}
 use mathlib.Core.List.{List, [], ◌∷◌, ◌++◌}
@@ -11,8 +14,6 @@ use Rattle.lists.proofs.Lists.{either-by, at-most-head, at-most-tail}
 use Rattle.alphabet.specs.declared.Alphabet.{Alphabet}
 use Rattle.alphabet.specs.declared.Alphabet.TheVariants.{Baudot, Dtmf as dtmf, Edt as edt}
 use Rattle.alphabet.specs.declared.Mode.{Mode}
-use Rattle.alphabet.specs.declared.Sends.{Sends}
-use Rattle.alphabet.specs.declared.Sends.TheVariants.{Nothing, Code}
 use Rattle.alphabet.specs.Modes.{alphabet_of}
 use Rattle.alphabet.specs.Normal.{sends, is_code, own_code, own_codes, all_chars}
 use Rattle.baudot.specs.declared.Sender.{Sender}
@@ -34,33 +35,34 @@ use Rattle.preview.specs.code.Count.{code_ms, chars_ms}
 
 module _ (l : OnLine) (s : Sender) (c : ℕ) (cs : List ℕ) where
   -- the code that begins for the front character, and the codes behind it
-  abbrev Then : Alphabet → Sends → Loaded → List ℕ
+  abbrev Then : Alphabet → Option CharCode → Loaded → List ℕ
   Then a x q = cond (is_code x) (q.line.code.0 ∷ []) [] ++ text_codes a q.sender (cond q.takes cs (c ∷ cs))
 
-  baudot-step : SenderIn s → (x : Sends) → sends Baudot c ≡ x → SendsIn Baudot x
+  baudot-step : SenderIn s → (x : Option CharCode) → sends Baudot c ≡ x → SendsIn Baudot x
       → codes_of s (c ∷ cs) ≡ Then Baudot x (code_begins Baudot l s x)
   unfolding codes_of codes_for sender_for code_begins
-  baudot-step j Nothing e i = rw e refl
-  baudot-step j (Code own k) e i =
-      either-by (λ (q : Loaded). codes_of s (c ∷ cs) ≡ Then Baudot (Code own k) q) (eqb (wanted s own) 0)
-      (λ z. let f = eqb-true (wanted s own) 0 z in rw (e, f, f) refl)
+  baudot-step j None e i = rw e refl
+  baudot-step j (Some o) e i =
+      either-by (λ (q : Loaded). codes_of s (c ∷ cs) ≡ Then Baudot (char_code o.shift o.code) q)
+      (eqb (wanted s o.shift) 0)
+      (λ z. let f = eqb-true (wanted s o.shift) 0 z in rw (e, f, f) refl)
       (λ z.
-      let f = wanted-first s own k j i.own_low i.own_in (eqb-false (wanted s own) 0 z) in
+      let f = wanted-first s o.shift o.code j i.own_low i.own_in (eqb-false (wanted s o.shift) 0 z) in
       rw (e, f.0, f.1) refl)
 
-  own-step : (a : Alphabet) (x : Sends) → sends a c ≡ x
+  own-step : (a : Alphabet) (x : Option CharCode) → sends a c ≡ x
       → own_codes a (c ∷ cs) ≡ own_code x ++ own_codes a cs
   unfolding own_codes
   own-step a x e = rw e refl
 
-  text-step : (a : Alphabet) → SenderIn s → (x : Sends) → sends a c ≡ x → SendsIn a x
+  text-step : (a : Alphabet) → SenderIn s → (x : Option CharCode) → sends a c ≡ x → SendsIn a x
       → text_codes a s (c ∷ cs) ≡ Then a x (code_begins a l s x)
   unfolding code_begins
   text-step Baudot j x e i = baudot-step j x e i
-  text-step dtmf j Nothing e i = own-step dtmf Nothing e
-  text-step dtmf j (Code own k) e i = own-step dtmf (Code own k) e
-  text-step edt j Nothing e i = own-step edt Nothing e
-  text-step edt j (Code own k) e i = own-step edt (Code own k) e
+  text-step dtmf j None e i = own-step dtmf None e
+  text-step dtmf j (Some o) e i = own-step dtmf (char_code o.shift o.code) e
+  text-step edt j None e i = own-step edt None e
+  text-step edt j (Some o) e i = own-step edt (char_code o.shift o.code) e
 
 -- ---- their ms
 
@@ -72,7 +74,7 @@ first-ms mode false k ks = omega arith
 
 module _ (mode : Mode) (l : OnLine) (s : Sender) (j : SenderIn s) where
   -- the code that begins for the front character, what is left to send after it, and all that was left before it
-  abbrev Steps : ℕ → List ℕ → Sends → Loaded → Type 0
+  abbrev Steps : ℕ → List ℕ → Option CharCode → Loaded → Type 0
   Steps c cs x q =
       chars_ms mode s (c ∷ cs)
       ≡ cond (is_code x) (code_ms mode q.line.code.0) 0 + chars_ms mode q.sender (cond q.takes cs (c ∷ cs))
@@ -102,11 +104,11 @@ baudot-waiters [] h s = refl
 baudot-waiters (c ∷ cs) h s =
     go (sends Baudot c) refl (char-low c cs h) (baudot-waiters cs (at-most-tail 0x7f c cs h))
   where
-    go : (x : Sends) → sends Baudot c ≡ x → leb c 0x7f ≡ true
+    go : (x : Option CharCode) → sends Baudot c ≡ x → leb c 0x7f ≡ true
         → ((t : Sender) → codes_of t (waiters Baudot cs) ≡ codes_of t cs)
         → codes_of s (waiters Baudot (c ∷ cs)) ≡ codes_of s (c ∷ cs)
-    go Nothing e low rest = rw (low, e) (rest s)
-    go (Code own k) e low rest =
+    go None e low rest = rw (low, e) (rest s)
+    go (Some o) e low rest =
         let x = sends Baudot c in
         rw (low, ap is_code e) (ap (λ (ks : List ℕ). codes_for s x ++ ks) (rest (sender_for s x)))
 
@@ -116,10 +118,10 @@ own-waiters a [] h = refl
 own-waiters a (c ∷ cs) h =
     go (sends a c) refl (char-low c cs h) (own-waiters a cs (at-most-tail 0x7f c cs h))
   where
-    go : (x : Sends) → sends a c ≡ x → leb c 0x7f ≡ true → own_codes a (waiters a cs) ≡ own_codes a cs
+    go : (x : Option CharCode) → sends a c ≡ x → leb c 0x7f ≡ true → own_codes a (waiters a cs) ≡ own_codes a cs
         → own_codes a (waiters a (c ∷ cs)) ≡ own_codes a (c ∷ cs)
-    go Nothing e low rest = rw (low, e) rest
-    go (Code own k) e low rest =
+    go None e low rest = rw (low, e) rest
+    go (Some o) e low rest =
         rw (low, ap is_code e) (ap (λ (ks : List ℕ). own_code (sends a c) ++ ks) rest)
 
 text-waiters : (a : Alphabet) (s : Sender) (cs : List ℕ) → all_chars cs ≡ true

@@ -1,8 +1,10 @@
 -- A ms of a burst lowers by one the ms that are left to a station.
+use Rattle.std.specs.Prelude.{Option, Some, None}
+use Rattle.alphabet.specs.declared.CharCode.{CharCode}
 use mathlib.Core.Path.{◌≡◌, ◌∙◌, refl, sym, ap}
 use mathlib.Core.Bool.{Bool, true, false, cond, not, ◌&&◌, false≢true}
 use mathlib.Core.List.{List, [], ◌∷◌}
-use Prim.Native.Nat.{ℕ, ◌+◌, ◌-◌, ◌≤◌}
+use Prim.Native.Nat.{ℕ, zero, suc, max, ◌+◌, ◌-◌, ◌≤◌}
 use native.Mathlib.Omega.{arith}
 use lib.Dec.{eqb, leb, ltb}
 use lib.ListN.{length, get_or, drop, length-drop}
@@ -10,8 +12,6 @@ use borrow.Author.Tests.{not-true, eqb-true, eqb-false, ne_eqb, leb-true, leb-fa
 use Rattle.lists.proofs.Lists.{either, either-by, by-test, and_left, and_right}
 use Rattle.alphabet.specs.declared.Alphabet.{Alphabet}
 use Rattle.alphabet.specs.declared.Mode.{Mode}
-use Rattle.alphabet.specs.declared.Sends.{Sends}
-use Rattle.alphabet.specs.declared.Sends.TheVariants.{Nothing, Code}
 use Rattle.alphabet.specs.Modes.{alphabet_of}
 use Rattle.alphabet.specs.Normal.{sends, is_code}
 use Rattle.baudot.specs.declared.Sender.{Sender}
@@ -41,6 +41,10 @@ burst_left mode l s cs = part_left mode l + behind_ms mode l s cs
 pub some_is : (n : ℕ) → 1 ≤ n → some_ms n ≡ n
 some_is n h = rw (ne_eqb n 0 (λ e. omega arith)) refl
 
+pub max-some : (n : ℕ) → max n 1 ≡ some_ms n
+max-some zero = refl
+max-some (suc n) = let e : max (suc n) 1 ≡ suc n = omega arith in e ∙ sym (some_is (suc n) (omega arith))
+
 -- a list by its first element
 cons-is : (cs : List ℕ) → 1 ≤ length cs → cs ≡ get_or cs 0 0 ∷ drop 1 cs
 cons-is [] h = absurd (omega arith)
@@ -51,12 +55,12 @@ left-length cs true = length-drop 1 cs
 left-length cs false = refl
 
 -- a code begins with its first ms
-begins-line : (a : Alphabet) (l : OnLine) (s : Sender) (x : Sends) → is_code x ≡ true
+begins-line : (a : Alphabet) (l : OnLine) (s : Sender) (x : Option CharCode) → is_code x ≡ true
     → (code_begins a l s x).line ≡ on_line 2 (code_begins a l s x).line.code.0 0
 unfolding code_begins
-begins-line a l s Nothing e = absurd (false≢true e)
-begins-line a l s (Code own k) e =
-    either (λ (q : Loaded). q.line ≡ on_line 2 q.line.code.0 0) (eqb (shift_wanted a s own) 0) _ _ refl refl
+begins-line a l s None e = absurd (false≢true e)
+begins-line a l s (Some o) e =
+    either (λ (q : Loaded). q.line ≡ on_line 2 q.line.code.0 0) (eqb (shift_wanted a s o.shift) 0) _ _ refl refl
 
 module _ (mode : Mode) where
   abbrev a : Alphabet
@@ -145,7 +149,7 @@ module _ (mode : Mode) where
     abbrev n : ℕ
     n = length cs
 
-    abbrev x : Sends
+    abbrev x : Option CharCode
     x = sends a front
 
     -- after it one ms less is left

@@ -1,4 +1,6 @@
 -- The ms of the codes that characters send, at most: as many of the longest as there are codes.
+use Rattle.std.specs.Prelude.{Option, Some, None}
+use Rattle.alphabet.specs.declared.CharCode.{CharCode}
 use mathlib.Core.Path.{◌≡◌}
 use mathlib.Core.Bool.{true, cond}
 use mathlib.Core.List.{List, [], ◌∷◌, ◌++◌}
@@ -12,8 +14,6 @@ use Rattle.alphabet.specs.declared.Alphabet.{Alphabet}
 use Rattle.alphabet.specs.declared.Alphabet.TheVariants.{Dtmf as dtmf}
 use Rattle.alphabet.specs.declared.Mode.{Mode}
 use Rattle.alphabet.specs.declared.Mode.TheVariants.{Baudot45, Baudot50, Dtmf, Edt}
-use Rattle.alphabet.specs.declared.Sends.{Sends}
-use Rattle.alphabet.specs.declared.Sends.TheVariants.{Nothing, Code}
 use Rattle.alphabet.specs.Modes.{alphabet_of, longest}
 use Rattle.alphabet.specs.Normal.{sends, own_code, own_codes, all_chars}
 use Rattle.baudot.specs.declared.Sender.{Sender}
@@ -48,14 +48,14 @@ keys-most (c ∷ cs) h =
     let l = at-most-head 0x7f c cs h in
     go (sends dtmf c) (sends-in dtmf c (omega arith)) (keys-most cs (at-most-tail 0x7f c cs h))
   where
-    go : (x : Sends) → SendsIn dtmf x
+    go : (x : Option CharCode) → SendsIn dtmf x
         → length (signals Dtmf (own_codes dtmf cs)) ≤ 480 * length (own_codes dtmf cs)
         → length (signals Dtmf (own_code x ++ own_codes dtmf cs)) ≤ 480 * length (own_code x ++ own_codes dtmf cs)
-    go Nothing i rest = rest
-    go (Code own k) i rest =
-        let f = code-few dtmf k.0 i.code_is in
-        let m = within-longest Dtmf k.0 (omega arith) in
-        let a = length-append (signal Dtmf k.0) (signals Dtmf (own_codes dtmf cs)) in
+    go None i rest = rest
+    go (Some o) i rest =
+        let f = code-few dtmf o.code.0 i.code_is in
+        let m = within-longest Dtmf o.code.0 (omega arith) in
+        let a = length-append (signal Dtmf o.code.0) (signals Dtmf (own_codes dtmf cs)) in
         omega arith
 
 -- ---- the codes of a text

@@ -1,4 +1,6 @@
 -- The loop that counts codes: what is counted and what is left are all.
+use Rattle.std.specs.Prelude.{Option, Some, None}
+use Rattle.alphabet.specs.declared.CharCode.{CharCode}
 use mathlib.Core.Path.{◌≡◌, ◌∙◌, refl, sym, ap}
 use mathlib.Core.Bool.{Bool, true, false, cond}
 use mathlib.Core.List.{List, ◌∷◌}
@@ -10,8 +12,6 @@ use lib.Seq.{drop-cons}
 use Rattle.lists.proofs.Lists.{either, by-test, at-most-at}
 use Rattle.alphabet.specs.declared.Alphabet.{Alphabet}
 use Rattle.alphabet.specs.declared.Mode.{Mode}
-use Rattle.alphabet.specs.declared.Sends.{Sends}
-use Rattle.alphabet.specs.declared.Sends.TheVariants.{Nothing, Code}
 use Rattle.alphabet.specs.Modes.{alphabet_of}
 use Rattle.alphabet.specs.Normal.{sends, is_code, all_chars}
 use Rattle.baudot.specs.declared.Sender.{Sender}
@@ -25,10 +25,11 @@ use Rattle.preview.specs.code.Count.{code_ms, chars_ms}
 use Rattle.preview.proofs.Counting.{chars-step, no-chars}
 
 -- one that takes no character is a code
-code_stays : (a : Alphabet) (s : Sender) (x : Sends) → (code_begins a idle s x).takes ≡ false → is_code x ≡ true
+code_stays : (a : Alphabet) (s : Sender) (x : Option CharCode) → (code_begins a idle s x).takes ≡ false
+    → is_code x ≡ true
 unfolding code_begins
-code_stays a s Nothing e = sym e
-code_stays a s (Code own k) e = refl
+code_stays a s None e = sym e
+code_stays a s (Some o) e = refl
 
 drop-place : (cs : List ℕ) (takes : Bool) (i : ℕ)
     → drop (cond takes (i + 1) i) cs ≡ cond takes (drop (i + 1) cs) (drop i cs)
@@ -99,7 +100,7 @@ module _ (mode : Mode) (cs : List ℕ) (total : ℕ) where
         omega arith)
 
     -- a turn of the loop, as the code makes it
-    module _ (x : Sends) (ex : x ≡ sends a c) (q : Loaded) (eq : q ≡ whole mode (next_for a idle s x))
+    module _ (x : Option CharCode) (ex : x ≡ sends a c) (q : Loaded) (eq : q ≡ whole mode (next_for a idle s x))
         (m : ℕ) (em : m ≡ cond (is_code x) q.line.at 0) where
       pub within : ms + m ≤ total
       within = let w = turn.all in rw (em, eq, ex) (omega arith)

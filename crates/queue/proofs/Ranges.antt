@@ -1,10 +1,10 @@
 -- The characters that send something, by their ranges: one computed test over all bytes for each alphabet.
+use Rattle.std.specs.Prelude.{None}
+use Rattle.alphabet.specs.Codes.{char_code}
 use mathlib.Core.Path.{◌≡◌, refl}
 use mathlib.Core.Bool.{Bool, true, false, cond, ◌&&◌, ◌||◌}
-use mathlib.Core.List.{List, [], ◌∷◌}
 use Prim.Native.Nat.{ℕ, ◌<◌}
 use lib.Dec.{T, eqb, leb}
-use Rattle.lists.specs.Lists.{all_at_most}
 use Rattle.lists.specs.Tables.{passes}
 use Rattle.lists.proofs.Tables.{agree, agreed, passes_at}
 use Rattle.alphabet.specs.declared.Alphabet.TheVariants.{Baudot, Dtmf, Edt}
@@ -14,9 +14,8 @@ use Rattle.alphabet.specs.TableB1.{b1}
 use Rattle.alphabet.specs.TableB2.{b2}
 use Rattle.alphabet.specs.Baudot.{any_shift, printed_at, send_baudot}
 use Rattle.alphabet.specs.Dtmf.{with_mark, code_from, marks_then_digit, among, not_struck, remaining, names, first_sign, named, send_in, has_row, send_from, send_dtmf}
-use Rattle.alphabet.specs.declared.Sends.TheVariants.{Nothing, Code}
 use Rattle.alphabet.specs.Normal.{sends, is_code}
-use Rattle.queue.specs.Queue.{waits, all_wait}
+use Rattle.queue.specs.Queue.{waits}
 
 abbrev pub within : ℕ → ℕ → ℕ → Bool
 within c least most = leb least c && leb c most
@@ -58,11 +57,6 @@ pub in-edt : (c : ℕ) → leb c 0x7f ≡ waits Edt c
 unfolding sends
 in-edt c = go (leb c 0x7f)
   where
-    go : (b : Bool) → b ≡ (b && is_code (cond b (Code any_shift (record { 0 = c })) Nothing))
+    go : (b : Bool) → b ≡ (b && is_code (cond b (char_code any_shift (record { 0 = c })) None))
     go true = refl
     go false = refl
-
-pub all-edt : (cs : List ℕ) → all_at_most 0x7f cs ≡ all_wait Edt cs
-unfolding all_at_most all_wait
-all-edt [] = refl
-all-edt (c ∷ cs) = λ j. in-edt c j && all-edt cs j

@@ -7,6 +7,8 @@ use native.Mathlib.Omega.{arith}
 use native.Mathlib.Numerals.{add-one}
 use lib.ListN.{length, get_or, drop, drop_of_length-le, length-append}
 use lib.Seq.{sets, drop-cons, length-sets}
+use Rattle.std.specs.List.{filter, fold}
+use Rattle.std.proofs.lemmas.List.Sums.{length-filter, count_by-le-length}
 use Rattle.lists.proofs.Lists.{sets-append}
 use Rattle.alphabet.specs.declared.Alphabet.{Alphabet}
 use Rattle.queue.specs.Queue.{waits, waiters, all_wait}
@@ -46,24 +48,24 @@ module _ (a : Alphabet) where
       ap length (waiters-left text i h)
       ∙ length-append (waiters a (get_or text i 0 ∷ [])) (waiters a (drop (i + 1) text))
 
-  -- the test over what is left
-  pub wait-left : (cs : List ℕ) (i : ℕ) → i < length cs
-      → all_wait a (drop i cs) ≡ (waits a (get_or cs i 0) && all_wait a (drop (i + 1) cs))
+  -- those that wait, and the test, by the list functions of the library
+  pub waiters-filter : (cs : List ℕ) → waiters a cs ≡ filter (waits a) cs
+  unfolding waiters
+  waiters-filter [] = refl
+  waiters-filter (c ∷ cs) = go (waits a c) (waiters-filter cs)
+    where
+      go : (b : Bool) → waiters a cs ≡ filter (waits a) cs
+          → cond b (c ∷ waiters a cs) (waiters a cs) ≡ cond b (c ∷ filter (waits a) cs) (filter (waits a) cs)
+      go true e = ap (λ (ws : List ℕ). c ∷ ws) e
+      go false e = e
+
+  pub waiters-few : (cs : List ℕ) → length (waiters a cs) ≤ length cs
+  waiters-few cs = rw (waiters-filter cs, length-filter) (count_by-le-length (waits a) cs)
+
+  pub wait-fold : (good : Bool) (cs : List ℕ) → fold (λ b c. b && waits a c) good cs ≡ (good && all_wait a cs)
   unfolding all_wait
-  wait-left cs i h = rw (add-one, drop-cons cs i 0 h)
-
-  pub wait-end : (cs : List ℕ) (i : ℕ) → length cs ≤ i → all_wait a (drop i cs) ≡ true
-  unfolding all_wait
-  wait-end cs i h = rw (drop_of_length-le cs h)
-
-  -- those passed and those left together say it of all
-  module _ (cs : List ℕ) (i : ℕ) (good : Bool) where
-    pub wait-turn : i < length cs
-        → ((good && waits a (get_or cs i 0)) && all_wait a (drop (i + 1) cs)) ≡ (good && all_wait a (drop i cs))
-    wait-turn h = and_assoc good _ _ ∙ ap (λ (b : Bool). good && b) (sym (wait-left cs i h))
-
-    pub wait-all : length cs ≤ i → (good && all_wait a (drop i cs)) ≡ all_wait a cs → good ≡ all_wait a cs
-    wait-all h e = sym (and-true good) ∙ ap (λ (b : Bool). good && b) (sym (wait-end cs i h)) ∙ e
+  wait-fold good [] = sym (and-true good)
+  wait-fold good (c ∷ cs) = wait-fold (good && waits a c) cs ∙ and_assoc good (waits a c) (all_wait a cs)
 
   -- characters that are written at a place: what is left of the text, behind what stands there, is the whole
   pub record Putting (text chars₀ : List ℕ) (at : ℕ) (chars : List ℕ) (n i : ℕ) : Type 0 where

@@ -1,7 +1,7 @@
 // Characters that wait to be sent: at most 256, the front one first.
 #![tactic(auto)]
 
-ghost use Rattle.std.specs.Prelude.{◌≡◌, true, ◌&&◌, [], ◌∷◌, ◌+◌, ◌≤◌, leb, length, get_or, replicate};
+ghost use Rattle.std.specs.Prelude.{◌≡◌, true, false, MatchOption, ◌&&◌, [], ◌∷◌, ◌+◌, ◌≤◌, leb, length, get_or, replicate};
 ghost use Rattle.std.proofs.lemmas.List.Edits.{sets};
 ghost use Rattle.alphabet.specs.declared.Alphabet.TheVariants.{Baudot, Dtmf};
 ghost use Rattle.queue.specs.Queue.{waits, waiters, all_wait, queue, in_range, room, offered, moved_by};
@@ -48,17 +48,15 @@ fn waits(a: Alphabet, c: Char) -> bool
     }
 }
 
-// How many characters of a text wait.
+// How many characters of a text wait. By a loop: as `filter` and `count`, it takes a third more instructions in EDT.
 fn count_waiters(a: Alphabet, text: &[u8]) -> usize
     ensures { result ≡ length (waiters a text.now) }
 {
     let mut n: usize = 0;
-    let mut i: usize = 0;
-    while i < text.len() {
-        if waits(a, Char(text[i])) {
+    for c in text {
+        if waits(a, Char(*c)) {
             n += 1;
         }
-        i += 1;
     }
     n
 }
@@ -71,9 +69,10 @@ fn put_char(a: Alphabet, c: Char, chars: &mut [u8], at: usize) -> usize
 {
     if waits(a, c) {
         chars[at] = c.0;
-        return at + 1;
+        at + 1
+    } else {
+        at
     }
-    at
 }
 
 // The characters of a text that wait, written from a place on.
@@ -82,71 +81,39 @@ fn put_waiters(a: Alphabet, text: &[u8], chars: &mut [u8], at: usize)
     ensures { chars.new ≡ sets chars.old at (waiters a text.now) }
 {
     let mut n = at;
-    let mut i: usize = 0;
-    while i < text.len() {
-        n = put_char(a, Char(text[i]), chars, n);
-        i += 1;
+    for c in text {
+        n = put_char(a, Char(*c), chars, n);
     }
 }
 
 // Is each a character that waits? Every one is looked at: see above.
-fn all_baudot(chars: &[u8]) -> bool
-    ensures { result ≡ all_wait Baudot chars.now }
-{
-    let mut good = true;
-    let mut i: usize = 0;
-    while i < chars.len() {
-        good = good & waits_baudot(Char(chars[i]));
-        i += 1;
-    }
-    good
-}
-
-fn all_dtmf(chars: &[u8]) -> bool
-    ensures { result ≡ all_wait Dtmf chars.now }
-{
-    let mut good = true;
-    let mut i: usize = 0;
-    while i < chars.len() {
-        good = good & waits_dtmf(Char(chars[i]));
-        i += 1;
-    }
-    good
-}
-
 fn all_wait(a: Alphabet, chars: &[u8]) -> bool
     ensures { result ≡ all_wait a chars.now }
 {
-    match a {
-        Alphabet::Baudot => all_baudot(chars),
-        Alphabet::Dtmf => all_dtmf(chars),
-        Alphabet::Edt => lists::checks::all_at_most(chars, 127),
-    }
+    chars.iter().fold(true, |good, c| good & waits(a, Char(*c)))
 }
 
 // The character in front after n are taken.
 pub fn front_after(chars: &[u8], n: usize) -> Char
     ensures { result.0 ≡ get_or (moved_by n chars.now) 0 0 }
 {
-    if chars.len() == 0 {
-        return Char(0);
+    let len = chars.len();
+    if n < len {
+        Char(chars[n])
+    } else if 0 < len {
+        Char(chars[len - 1])
+    } else {
+        Char(0)
     }
-    let last = chars.len() - 1;
-    if last < n {
-        return Char(chars[last]);
-    }
-    Char(chars[n])
 }
 
 // All move up n places in one pass; the last character stays in the places that are left. It is stored twice at each of
-// them, since of single stores the compiler makes a call of memset.
+// them, since of single stores the compiler makes a call of memset. By hand: `copy_within` and `fill` call memmove and
+// memset, which the library does not have.
 pub fn move_up_by(chars: &mut [u8], n: usize)
     ensures { chars.new ≡ moved_by n chars.old }
 {
-    if n == 0 {
-        return;
-    }
-    if chars.len() == 0 {
+    if n == 0 || chars.len() == 0 {
         return;
     }
     let last = chars.len() - 1;
@@ -166,7 +133,9 @@ pub fn move_up_by(chars: &mut [u8], n: usize)
     }
 }
 
-// The characters of a fresh station. The compiler makes 16 stores of this; from 257 bytes on it would call memset.
+// The characters of a fresh station. The compiler makes 16 stores of this; from 257 bytes on it would call memset, so
+// it is kept apart from the edges beside them.
+#[inline(never)]
 pub fn clear(chars: &mut [u8; 256])
     ensures { chars.new ≡ replicate 256 0 }
 {
@@ -177,44 +146,20 @@ pub fn clear(chars: &mut [u8; 256])
 pub fn in_range(a: Alphabet, waiting: u16, chars: &[u8; 256]) -> bool
     ensures { result ≡ in_range a (queue waiting chars.now) }
 {
-    if waiting == 0 {
-        return true;
-    }
-    if MOST < waiting {
-        return false;
-    }
-    let n = waiting as usize;
-    let all = &chars[..];
-    all_wait(a, &all[..n])
+    waiting == 0 || (waiting <= MOST && all_wait(a, &chars[..waiting as usize]))
 }
 
-// Whether there is space for an offer, and how many wait after it.
-#[derive(Clone, Copy)]
-pub struct Room {
-    pub accepted: bool,
-    pub waiting: u16,
-}
-
-// Question 4: is there space for the characters of a text that wait?
-pub fn space(a: Alphabet, waiting: u16, text: &[u8]) -> Room
-    ensures accepted_value { result.accepted ≡ room a (queue waiting []) text.now }
-    ensures waiting_value { result.accepted ≡ true → result.waiting ≡ waiting + length (waiters a text.now) }
+// Question 4: is there space for the characters of a text that wait? How many wait after it, if there is.
+pub fn space(a: Alphabet, waiting: u16, text: &[u8]) -> Option<u16>
+    ensures { MatchOption result (room a (queue waiting []) text.now ≡ false)
+        (λ n. (room a (queue waiting []) text.now ≡ true)
+        × (n ≡ waiting + length (waiters a text.now))) }
 {
-    let refused = Room {
-        accepted: false,
-        waiting,
-    };
-    if MOST < waiting {
-        return refused;
-    }
-    let n = count_waiters(a, text);
-    let before = waiting as usize;
-    if MOST as usize - before < n {
-        return refused;
-    }
-    Room {
-        accepted: true,
-        waiting: (before + n) as u16,
+    let after = waiting as usize + count_waiters(a, text);
+    if after <= MOST as usize {
+        Some(after as u16)
+    } else {
+        None
     }
 }
 

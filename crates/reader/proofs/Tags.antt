@@ -1,4 +1,4 @@
--- Which cases are left after a `let .. else`.
+-- Which cases are left where a mode is not DTMF.
 use mathlib.Core.Path.{◌≡◌, refl}
 use Rattle.alphabet.specs.declared.Mode.{Mode}
 use Rattle.alphabet.specs.declared.Mode.TheVariants.{Baudot45, Baudot50, Dtmf, Edt}

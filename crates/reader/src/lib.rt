@@ -26,9 +26,10 @@ pub enum Event {
     Nothing,
 }
 
-// A reader: of frames, or of keys; its shift (1 letters, 2 figures); its prefix.
+// A reader: of frames, or of keys; its shift (1 letters, 2 figures); its prefix. Hosts in C lend it with any numbers:
+// so the shift is no enum, and its range is asked and no fact of the type.
 #[repr(C)]
-#[derive(Clone, Copy)]
+#[derive(Clone, Copy, Debug, PartialEq, Eq)]
 pub struct Reader {
     pub frame: Frame,
     pub keys: Keys,
@@ -55,15 +56,8 @@ impl Reader {
         ensures { result ≡ fresh }
     {
         Reader {
-            frame: Frame {
-                place: 0,
-                digits: 0,
-            },
-            keys: Keys {
-                key: 0,
-                ms: 0,
-                needed: 0,
-            },
+            frame: Frame::HUNTING,
+            keys: Keys::READY,
             shift: 1,
             prefix: 0,
         }
@@ -71,13 +65,15 @@ impl Reader {
 }
 
 // What a code ends in.
-fn event_of(reads: Reads) -> Event
-    ensures { result ≡ event_of reads }
-{
-    match reads {
-        Reads::Character(c) => Event::Character(c),
-        Reads::Shift(s) => Event::Nothing,
-        Reads::NoRow => Event::Fault(Cause::NoRow, 0),
+impl From<Reads> for Event {
+    ghost from_gives = { λ reads event. event ≡ event_of reads };
+
+    fn from(reads: Reads) -> Event {
+        match reads {
+            Reads::Character(c) => Event::Character(c),
+            Reads::Shift(_) => Event::Nothing,
+            Reads::NoRow => Event::Fault(Cause::NoRow, 0),
+        }
     }
 }
 
@@ -86,9 +82,8 @@ fn shift_by(shift: u8, reads: Reads) -> u8
     ensures { result ≡ shift_by shift reads }
 {
     match reads {
-        Reads::Character(c) => shift,
         Reads::Shift(s) => s,
-        Reads::NoRow => shift,
+        Reads::Character(_) | Reads::NoRow => shift,
     }
 }
 
@@ -111,7 +106,7 @@ fn found_outcome(mode: Mode, shift: u8, found: Found) -> Outcome
             let r = alphabet::table::reads(mode.alphabet(), shift, k);
             Outcome {
                 next: shift_by(shift, r),
-                event: event_of(r),
+                event: Event::from(r),
             }
         }
     }
@@ -122,26 +117,27 @@ fn key_outcome(prefix: u8, key: u8) -> Outcome
     requires { prefix ≤ 15 }
     ensures { result ≡ outcome (prefix_after prefix key) (key_event prefix key) }
 {
-    if key == 0 {
-        return Outcome {
+    match key {
+        0 => Outcome {
             next: prefix,
             event: Event::Nothing,
-        };
-    }
-    if key <= 10 {
-        let r = alphabet::table::reads(Alphabet::Dtmf, 1, alphabet::dtmf::code(prefix, key));
-        let event = event_of(r);
-        return Outcome { next: 0, event };
-    }
-    if key <= 12 {
-        return Outcome {
+        },
+        1..=10 => {
+            let event = Event::from(alphabet::table::reads(
+                Alphabet::Dtmf,
+                1,
+                alphabet::dtmf::code(prefix, key),
+            ));
+            Outcome { next: 0, event }
+        }
+        11..=12 => Outcome {
             next: alphabet::dtmf::with_mark(prefix, key),
             event: Event::Nothing,
-        };
-    }
-    Outcome {
-        next: 0,
-        event: Event::Fault(Cause::LetterKey, 0),
+        },
+        _ => Outcome {
+            next: 0,
+            event: Event::Fault(Cause::LetterKey, 0),
+        },
     }
 }
 
@@ -150,19 +146,15 @@ fn hear_frame(mode: Mode, r: Reader, heard: u8) -> Reading
     requires { FrameOf mode r.frame }
     ensures { result ≡ hear_frame mode r heard }
 {
-    let before = r.frame;
-    let f = frames::frame_step(mode, before, heard);
-    let found = f.found;
-    let o = found_outcome(mode, r.shift, found);
-    let event = o.event;
-    let frame = f.frame;
+    let f = frames::frame_step(mode, r.frame, heard);
+    let o = found_outcome(mode, r.shift, f.found);
     Reading {
         reader: Reader {
-            frame,
+            frame: f.frame,
             shift: o.next,
             ..r
         },
-        event,
+        event: o.event,
     }
 }
 
@@ -172,18 +164,15 @@ fn hear_key(r: Reader, heard: u8) -> Reading
     requires prefix_bound { r.prefix ≤ 15 }
     ensures { result ≡ hear_key r heard }
 {
-    let before = r.keys;
-    let k = keys::key_step(before, heard);
+    let k = keys::key_step(r.keys, heard);
     let o = key_outcome(r.prefix, k.key);
-    let event = o.event;
-    let keys = k.keys;
     Reading {
         reader: Reader {
-            keys,
+            keys: k.keys,
             prefix: o.next,
             ..r
         },
-        event,
+        event: o.event,
     }
 }
 
@@ -192,10 +181,10 @@ pub fn hear(mode: Mode, r: Reader, heard: u8) -> Reading
     requires { ReaderIn mode r }
     ensures { result ≡ hear mode r heard }
 {
-    let Mode::Dtmf = mode else {
-        return hear_frame(mode, r, heard);
-    };
-    hear_key(r, heard)
+    match mode {
+        Mode::Dtmf => hear_key(r, heard),
+        _ => hear_frame(mode, r, heard),
+    }
 }
 
 // An inhibited ms.
@@ -203,15 +192,9 @@ pub fn inhibited(r: Reader) -> Reader
     requires { KeysIn r.keys }
     ensures { result ≡ inhibited r }
 {
-    let before = r.keys;
-    let k = keys::key_step(before, 0);
-    let keys = k.keys;
     Reader {
-        frame: Frame {
-            place: 0,
-            digits: 0,
-        },
-        keys,
+        frame: Frame::HUNTING,
+        keys: keys::key_step(r.keys, 0).keys,
         ..r
     }
 }
@@ -220,19 +203,9 @@ pub fn inhibited(r: Reader) -> Reader
 pub fn in_range(mode: Mode, r: Reader) -> bool
     ensures { result ≡ reader_in mode r }
 {
-    let f = r.frame;
-    if !frames::in_range(mode, f) {
-        return false;
-    }
-    let k = r.keys;
-    if !keys::in_range(k) {
-        return false;
-    }
-    if r.shift < 1 {
-        return false;
-    }
-    if 2 < r.shift {
-        return false;
-    }
-    r.prefix <= 15
+    frames::in_range(mode, r.frame)
+        && keys::in_range(r.keys)
+        && 1 <= r.shift
+        && r.shift <= 2
+        && r.prefix <= 15
 }

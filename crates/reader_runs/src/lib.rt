@@ -9,17 +9,18 @@ ghost use Rattle.reader.specs.Words.{reader_after, words as words_heard};
 ghost use Rattle.lists.specs.code.Places.{Alike};
 ghost use Rattle.alphabet.specs.declared.Mode.TheVariants as mode;
 ghost use Rattle.frames.specs.code.Bounds.{Framed};
-ghost use Rattle.keys.specs.code.Bounds.{KeysIn};
-ghost use Rattle.frames_runs.specs.code.Passing.{frame_at};
+ghost use Rattle.frames_runs.specs.code.Walking.{frame_of};
 ghost use Rattle.keys_runs.specs.code.Passing.{keys_of};
 ghost use Rattle.reader.specs.Reader.{with_frame, with_keys};
 ghost use Rattle.reader_runs.specs.code.Skipping.{Skips};
 
 use alphabet::Mode;
 use frames::Frame;
+use frames_runs::Walk;
 use keys::Keys;
-use keys_runs::Keyed;
+use keys_runs::levels::{Keyed, Levels};
 use reader::Reader;
+use std::ops::ControlFlow;
 
 // A reader after some ms, and the place behind their words.
 #[derive(Clone, Copy)]
@@ -35,19 +36,19 @@ pub struct Skipped {
     pub to: usize,
 }
 
-// A reader with a frame at a place, before a ms.
-fn framed(r: Reader, place: usize, digits: usize, to: usize) -> Skipped
-    requires place_bound { place < 256 }
-    requires digits_bound { digits < 256 }
-    ensures { result ≡ record { reader = with_frame r (frame_at place digits); to = to } }
+// A reader with the frame of a walk, before its ms.
+fn with_walk(r: Reader, w: Walk) -> Skipped
+    requires place_bound { w.place < 256 }
+    requires digits_bound { w.digits < 256 }
+    ensures { result ≡ record { reader = with_frame r (frame_of w); to = w.to } }
 {
     let frame = Frame {
-        place: place as u8,
-        digits: digits as u8,
+        place: w.place as u8,
+        digits: w.digits as u8,
     };
     Skipped {
         reader: Reader { frame, ..r },
-        to,
+        to: w.to,
     }
 }
 
@@ -58,25 +59,23 @@ fn skip_frame(mode: Mode, r: Reader, heard: &[u8], i: usize) -> Skipped
     requires i_in_bounds { i ≤ length heard.now }
     ensures { Skips mode heard.now r i result }
 {
-    let f = r.frame;
-    let mut place = f.place as usize;
-    let mut digits = f.digits as usize;
-    let mut to = i;
-    while to < heard.len() {
-        let p = frames_runs::pass(mode, heard, place, digits, to);
-        if !p.on {
-            return framed(r, p.place, p.digits, p.to);
+    let mut w = Walk {
+        place: r.frame.place as usize,
+        digits: r.frame.digits as usize,
+        to: i,
+    };
+    // Each turn goes on behind the level, or the start, that it passed.
+    while w.to < heard.len() {
+        match frames_runs::pass(mode, heard, w) {
+            ControlFlow::Continue(on) => w = on,
+            ControlFlow::Break(last) => return with_walk(r, last),
         }
-        place = p.place;
-        digits = p.digits;
-        to = p.to;
     }
-    framed(r, place, digits, to)
+    with_walk(r, w)
 }
 
 // A reader with keys, before a ms.
 fn with_keys(r: Reader, k: Keyed) -> Skipped
-    requires { KeysIn (keys_of k) }
     ensures { result ≡ record { reader = with_keys r (keys_of k); to = k.to } }
 {
     let keys = Keys {
@@ -91,38 +90,34 @@ fn with_keys(r: Reader, k: Keyed) -> Skipped
 }
 
 // DTMF: up to the ms in which a key counts.
-fn skip_keys(r: Reader, heard: &[u8], alike: bool, i: usize) -> Skipped
+fn skip_keys(r: Reader, levels: Levels, i: usize) -> Skipped
     requires reader_in { ReaderIn mode.Dtmf r }
-    requires alike { alike ≡ true → Alike heard.now }
-    requires heard_value { all_at_most 16 heard.now ≡ true }
-    requires i_in_bounds { i ≤ length heard.now }
-    ensures { Skips mode.Dtmf heard.now r i result }
+    requires i_in_bounds { i ≤ length levels.heard.now }
+    ensures { Skips mode.Dtmf levels.entry.heard.now r i result }
 {
-    let k = r.keys;
     let first = Keyed {
-        key: k.key,
-        ms: k.ms as usize,
-        needed: k.needed as usize,
+        key: r.keys.key,
+        ms: r.keys.ms as usize,
+        needed: r.keys.needed as usize,
         to: i,
     };
-    with_keys(r, keys_runs::pass_keys(heard, alike, first))
+    with_keys(r, keys_runs::pass_keys(levels, first))
 }
 
 // The ms from a place on that end in nothing, as far as they are skipped.
-fn skip(mode: Mode, r: Reader, heard: &[u8], alike: bool, i: usize) -> Skipped
+fn skip(mode: Mode, r: Reader, levels: Levels, i: usize) -> Skipped
     requires reader_in { ReaderIn mode r }
-    requires alike { alike ≡ true → Alike heard.now }
-    requires heard_value { all_at_most 16 heard.now ≡ true }
-    requires i_in_bounds { i ≤ length heard.now }
-    ensures { Skips mode heard.now r i result }
+    requires i_in_bounds { i ≤ length levels.heard.now }
+    ensures { Skips mode levels.entry.heard.now r i result }
 {
-    let Mode::Dtmf = mode else {
-        return skip_frame(mode, r, heard, i);
-    };
-    skip_keys(r, heard, alike, i)
+    match mode {
+        Mode::Dtmf => skip_keys(r, levels, i),
+        _ => skip_frame(mode, r, levels.heard, i),
+    }
 }
 
-// A reader that is made anew, field by field, to be lent: the one that is heard with stays in registers.
+// A reader that is made anew, field by field, to be lent: the one that is heard with stays in registers. Where it is
+// lent itself, DTMF takes a tenth more instructions.
 fn anew(r: Reader) -> Reader
     ensures { result ≡ r }
 {
@@ -148,13 +143,7 @@ fn are_alike(mode: Mode, heard: &[u8], bound: u8) -> bool
     requires { all_at_most bound heard.now ≡ true }
     ensures { result ≡ true → Alike heard.now }
 {
-    if bound == 0 {
-        return true;
-    }
-    let Mode::Dtmf = mode else {
-        return false;
-    };
-    lists::checks::all_at_least(heard, bound)
+    bound == 0 || matches!(mode, Mode::Dtmf) && lists::checks::all_at_least(heard, bound)
 }
 
 // The ms of a list, one after the other, none above the bound. `skip` is called from one place, so that it is inlined.
@@ -174,24 +163,25 @@ pub fn hear_all(
     ensures at_value { result.at ≡ at + length (words_heard mode r heard.now) }
     ensures words_after { words.new ≡ sets words.old at (words_heard mode r heard.now) }
 {
-    let alike = are_alike(mode, heard, bound);
+    let levels = Levels {
+        heard,
+        alike: are_alike(mode, heard, bound),
+    };
     let mut reader = r;
     let mut i: usize = 0;
     let mut n = at;
+    // Each turn goes on behind the ms that `skip` left out and the one that is heard.
     loop {
-        let s = skip(mode, reader, heard, alike, i);
-        let before = s.reader;
-        let to = s.to;
-        if to == heard.len() {
+        let s = skip(mode, reader, levels, i);
+        if s.to == heard.len() {
             return Heard {
-                reader: before,
+                reader: s.reader,
                 at: n,
             };
         }
-        let q = reader::hear(mode, anew(before), heard[to]);
-        let event = q.event;
-        n = reader::words::put_word(words, n, event);
+        let q = reader::hear(mode, anew(s.reader), heard[s.to]);
+        n = reader::words::put_word(words, n, q.event);
         reader = q.reader;
-        i = to + 1;
+        i = s.to + 1;
     }
 }

@@ -16,10 +16,7 @@ pub fn frame_level(frame: u16, element: u16) -> u8
     ensures { result ≡ level_of (frame / 2 ^ element % 2) }
 {
     let bit = (frame >> element) % 2;
-    if bit == 1 {
-        return Mode::MARK;
-    }
-    Mode::SPACE
+    if bit == 1 { Mode::MARK } else { Mode::SPACE }
 }
 
 // The digits of a Baudot frame: start 0, the five of the code, stop 1.
@@ -53,9 +50,10 @@ fn keys_level(code: LineCode, at: u16) -> u8
     ensures { result ≡ get_or (keys_signal (keys_of code.0)) at 0 }
 {
     if at % Mode::KEY < Mode::KEY_ON {
-        return alphabet::dtmf::key(code, (at / Mode::KEY) as u8);
+        alphabet::dtmf::key(code, (at / Mode::KEY) as u8)
+    } else {
+        0
     }
-    0
 }
 
 // The level of a code at a ms of its signal, the first ms at 0; quiet behind the end of a DTMF code.
@@ -76,6 +74,7 @@ pub fn level(mode: Mode, code: LineCode, at: u16) -> u8
 fn key_count(code: LineCode) -> u16
     ensures { result ≡ length (keys_of code.0) }
 {
+    // By tests, each with a return: as a match of ranges or as one expression it takes more instructions a code.
     let prefix = code.0 / 16;
     if prefix == 0 {
         return 1;

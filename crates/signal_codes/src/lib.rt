@@ -1,29 +1,15 @@
-// Whole codes: all levels of one, written to a slice.
+// Whole codes: all levels of one, written to a slice of its length.
 #![tactic(auto)]
 
-ghost use Rattle.std.specs.Prelude.{◌≡◌, ◌+◌, ◌≤◌, ◌<◌, length};
-ghost use Rattle.std.proofs.lemmas.List.Edits.{sets};
+ghost use Rattle.std.specs.Prelude.{◌≡◌, ◌<◌, length};
 ghost use Rattle.alphabet.specs.Modes.{alphabet_of, codes};
 ghost use Rattle.alphabet.specs.declared.Mode.TheVariants as mode;
 ghost use Rattle.signal.specs.Signal.{digits, held, baudot_signal, signal};
 
 use alphabet::{LineCode, Mode};
-use signal_runs::fill_ms;
-
-// The ms of elements and keys, as places are counted.
-const BAUDOT_45_ELEMENT: usize = Mode::BAUDOT_45_ELEMENT as usize;
-
-const BAUDOT_50_ELEMENT: usize = Mode::BAUDOT_50_ELEMENT as usize;
-
-const KEY_ON: usize = Mode::KEY_ON as usize;
-
-const KEY_OFF: usize = Mode::KEY_OFF as usize;
-
-const KEY: usize = Mode::KEY as usize;
-
-const EDT_CODE: usize = Mode::EDT_CODE as usize;
-
-const EDT_ELEMENTS: usize = Mode::EDT_ELEMENTS as usize;
+use signal_runs::{
+    BAUDOT_45_ELEMENT, BAUDOT_50_ELEMENT, EDT_CODE, EDT_ELEMENTS, KEY, KEY_ON, fill_ms,
+};
 
 // Every element of an EDT code but the first has the whole ms of an element; the first has what is left of the code.
 const EDT_NEXT: usize = EDT_CODE / EDT_ELEMENTS;
@@ -35,77 +21,71 @@ const EDT_PARITY: usize = EDT_FIRST + 7 * EDT_NEXT;
 
 const EDT_STOPS: usize = EDT_PARITY + EDT_NEXT;
 
-const EDT_STOPS_MS: usize = 2 * EDT_NEXT;
-
 // The elements of a number's lowest binary digits, the lowest first, each of so many ms.
-fn put_elements(number: u8, count: usize, ms: usize, sent: &mut [u8], from: usize)
-    requires { from + length (held ms (digits count number)) ≤ length sent.old }
-    ensures { sent.new ≡ sets sent.old from (held ms (digits count number)) }
+fn put_elements(number: u8, count: usize, ms: usize, sent: &mut [u8])
+    requires { length sent.old ≡ length (held ms (digits count number)) }
+    ensures { sent.new ≡ held ms (digits count number) }
 {
     let mut rest = number as u16;
-    let mut left = count;
-    let mut i = from;
-    while 0 < left {
-        fill_ms(sent, i, ms, signal::frame_level(rest, 0));
+    for j in 0..count {
+        fill_ms(
+            &mut sent[j * ms..(j + 1) * ms],
+            signal::frame_level(rest, 0),
+        );
         rest = rest / 2;
-        left -= 1;
-        i += ms;
     }
 }
 
 // A Baudot code: start, five elements, stop.
-fn put_baudot(element: usize, code: LineCode, sent: &mut [u8], from: usize)
-    requires { from + length (baudot_signal element code.0) ≤ length sent.old }
-    ensures { sent.new ≡ sets sent.old from (baudot_signal element code.0) }
+#[tactic(auto, using(crate::proofs::WholeCodes::baudot_ms, crate::proofs::WholeCodes::digits_ms))]
+fn put_baudot(element: usize, code: LineCode, sent: &mut [u8])
+    requires { length sent.old ≡ length (baudot_signal element code.0) }
+    ensures { sent.new ≡ baudot_signal element code.0 }
 {
-    fill_ms(sent, from, element, Mode::SPACE);
-    put_elements(code.0, 5, element, sent, from + element);
-    fill_ms(sent, from + 6 * element, 3 * element / 2, Mode::MARK);
+    let stop = 6 * element;
+    fill_ms(&mut sent[..element], Mode::SPACE);
+    put_elements(code.0, 5, element, &mut sent[element..stop]);
+    fill_ms(&mut sent[stop..stop + 3 * element / 2], Mode::MARK);
 }
 
 // A DTMF code, key by key.
-fn put_dtmf(code: LineCode, sent: &mut [u8], from: usize)
-    requires { from + length (signal mode.Dtmf code.0) ≤ length sent.old }
-    ensures { sent.new ≡ sets sent.old from (signal mode.Dtmf code.0) }
+fn put_dtmf(code: LineCode, sent: &mut [u8])
+    requires { length sent.old ≡ length (signal mode.Dtmf code.0) }
+    ensures { sent.new ≡ signal mode.Dtmf code.0 }
 {
-    let end = from + signal::duration(Mode::Dtmf, code) as usize;
-    let mut i = from;
-    let mut k: u8 = 0;
-    while i < end {
-        fill_ms(sent, i, KEY_ON, alphabet::dtmf::key(code, k));
-        fill_ms(sent, i + KEY_ON, KEY_OFF, 0);
-        i += KEY;
-        k += 1;
+    for k in 0..sent.len() / KEY {
+        let on = k * KEY;
+        let off = on + KEY_ON;
+        fill_ms(&mut sent[on..off], alphabet::dtmf::key(code, k as u8));
+        fill_ms(&mut sent[off..on + KEY], 0);
     }
 }
 
 // An EDT code: start, seven elements, parity, two stops.
-fn put_edt(code: LineCode, sent: &mut [u8], from: usize)
+#[tactic(auto, using(crate::proofs::WholeCodes::edt_ms, crate::proofs::WholeCodes::digits_ms))]
+fn put_edt(code: LineCode, sent: &mut [u8])
     requires code_bound { code.0 < codes (alphabet_of mode.Edt) }
-    requires code_in_bounds { from + length (signal mode.Edt code.0) ≤ length sent.old }
-    ensures { sent.new ≡ sets sent.old from (signal mode.Edt code.0) }
+    requires sent_len { length sent.old ≡ length (signal mode.Edt code.0) }
+    ensures { sent.new ≡ signal mode.Edt code.0 }
 {
-    fill_ms(sent, from, EDT_FIRST, Mode::SPACE);
-    put_elements(code.0, 7, EDT_NEXT, sent, from + EDT_FIRST);
-    fill_ms(
-        sent,
-        from + EDT_PARITY,
-        EDT_NEXT,
-        signal::frame_level(signal::parity(code.0) as u16, 0),
-    );
-    fill_ms(sent, from + EDT_STOPS, EDT_STOPS_MS, Mode::MARK);
+    let parity = signal::frame_level(signal::parity(code.0) as u16, 0);
+    fill_ms(&mut sent[..EDT_FIRST], Mode::SPACE);
+    put_elements(code.0, 7, EDT_NEXT, &mut sent[EDT_FIRST..EDT_PARITY]);
+    fill_ms(&mut sent[EDT_PARITY..EDT_STOPS], parity);
+    fill_ms(&mut sent[EDT_STOPS..EDT_CODE], Mode::MARK);
 }
 
-// All ms of a code, written from a place on.
-pub fn put_whole(mode: Mode, code: LineCode, sent: &mut [u8], from: usize)
+// All ms of a code. Baudot has two arms: with its element a constant, the compiler makes a few stores of each level.
+#[tactic(auto, unfolding(signal::specs::Signal::signal))]
+pub fn put_whole(mode: Mode, code: LineCode, sent: &mut [u8])
     requires code_bound { code.0 < codes (alphabet_of mode) }
-    requires code_in_bounds { from + length (signal mode code.0) ≤ length sent.old }
-    ensures { sent.new ≡ sets sent.old from (signal mode code.0) }
+    requires sent_len { length sent.old ≡ length (signal mode code.0) }
+    ensures { sent.new ≡ signal mode code.0 }
 {
     match mode {
-        Mode::Baudot45 => put_baudot(BAUDOT_45_ELEMENT, code, sent, from),
-        Mode::Baudot50 => put_baudot(BAUDOT_50_ELEMENT, code, sent, from),
-        Mode::Dtmf => put_dtmf(code, sent, from),
-        Mode::Edt => put_edt(code, sent, from),
+        Mode::Baudot45 => put_baudot(BAUDOT_45_ELEMENT, code, sent),
+        Mode::Baudot50 => put_baudot(BAUDOT_50_ELEMENT, code, sent),
+        Mode::Dtmf => put_dtmf(code, sent),
+        Mode::Edt => put_edt(code, sent),
     }
 }

@@ -1,13 +1,13 @@
 -- The levels of a code, element by element or key by key.
 use mathlib.Core.Path.{◌≡◌, ◌∙◌, refl, sym, ap}
 use mathlib.Core.Bool.{Bool, true, false, cond}
-use mathlib.Core.List.{List, ◌∷◌, ◌++◌}
+use mathlib.Core.List.{List, ◌∷◌}
 use Prim.Native.Nat.{ℕ, zero, suc, ◌+◌, ◌-◌, ◌/◌, ◌%◌, ◌^◌, ◌≤◌, ◌<◌}
-use native.Mathlib.Nat.{add-zero}
 use native.Mathlib.Omega.{arith}
 use lib.Dec.{eqb, ltb}
-use lib.ListN.{length, get_or, replicate, length-replicate}
-use lib.Seq.{sets, length-sets}
+use lib.ListN.{length, get_or, take, replicate}
+use borrow.Rule.Slice.PartMut.{put_mid}
+use Rattle.std.specs.List.{between}
 use borrow.Author.Tests.{eqb-false, ltb-true, ltb-false, not-true}
 use Rattle.lists.specs.Tables.{tabulate}
 use Rattle.alphabet.specs.declared.Mode.{Mode}
@@ -20,11 +20,10 @@ use Rattle.signal.proofs.Lengths.{baudot-165, baudot-150, edt-100, within-longes
 use Rattle.burst.specs.declared.OnLine.{OnLine}
 use Rattle.burst.specs.Line.{further, in_burst, part_ms}
 use Rattle.burst.proofs.Laws.{level-preamble, level-code}
-use Rattle.lists.specs.code.Places.{UpTo}
 use Rattle.signal_runs.specs.code.Levels.{code_level, part_level, even_ms, element_at, element_end, frame_of, frame_level, Run, Framed}
 use Rattle.alphabet.proofs.Ranges.{few-codes}
 use Rattle.signal_runs.proofs.Parts.{longest-480}
-use Rattle.signal_runs.proofs.Filling.{part-behind}
+use Rattle.signal_runs.proofs.Filling.{tabulate-level, part-length, level_more}
 
 -- ---- keys
 
@@ -108,69 +107,6 @@ element-later Baudot50 m k h = omega arith
 element-later Dtmf m k h = omega arith
 element-later Edt m k h = omega arith
 
--- ---- the loop that writes them
-
-tabulate-run : (f : ℕ → ℕ) (n m a level : ℕ) → ((k : ℕ) → k < n → f (a + k) ≡ level)
-    → tabulate f (n + m) a ≡ replicate n level ++ tabulate f m (a + n)
-unfolding tabulate
-tabulate-run f zero m a level h =
-    let z : 0 + m ≡ m = omega arith in
-    ap (λ (i : ℕ). tabulate f i a) z ∙ sym (ap (tabulate f m) (add-zero a))
-tabulate-run f (suc n) m a level h =
-    let z : suc n + m ≡ suc (n + m) = omega arith in
-    let y : suc a + n ≡ a + suc n = omega arith in
-    let o : f a ≡ level = ap f (sym (add-zero a)) ∙ h 0 (omega arith) in
-    let rest =
-    tabulate-run f n m (suc a) level
-    (λ (k : ℕ) (g : k < n). let w : suc a + k ≡ a + suc k = omega arith in ap f w ∙ h (suc k) (omega arith)) in
-    ap (λ (i : ℕ). tabulate f i a) z ∙ (λ j. o j ∷ rest j)
-    ∙ ap (λ (i : ℕ). level ∷ (replicate n level ++ tabulate f m i)) y
-
--- From a place on, the levels f are written; at the place i this is left.
-pub record Putting (f : ℕ → ℕ) (sent₀ : List ℕ) (from to : ℕ) (sent : List ℕ) (i : ℕ) : Type 0 where
-  pub size : length sent ≡ length sent₀
-  pub low : from ≤ i
-  pub high : i ≤ to
-  pub slice : sets sent i (tabulate f (to - i) (i - from)) ≡ sets sent₀ from (tabulate f (to - from) 0)
-
-module _ (f : ℕ → ℕ) (sent₀ : List ℕ) (from to : ℕ) where
-  pub putting-start : from ≤ to → Putting f sent₀ from to sent₀ from
-  putting-start h =
-      let z : from - from ≡ 0 = omega arith in
-      record {
-        size = refl;
-        low = omega arith;
-        high = h;
-        slice = ap (λ (a : ℕ). sets sent₀ from (tabulate f (to - from) a)) z;
-      }
-
-  module _ (sent : List ℕ) (i : ℕ) (p : Putting f sent₀ from to sent i) where
-    pub putting-turn : (end level : ℕ) → i ≤ end → end ≤ to → ((k : ℕ) → k < end - i → f (i - from + k) ≡ level)
-        → (sent' : List ℕ) → sent' ≡ sets sent i (replicate (end - i) level) → Putting f sent₀ from to sent' end
-    putting-turn end level l m h sent' e =
-        let low = p.low in
-        let run = replicate (end - i) level in
-        let rest = tabulate f (to - end) (end - from) in
-        let n : to - i ≡ (end - i) + (to - end) = omega arith in
-        let a : i - from + (end - i) ≡ end - from = omega arith in
-        let w = length-replicate (end - i) level in
-        let z : i + length run ≡ end = omega arith in
-        let t : tabulate f (to - i) (i - from) ≡ run ++ rest =
-        ap (λ (q : ℕ). tabulate f q (i - from)) n ∙ tabulate-run f (end - i) (to - end) (i - from) level h
-        ∙ ap (λ (q : ℕ). run ++ tabulate f (to - end) q) a in
-        record {
-          size = ap length e ∙ length-sets sent i run ∙ p.size;
-          low = omega arith;
-          high = m;
-          slice = part-behind sent sent' i end run rest e z ∙ sym (ap (sets sent i) t) ∙ p.slice;
-        }
-
-    pub putting-end : to ≤ i → sent ≡ sets sent₀ from (tabulate f (to - from) 0)
-    unfolding tabulate
-    putting-end h =
-        let z : to - i ≡ 0 = omega arith in
-        sym (ap (λ (q : ℕ). sets sent i (tabulate f q (i - from))) z) ∙ p.slice
-
 -- ---- parts
 
 tabulate-as : (f g : ℕ → ℕ) (n a : ℕ) → ((k : ℕ) → k < a + n → f k ≡ g k) → tabulate f n a ≡ tabulate g n a
@@ -182,9 +118,7 @@ tabulate-as f g (suc n) a h =
     λ j. o j ∷ rest j
 
 pub level-same : (n i level : ℕ) → tabulate (λ (k : ℕ). level) n i ≡ replicate n level
-unfolding tabulate
-level-same zero i level = refl
-level-same (suc n) i level = ap (λ (l : List ℕ). level ∷ l) (level-same n (suc i) level)
+level-same n i level = tabulate-level (λ (k : ℕ). level) level n i (λ (k : ℕ) (a : i ≤ k) (b : k < i + n). refl)
 
 module _ (mode : Mode) (l : OnLine) (n : ℕ) (h : l.at + n ≤ length (part_ms mode l)) where
   pub preamble-levels : l.part ≡ 1 → replicate n 1 ≡ tabulate (part_level mode l) n 0
@@ -214,12 +148,6 @@ short mode k h =
 pub code-part : (l : OnLine) → l.part ≤ 2 → in_burst l ≡ true → (l.part ≡ 1 → ⊥) → l.part ≡ 2
 code-part l h b n = let z = eqb-false l.part 0 (not-true (eqb l.part 0) b) in omega arith
 
--- ---- the loop that writes a frame: what is left, and the element of the next ms
-
-pub record Framing (mode : Mode) (frame at : ℕ) (sent₀ : List ℕ) (from to : ℕ) (sent : List ℕ) (i j : ℕ) : Type 0 where
-  pub putting : Putting (frame_level mode frame at) sent₀ from to sent i
-  pub element : i < to → j ≡ element_at mode (at + (i - from))
-
 -- in a frame's levels, those of a code
 pub frame-levels : (mode : Mode) → Framed mode → (code at n : ℕ) → code < codes (alphabet_of mode)
     → at + n ≤ length (signal mode code)
@@ -228,69 +156,43 @@ frame-levels mode framed code at n h fits =
     tabulate-as (frame_level mode (frame_of mode code) at) (code_level mode code at) n 0
     (λ (k : ℕ) (g : k < 0 + n). sym (framed.level code (at + k) h (omega arith)))
 
-module _ (mode : Mode) (frame at : ℕ) (sent₀ : List ℕ) (from to : ℕ) where
-  pub framing-start : from ≤ to → (j : ℕ) → j ≡ element_at mode at → Framing mode frame at sent₀ from to sent₀ from j
-  framing-start l j e =
-      let z : at ≡ at + (from - from) = omega arith in
-      record {
-        putting = putting-start (frame_level mode frame at) sent₀ from to l;
-        element = λ (g : from < to). e ∙ ap (element_at mode) z;
-      }
+-- ---- the loop that writes a frame: what is written, and the element of the next ms
 
-  module _ (sent : List ℕ) (i j : ℕ) (p : Framing mode frame at sent₀ from to sent i j) (g : i < to) where
-    abbrev m : ℕ
-    m = at + (i - from)
+pub record Framing (mode : Mode) (frame at : ℕ) (sent : List ℕ) (i j : ℕ) : Type 0 where
+  pub within : i ≤ length sent
+  pub written : take i sent ≡ tabulate (frame_level mode frame at) i 0
+  pub element : i < length sent → j ≡ element_at mode (at + i)
 
-    pub element-few : Framed mode → at + (to - from) ≤ longest mode → j < 16
-    element-few framed fits = let low = p.putting.low in rw (p.element g) (framed.few m (omega arith))
+module _ (mode : Mode) (frame at : ℕ) (sent : List ℕ) (i j : ℕ) (p : Framing mode frame at sent i j)
+    (g : i < length sent) where
+  pub element-few : Framed mode → at + length sent ≤ longest mode → j < 16
+  element-few framed fits = rw (p.element g) (framed.few (at + i) (omega arith))
 
-    module _ (last : ℕ) (r : Run frame j last) where
-      ends-later : m < element_end mode last
-      ends-later = let q = p.element g in let low = r.low in element-before mode m last (omega arith)
+  module _ (last : ℕ) (r : Run frame j last) where
+    pub ends-later : at + i < element_end mode last
+    ends-later = let q = p.element g in let low = r.low in element-before mode (at + i) last (omega arith)
 
-      pub element-some : at < element_end mode last
-      element-some = let e = ends-later in omega arith
+    module _ (end : ℕ) (low : i ≤ end) (high : end ≤ length sent) (few : at + end ≤ element_end mode last)
+        (full : end < length sent → at + end ≡ element_end mode last) where
+      even : (k : ℕ) → i ≤ k → k < end → frame_level mode frame at k ≡ level_of (frame / 2 ^ j % 2)
+      even k a b =
+          let q = p.element g in
+          let after = element-later mode (at + i) (at + k) (omega arith) in
+          r.same (element_at mode (at + k)) (omega arith) (element-within mode (at + k) last (omega arith))
 
-      module _ (end : ℕ) (e : UpTo from (element_end mode last - at) to end) where
-        pub framing-further : i < end
-        framing-further = go (ltb end to) refl
-          where
-            go : (b : Bool) → ltb end to ≡ b → i < end
-            go true f =
-                let x = e.full (ltb-true end to f) in
-                let y = ends-later in
-                let low = p.putting.low in
-                omega arith
-            go false f = let x = ltb-false end to f in omega arith
-
-        even : (k : ℕ) → k < end - i → frame_level mode frame at (i - from + k) ≡ level_of (frame / 2 ^ j % 2)
-        even k l =
-            let z : at + (i - from + k) ≡ m + k = omega arith in
-            let few = e.few in
-            let high = e.high in
-            let some = element-some in
-            let low = p.putting.low in
-            let q = p.element g in
-            let after = element-later mode m (m + k) (omega arith) in
-            let before = element-within mode (m + k) last (omega arith) in
-            ap (λ (a : ℕ). level_of (frame / 2 ^ element_at mode a % 2)) z
-            ∙ r.same (element_at mode (m + k)) (omega arith) before
-
-        pub framing-turn : (level : ℕ) → level ≡ level_of (frame / 2 ^ j % 2)
-            → (sent' : List ℕ) → sent' ≡ sets sent i (replicate (end - i) level)
-            → Framing mode frame at sent₀ from to sent' end (last + 1)
-        framing-turn level el sent' es =
-            let further = framing-further in
-            let some = element-some in
-            record {
-              putting =
-                  putting-turn (frame_level mode frame at) sent₀ from to sent i p.putting end level (omega arith)
-                  e.high (λ (k : ℕ) (l : k < end - i). even k l ∙ sym el) sent' es;
-              element = λ (l : end < to).
-                  let x = e.full l in
-                  let z : element_end mode last ≡ at + (end - from) = omega arith in
-                  sym (element-next mode last) ∙ ap (element_at mode) z;
-            }
+      pub framing-turn : (level : ℕ) → level ≡ level_of (frame / 2 ^ j % 2)
+          → (new : List ℕ) → new ≡ replicate (length (between i end sent)) level
+          → Framing mode frame at (put_mid i (end - i) sent new) end (last + 1)
+      framing-turn level el new e =
+          let size = part-length sent i end low high level new e in
+          record {
+            within = omega arith;
+            written =
+                level_more sent i end low high level new e (frame_level mode frame at) p.written
+                (λ (k : ℕ) (a : i ≤ k) (b : k < end). even k a b ∙ sym el);
+            element = λ (l : end < length (put_mid i (end - i) sent new)).
+                sym (element-next mode last) ∙ ap (element_at mode) (sym (full (omega arith)));
+          }
 
 -- ---- the loop over elements of one level
 

@@ -1,152 +1,149 @@
--- What is written to a slice: a list, part by part, and what is left of it; a level, in parts that meet or overlap.
-use mathlib.Core.Path.{◌≡◌, ◌∙◌, refl, sym, ap}
-use mathlib.Core.List.{List, [], ◌∷◌, ◌++◌}
-use Prim.Native.Nat.{ℕ, suc, ◌+◌, ◌-◌, ◌≤◌, ◌<◌}
-use native.Mathlib.Nat.{le_of_suc-le-suc, not-suc-le-zero}
-use native.Mathlib.Omega.{arith}
-use lib.ListN.{length, set, replicate, length-append, length-replicate, replicate-append-replicate}
-use lib.Seq.{sets, length-sets, set-set, set_comm}
-use Rattle.lists.proofs.Lists.{sets-append}
+-- What is written to a slice from its front on, part by part.
+use Rattle.std.proofs.Common.{◌≡◌, ◌∙◌, refl, sym, ap, subst, ℕ, zero, suc, ◌+◌, ◌-◌, ◌≤◌, ◌<◌, List, [], ◌∷◌, ◌++◌, length, take, drop, replicate, append_assoc, arith}
+use Rattle.std.proofs.lemmas.List.{length-replicate, length-append, length-take, length-drop, drop-drop, replicate-append-replicate, take-replicate, take_all}
+use Rattle.std.specs.List.{between}
+use Rattle.std.proofs.lemmas.List.Edits.{sets, sets-eq, length-between}
+use borrow.Rule.Slice.PartMut.{put_mid}
+use Rattle.std.proofs.lemmas.Slice.{take-put_mid}
+use mathlib.Core.List.{append-nil}
+use native.Mathlib.Nat.{zero-add, le_of_suc-le-suc, not-suc-le-zero}
+use Rattle.lists.specs.Tables.{tabulate}
+use Rattle.lists.proofs.Tables.{tabulate-append}
 
--- ---- a list, part by part
+take-less : (m n : ℕ) (xs : List ℕ) → m ≤ n → take m (take n xs) ≡ take m xs
+take-less zero n xs h = refl
+take-less (suc m) zero xs h = absurd (not-suc-le-zero h)
+take-less (suc m) (suc n) [] h = refl
+take-less (suc m) (suc n) (x ∷ xs) h = ap (λ (l : List ℕ). x ∷ l) (take-less m n xs (le_of_suc-le-suc h))
 
-module _ (l l' : List ℕ) (i next : ℕ) (part rest : List ℕ) (e : l' ≡ sets l i part) (n : i + length part ≡ next) where
-  pub part-behind : sets l' next rest ≡ sets l i (part ++ rest)
-  part-behind = (λ j. sets (e j) (sym n j) rest) ∙ sym (sets-append l i part rest)
+-- a function with one value from a place on
+pub tabulate-level : (f : ℕ → ℕ) (level n i : ℕ) → ((k : ℕ) → i ≤ k → k < i + n → f k ≡ level)
+    → tabulate f n i ≡ replicate n level
+unfolding tabulate
+tabulate-level f level zero i h = refl
+tabulate-level f level (suc n) i h =
+    let here = h i (omega arith) (omega arith) in
+    let rest = tabulate-level f level n (suc i)
+    (λ (k : ℕ) (a : suc i ≤ k) (b : k < suc i + n). h k (omega arith) (omega arith)) in
+    λ j. here j ∷ rest j
 
--- From a place on, all is written; at the place i, left is left of it.
-pub record Writing (sent₀ : List ℕ) (from : ℕ) (all : List ℕ) (sent : List ℕ) (i : ℕ) (left : List ℕ) : Type 0 where
-  pub size : length sent ≡ length sent₀
-  pub fits : i + length left ≤ length sent₀
-  pub slice : sets sent i left ≡ sets sent₀ from all
+-- the front of one level
+pub filled_front : (level i m : ℕ) (sent : List ℕ) → take i sent ≡ replicate i level → m ≤ i
+    → take m sent ≡ replicate m level
+filled_front level i m sent e h = sym (take-less m i sent h) ∙ ap (take m) e ∙ take-replicate m i level h
 
-module _ (sent₀ : List ℕ) (from : ℕ) (all : List ℕ) where
-  pub writing_start : from + length all ≤ length sent₀ → Writing sent₀ from all sent₀ from all
-  writing_start h = record { size = refl; fits = h; slice = refl }
+module _ (sent : List ℕ) (i to : ℕ) (low : i ≤ to) (high : to ≤ length sent) where
+  -- a part more
+  part_more : (part new : List ℕ) → length part ≡ to - i → new ≡ part
+      → take to (put_mid i (to - i) sent new) ≡ take i sent ++ part
+  part_more part new l e =
+      let n = ap length e in
+      take-put_mid i (to - i) sent new to (omega arith) (omega arith) ∙ ap (λ (p : List ℕ). take i sent ++ p) e
 
-  module _ (sent : List ℕ) (i : ℕ) (left : List ℕ) (w : Writing sent₀ from all sent i left) where
-    -- its front is a level
-    module _ (n level : ℕ) (rest : List ℕ) (p : left ≡ replicate n level ++ rest) where
-      front_fits : i + n + length rest ≤ length sent₀
-      front_fits =
-          let f = w.fits in
-          omega (arith, ap length p, length-append (replicate n level) rest, length-replicate n level)
+  -- a part, as `sets` tells it
+  pub part-set : (part new : List ℕ) → length part ≡ to - i → new ≡ part
+      → put_mid i (to - i) sent new ≡ sets sent i part
+  part-set part new l e =
+      let z : i + (to - i) ≡ i + length part = omega arith in
+      ap (λ (p : List ℕ). take i sent ++ (p ++ drop (to - i) (drop i sent))) e
+      ∙ ap (λ (p : List ℕ). take i sent ++ (part ++ p)) (drop-drop (to - i) i sent ∙ ap (λ (n : ℕ). drop n sent) z)
+      ∙ sym (append_assoc (take i sent) part (drop (i + length part) sent)) ∙ sym (sets-eq part sent i (omega arith))
 
-      pub level-fits : i + n ≤ length sent
-      level-fits = let s = w.size in let f = front_fits in omega arith
+  -- all ms of a part, of which g tells so many
+  pub ms-set : (g : ℕ → List ℕ) → ((n : ℕ) → length (g n) ≡ n) → (new : List ℕ)
+      → new ≡ g (length (between i to sent)) → put_mid i (to - i) sent new ≡ sets sent i (g (to - i))
+  ms-set g size new e = part-set (g (to - i)) new (size (to - i)) (e ∙ ap g (length-between sent i to high))
 
-      pub level-written : (after : List ℕ) → after ≡ sets sent i (replicate n level)
-          → Writing sent₀ from all after (i + n) rest
-      level-written after e = record {
-        size = ap length e ∙ length-sets sent i (replicate n level) ∙ w.size;
-        fits = front_fits;
-        slice =
-            part-behind sent after i (i + n) (replicate n level) rest e
-            (ap (λ (m : ℕ). i + m) (length-replicate n level))
-            ∙ sym (ap (sets sent i) p)
-            ∙ w.slice;
-      }
+  module _ (level : ℕ) (new : List ℕ) (e : new ≡ replicate (length (between i to sent)) level) where
+    pub part-length : length (put_mid i (to - i) sent new) ≡ length sent
+    part-length =
+        let n : length new ≡ to - i = ap length e ∙ length-replicate _ level ∙ length-between sent i to high in
+        omega (arith, length-append {A = ℕ}, length-take {A = ℕ}, length-drop {A = ℕ})
 
-    pub writing-end : left ≡ [] → sent ≡ sets sent₀ from all
-    writing-end e = sym (ap (sets sent i) e) ∙ w.slice
+    level-part : take to (put_mid i (to - i) sent new) ≡ take i sent ++ replicate (to - i) level
+    level-part =
+        part_more (replicate (to - i) level) new (length-replicate (to - i) level)
+        (e ∙ ap (λ (n : ℕ). replicate n level) (length-between sent i to high))
 
--- ---- a level, in parts that meet or overlap
+    -- more of the one level, of which the last ms are not told
+    pub filled_more : take i sent ≡ replicate i level → (m : ℕ) → m ≤ to
+        → take m (put_mid i (to - i) sent new) ≡ replicate m level
+    filled_more before m h =
+        let z : i + (to - i) ≡ to = omega arith in
+        let all : take to (put_mid i (to - i) sent new) ≡ replicate to level =
+        level-part ∙ ap (λ (p : List ℕ). p ++ replicate (to - i) level) before
+        ∙ replicate-append-replicate i (to - i) level ∙ ap (λ (n : ℕ). replicate n level) z in
+        filled_front level to m _ all h
 
-set_before : (l : List ℕ) (i y j : ℕ) (xs : List ℕ) → i < j → set (sets l j xs) i y ≡ sets (set l i y) j xs
-set_before l i y j [] h = refl
-set_before l i y j (x ∷ xs) h =
-    set_before (set l j x) i y (suc j) xs (omega arith)
-    ∙ ap (λ (k : List ℕ). sets k (suc j) xs) (set_comm l j i x y (λ (e : j ≡ i). omega arith))
+    -- more of levels that are told by a function
+    pub level_more : (f : ℕ → ℕ) → take i sent ≡ tabulate f i 0 → ((k : ℕ) → i ≤ k → k < to → f k ≡ level)
+        → take to (put_mid i (to - i) sent new) ≡ tabulate f to 0
+    level_more f before same =
+        let z : i + (to - i) ≡ to = omega arith in
+        let run = tabulate-level f level (to - i) (i + 0) (λ (k : ℕ) (a : i + 0 ≤ k) (b : k < i + 0 + (to - i)).
+        same k (omega arith) (omega arith)) in
+        level-part ∙ (λ j. before j ++ sym run j) ∙ sym (tabulate-append f i (to - i) 0)
+        ∙ ap (λ (n : ℕ). tabulate f n 0) z
 
--- what is written over is gone
-sets_over : (l : List ℕ) (i : ℕ) (xs ys : List ℕ) → length xs ≤ length ys → sets (sets l i xs) i ys ≡ sets l i ys
-sets_over l i [] ys h = refl
-sets_over l i (x ∷ xs) [] h = absurd (not-suc-le-zero h)
-sets_over l i (x ∷ xs) (y ∷ ys) h =
-    ap (λ (k : List ℕ). sets k (suc i) ys)
-    (set_before (set l i x) i y (suc i) xs (omega arith) ∙ ap (λ (k : List ℕ). sets k (suc i) xs) (set-set l i x y))
-    ∙ sets_over (set l i y) (suc i) xs ys (le_of_suc-le-suc h)
+-- all of a slice
+pub whole : (n : ℕ) (sent all : List ℕ) → length sent ≡ n → take n sent ≡ all → sent ≡ all
+whole n sent all z e = sym (take_all n sent (omega arith)) ∙ e
 
--- two parts that meet
-levels-meet : (l : List ℕ) (from level n m at : ℕ) → from + n ≡ at
-    → sets (sets l from (replicate n level)) at (replicate m level) ≡ sets l from (replicate (n + m) level)
-levels-meet l from level n m at e =
-    part-behind l (sets l from (replicate n level)) from at (replicate n level) (replicate m level) refl
-    (ap (λ (k : ℕ). from + k) (length-replicate n level) ∙ e)
-    ∙ ap (sets l from) (replicate-append-replicate n m level)
+-- Up to the place i all is written; left is left of it.
+pub record Writing (all sent : List ℕ) (i : ℕ) (left : List ℕ) : Type 0 where
+  pub size : length sent ≡ i + length left
+  pub slice : take i sent ++ left ≡ all
 
--- From a place on, n ms of a level are written.
-pub record Filled (sent₀ : List ℕ) (from level : ℕ) (sent : List ℕ) (n : ℕ) : Type 0 where
-  pub size : length sent ≡ length sent₀
-  pub slice : sent ≡ sets sent₀ from (replicate n level)
+pub writing-start : (all sent : List ℕ) → length sent ≡ length all → Writing all sent 0 all
+writing-start all sent h = record { size = omega arith; slice = refl }
 
-module _ (sent₀ : List ℕ) (from level : ℕ) where
-  pub filled-by : (sent : List ℕ) (n : ℕ) → sent ≡ sets sent₀ from (replicate n level) → Filled sent₀ from level sent n
-  filled-by sent n e = record { size = ap length e ∙ length-sets sent₀ from (replicate n level); slice = e }
+pub writing-at : {all sent left : List ℕ} {i j : ℕ} → i ≡ j → Writing all sent i left → Writing all sent j left
+writing-at {all} {sent} {left} e w = subst (λ (k : ℕ). Writing all sent k left) e w
 
-  -- m ms more, so that there are all, from a place that is written already or is the next
-  pub filled_more : (sent : List ℕ) (n : ℕ) → Filled sent₀ from level sent n → (at m all : ℕ) → from ≤ at
-      → at ≤ from + n → n ≤ all → at + m ≡ from + all
-      → (after : List ℕ) → after ≡ sets sent at (replicate m level) → Filled sent₀ from level after all
-  filled_more sent n f at m all low meet more end after e =
-      let p = at - from in
-      let q = n - p in
-      let x : n ≡ p + q = omega arith in
-      let y : p + m ≡ all = omega arith in
-      let z : from + p ≡ at = omega arith in
-      let v = length-replicate q level in
-      let w = length-replicate m level in
-      let two =
-      f.slice ∙ ap (λ (k : ℕ). sets sent₀ from (replicate k level)) x ∙ sym (levels-meet sent₀ from level p q at z) in
-      filled-by after all
-      (e ∙ ap (λ (l : List ℕ). sets l at (replicate m level)) two
-      ∙ sets_over (sets sent₀ from (replicate p level)) at (replicate q level) (replicate m level) (omega arith)
-      ∙ levels-meet sent₀ from level p m at z ∙ ap (λ (k : ℕ). sets sent₀ from (replicate k level)) y)
-
--- The place i is written already, or is the next.
-pub record Filling (sent₀ : List ℕ) (from to level : ℕ) (sent : List ℕ) (i : ℕ) : Type 0 where
-  pub ms : ℕ
-  pub filled : Filled sent₀ from level sent ms
-  pub low : from ≤ i
-  pub high : i < to
-  pub next : i ≤ from + ms
-  pub last : from + ms ≤ i + 1
-
-module _ (sent₀ : List ℕ) (from to level : ℕ) where
-  pub filling-start : from < to → Filling sent₀ from to level sent₀ from
-  filling-start h =
+module _ (all sent : List ℕ) (i : ℕ) (left : List ℕ) (w : Writing all sent i left) where
+  -- a part more
+  pub writing-part : (to : ℕ) (part rest new : List ℕ) → left ≡ part ++ rest → i + length part ≡ to → new ≡ part
+      → Writing all (put_mid i (to - i) sent new) to rest
+  writing-part to part rest new p z e =
+      let s = w.size in
+      let l = ap length p in
+      let n = ap length e in
       record {
-        ms = 0;
-        filled = filled-by sent₀ from level sent₀ 0 refl;
-        low = omega arith;
-        high = h;
-        next = omega arith;
-        last = omega arith;
+        size = omega (arith, length-append {A = ℕ}, length-take {A = ℕ}, length-drop {A = ℕ});
+        slice =
+            ap (λ (front : List ℕ). front ++ rest)
+            (part_more sent i to (omega arith) (omega (arith, length-append part rest)) part new (omega arith) e)
+            ∙ append_assoc (take i sent) part rest ∙ sym (ap (λ (l : List ℕ). take i sent ++ l) p) ∙ w.slice;
       }
 
-  module _ (sent : List ℕ) (i : ℕ) (f : Filling sent₀ from to level sent i) (m : ℕ) (after : List ℕ) where
-    pub filling-turn : 1 ≤ m → m < to - i → after ≡ sets sent i (replicate m level)
-        → Filling sent₀ from to level after (i + (m - 1))
-    filling-turn some h e =
-        let low = f.low in
-        let next = f.next in
-        let last = f.last in
-        record {
-          ms = i + m - from;
-          filled =
-              filled_more sent₀ from level sent f.ms f.filled i m (i + m - from) low next (omega arith)
-              (omega arith) after e;
-          low = omega arith;
-          high = omega arith;
-          next = omega arith;
-          last = omega arith;
-        }
+  -- its front is a level
+  module _ (n level : ℕ) (rest : List ℕ) (p : left ≡ replicate n level ++ rest) where
+    pub level-fits : i + n ≤ length sent
+    level-fits =
+        let s = w.size in
+        omega (arith, ap length p, length-append (replicate n level) rest, length-replicate n level)
 
-    pub filling-end : from + m ≤ to → to - i ≤ m → after ≡ sets sent (to - m) (replicate m level)
-        → Filled sent₀ from level after (to - from)
-    filling-end fits h e =
-        let high = f.high in
-        let next = f.next in
-        let last = f.last in
-        filled_more sent₀ from level sent f.ms f.filled (to - m) m (to - from) (omega arith) (omega arith)
-        (omega arith) (omega arith) after e
+    pub level-written : (to : ℕ) → i + n ≡ to → (new : List ℕ) → new ≡ replicate (length (between i to sent)) level
+        → Writing all (put_mid i (to - i) sent new) to rest
+    level-written to z new e =
+        let f = level-fits in
+        let l = length-replicate n level in
+        let m : length (between i to sent) ≡ n = length-between sent i to (omega arith) ∙ omega arith in
+        writing-part to (replicate n level) rest new p (omega arith) (e ∙ ap (λ (k : ℕ). replicate k level) m)
+
+  pub writing-end : left ≡ [] → sent ≡ all
+  writing-end e =
+      let s = w.size in
+      let l = ap length e in
+      whole i sent all (omega arith)
+      (sym (append-nil (take i sent)) ∙ sym (ap (λ (l : List ℕ). take i sent ++ l) e) ∙ w.slice)
+
+-- the front is a level
+pub level-first : (all sent : List ℕ) → length sent ≡ length all → (n level : ℕ) (rest : List ℕ)
+    → all ≡ replicate n level ++ rest → (new : List ℕ) → new ≡ replicate (length (take n sent)) level
+    → Writing all (new ++ drop n sent) n rest
+level-first all sent h n level rest p new e =
+    let z : n ≡ n - 0 = omega arith in
+    let f = subst (λ (m : ℕ). new ≡ replicate (length (take m sent)) level) z e in
+    let w = level-written all sent 0 all (writing-start all sent h) n level rest p n (zero-add n) new f in
+    subst (λ (m : ℕ). Writing all (new ++ drop m sent) n rest) (sym z) w

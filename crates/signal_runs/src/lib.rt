@@ -2,7 +2,6 @@
 #![tactic(auto)]
 
 ghost use Rattle.std.specs.Prelude.{◌≡◌, true, ◌+◌, ◌-◌, ◌*◌, ◌/◌, ◌%◌, ◌^◌, ◌≤◌, ◌<◌, length, replicate};
-ghost use Rattle.std.proofs.lemmas.List.Edits.{sets};
 ghost use Rattle.lists.specs.Tables.{tabulate};
 ghost use Rattle.alphabet.specs.Modes.{alphabet_of, codes, longest};
 ghost use Rattle.signal.specs.Signal.{level_of, signal};
@@ -15,130 +14,112 @@ use alphabet::{LineCode, Mode};
 use burst::OnLine;
 
 // The ms of elements and keys, as places are counted.
-const BAUDOT_45_ELEMENT: usize = Mode::BAUDOT_45_ELEMENT as usize;
+pub const BAUDOT_45_ELEMENT: usize = Mode::BAUDOT_45_ELEMENT as usize;
 
-const BAUDOT_50_ELEMENT: usize = Mode::BAUDOT_50_ELEMENT as usize;
+pub const BAUDOT_50_ELEMENT: usize = Mode::BAUDOT_50_ELEMENT as usize;
 
-const KEY_ON: usize = Mode::KEY_ON as usize;
+pub const KEY_ON: usize = Mode::KEY_ON as usize;
 
-const KEY_OFF: usize = Mode::KEY_OFF as usize;
+pub const KEY_OFF: usize = Mode::KEY_OFF as usize;
 
-const KEY: usize = Mode::KEY as usize;
+pub const KEY: usize = Mode::KEY as usize;
 
-const EDT_CODE: usize = Mode::EDT_CODE as usize;
+pub const EDT_CODE: usize = Mode::EDT_CODE as usize;
 
-const EDT_ELEMENTS: usize = Mode::EDT_ELEMENTS as usize;
+pub const EDT_ELEMENTS: usize = Mode::EDT_ELEMENTS as usize;
 
 // Added before a division by the elements of an EDT code, it rounds up.
 const EDT_ROUND_UP: usize = EDT_ELEMENTS - 1;
 
-// So many ms of a level, written from a place on. The compiler makes a few stores of it where the number is a constant.
-pub fn fill_ms(sent: &mut [u8], from: usize, n: usize, level: u8)
-    requires { from + n ≤ length sent.old }
-    ensures { sent.new ≡ sets sent.old from (replicate n level) }
+// A level in each ms. The compiler makes a few stores of it where the length is a constant.
+pub fn fill_ms(sent: &mut [u8], level: u8)
+    ensures { sent.new ≡ replicate (length sent.old) level }
 {
-    let mut k: usize = 0;
-    while k < n {
-        sent[from + k] = level;
-        k += 1;
-    }
+    sent.fill(level);
 }
 
 // A level, written by n ms at the front and n at the end, which meet or overlap.
-fn fill_ends(sent: &mut [u8], from: usize, to: usize, n: usize, level: u8)
-    requires n_bound { from + n ≤ to }
-    requires to_bound { to ≤ from + 2 * n }
-    requires to_in_bounds { to ≤ length sent.old }
-    ensures { sent.new ≡ sets sent.old from (replicate (to - from) level) }
+fn fill_ends(sent: &mut [u8], n: usize, level: u8)
+    requires n_in_bounds { n ≤ length sent.old }
+    requires sent_bound { length sent.old ≤ 2 * n }
+    ensures { sent.new ≡ replicate (length sent.old) level }
 {
-    fill_ms(sent, from, n, level);
-    fill_ms(sent, to - n, n, level);
+    fill_ms(&mut sent[..n], level);
+    let last = sent.len() - n;
+    fill_ms(&mut sent[last..], level);
 }
 
 // At most 64 ms of a level.
-fn fill_few(sent: &mut [u8], from: usize, to: usize, level: u8)
-    requires from_lt_to { from < to }
-    requires to_bound { to ≤ from + 64 }
-    requires to_in_bounds { to ≤ length sent.old }
-    ensures { sent.new ≡ sets sent.old from (replicate (to - from) level) }
+fn fill_few(sent: &mut [u8], level: u8)
+    requires le_sent { 1 ≤ length sent.old }
+    requires sent_bound { length sent.old ≤ 64 }
+    ensures { sent.new ≡ replicate (length sent.old) level }
 {
-    let n = to - from;
+    let n = sent.len();
     if 32 <= n {
-        fill_ends(sent, from, to, 32, level);
-        return;
+        fill_ends(sent, 32, level);
+    } else if 16 <= n {
+        fill_ends(sent, 16, level);
+    } else if 8 <= n {
+        fill_ends(sent, 8, level);
+    } else if 4 <= n {
+        fill_ends(sent, 4, level);
+    } else if 2 <= n {
+        fill_ends(sent, 2, level);
+    } else {
+        fill_ends(sent, 1, level);
     }
-    if 16 <= n {
-        fill_ends(sent, from, to, 16, level);
-        return;
-    }
-    if 8 <= n {
-        fill_ends(sent, from, to, 8, level);
-        return;
-    }
-    if 4 <= n {
-        fill_ends(sent, from, to, 4, level);
-        return;
-    }
-    if 2 <= n {
-        fill_ends(sent, from, to, 2, level);
-        return;
-    }
-    fill_ends(sent, from, to, 1, level);
 }
 
-// A level, written from a place to another, by chunks of 64 ms. They overlap, since the compiler makes a call of memset
-// of a loop over neighbouring bytes.
-pub fn fill(sent: &mut [u8], from: usize, to: usize, level: u8)
-    requires from_le_to { from ≤ to }
-    requires to_in_bounds { to ≤ length sent.old }
-    ensures { sent.new ≡ sets sent.old from (replicate (to - from) level) }
+// A level in each ms, by chunks of 64. They overlap, since the compiler makes a call of memset of a loop over
+// neighbouring bytes.
+pub fn fill(sent: &mut [u8], level: u8)
+    ensures { sent.new ≡ replicate (length sent.old) level }
 {
-    if from == to {
+    let n = sent.len();
+    if n == 0 {
         return;
     }
-    if to - from <= 64 {
-        fill_few(sent, from, to, level);
+    if n <= 64 {
+        fill_few(sent, level);
         return;
     }
-    let mut i = from;
-    while 64 < to - i {
-        fill_ms(sent, i, 64, level);
+    let last = n - 64;
+    // By index: `step_by` tests twice in each turn, and was slower.
+    let mut i: usize = 0;
+    while i < last {
+        fill_ms(&mut sent[i..i + 64], level);
         i += 63;
     }
-    fill_ms(sent, to - 64, 64, level);
+    fill_ms(&mut sent[last..], level);
 }
 
 // How many ms of a DTMF code from one on have its level.
+#[tactic(auto, unfolding(crate::specs::code::Levels::even_ms))]
 fn even_ms(at: usize) -> usize
     ensures { result ≡ even_ms at }
 {
     let m = at % KEY;
-    if m < KEY_ON {
-        return KEY_ON - m;
-    }
-    KEY - m
+    if m < KEY_ON { KEY_ON - m } else { KEY - m }
 }
 
-// The ms of a DTMF code from one on, written from a place to another.
-fn put_keys(code: LineCode, at: usize, sent: &mut [u8], from: usize, to: usize)
+// The ms of a DTMF code from one on. By index: each turn goes on behind the ms that it wrote.
+fn put_keys(code: LineCode, at: usize, sent: &mut [u8])
     requires code_bound { code.0 < codes (alphabet_of mode.Dtmf) }
-    requires from_in_bounds { at + (to - from) ≤ length (signal mode.Dtmf code.0) }
-    requires from_le_to { from ≤ to }
-    requires to_in_bounds { to ≤ length sent.old }
-    ensures { sent.new ≡ sets sent.old from
-        (tabulate (code_level mode.Dtmf code.0 at) (to - from) 0) }
+    requires sent_in_bounds { at + length sent.old ≤ length (signal mode.Dtmf code.0) }
+    ensures { sent.new ≡ tabulate (code_level mode.Dtmf code.0 at) (length sent.old) 0 }
 {
-    let mut i = from;
-    while i < to {
-        let m = at + (i - from);
-        let end = lists::places::up_to(i, even_ms(m), to);
-        let level = signal::level(Mode::Dtmf, code, m as u16);
-        fill(sent, i, end, level);
+    let mut i: usize = 0;
+    while i < sent.len() {
+        let m = at + i;
+        let end = lists::places::up_to(i, even_ms(m), sent.len());
+        fill(&mut sent[i..end], signal::level(Mode::Dtmf, code, m as u16));
         i = end;
     }
 }
 
-// The element of a frame to which a ms belongs.
+// The element of a frame to which a ms belongs. By arms: each divides by a constant.
+#[tactic(auto, unfolding(crate::specs::code::Levels::element_at))]
 fn element_at(mode: Mode, m: usize) -> usize
     requires { m < longest mode }
     ensures { result ≡ element_at mode m }
@@ -152,6 +133,7 @@ fn element_at(mode: Mode, m: usize) -> usize
 }
 
 // The ms behind an element.
+#[tactic(auto, unfolding(crate::specs::code::Levels::element_end))]
 fn element_end(mode: Mode, j: usize) -> usize
     requires { j < 16 }
     ensures { result ≡ element_end mode j }
@@ -165,13 +147,13 @@ fn element_end(mode: Mode, j: usize) -> usize
 }
 
 // A frame as a number.
+#[tactic(auto, unfolding(crate::specs::code::Levels::frame_of))]
 fn frame_of(mode: Mode, code: LineCode) -> u16
     requires { code.0 < codes (alphabet_of mode) }
     ensures { result ≡ frame_of mode code.0 }
 {
     match mode {
-        Mode::Baudot45 => signal::baudot_frame(code),
-        Mode::Baudot50 => signal::baudot_frame(code),
+        Mode::Baudot45 | Mode::Baudot50 => signal::baudot_frame(code),
         Mode::Dtmf => 0,
         Mode::Edt => signal::edt_frame(code),
     }
@@ -183,65 +165,57 @@ fn run_end(frame: u16, j: usize, level: u8) -> usize
     requires level_value { level ≡ level_of (frame / 2 ^ j % 2) }
     ensures { Run frame j result }
 {
-    let mut k = j;
-    while k < 15 {
+    for k in j..15 {
         if signal::frame_level(frame, k as u16 + 1) != level {
             return k;
         }
-        k += 1;
     }
-    k
+    15
 }
 
-// The ms of a frame from one on, written from a place to another.
-fn put_frame(mode: Mode, frame: u16, at: usize, sent: &mut [u8], from: usize, to: usize)
+// The ms of a frame from one on. By index: each turn goes on behind the elements that it wrote.
+fn put_frame(mode: Mode, frame: u16, at: usize, sent: &mut [u8])
     requires framed { Framed mode }
-    requires from_bound { at + (to - from) ≤ longest mode }
-    requires from_lt_to { from < to }
-    requires to_in_bounds { to ≤ length sent.old }
-    ensures { sent.new ≡ sets sent.old from
-        (tabulate (frame_level mode frame at) (to - from) 0) }
+    requires le_sent { 1 ≤ length sent.old }
+    requires sent_bound { at + length sent.old ≤ longest mode }
+    ensures { sent.new ≡ tabulate (frame_level mode frame at) (length sent.old) 0 }
 {
     let mut j = element_at(mode, at);
-    let mut i = from;
-    while i < to {
+    let mut i: usize = 0;
+    while i < sent.len() {
         let level = signal::frame_level(frame, j as u16);
         let last = run_end(frame, j, level);
-        let end = lists::places::up_to(from, element_end(mode, last) - at, to);
-        fill(sent, i, end, level);
+        let end = (element_end(mode, last) - at).min(sent.len());
+        fill(&mut sent[i..end], level);
         i = end;
         j = last + 1;
     }
 }
 
-// The ms of a code from one on, written from a place to another.
-fn put_code(mode: Mode, code: LineCode, at: usize, sent: &mut [u8], from: usize, to: usize)
+// The ms of a code from one on.
+fn put_code(mode: Mode, code: LineCode, at: usize, sent: &mut [u8])
     requires code_bound { code.0 < codes (alphabet_of mode) }
-    requires from_in_bounds { at + (to - from) ≤ length (signal mode code.0) }
-    requires from_lt_to { from < to }
-    requires to_in_bounds { to ≤ length sent.old }
-    ensures { sent.new ≡ sets sent.old from
-        (tabulate (code_level mode code.0 at) (to - from) 0) }
+    requires le_sent { 1 ≤ length sent.old }
+    requires sent_in_bounds { at + length sent.old ≤ length (signal mode code.0) }
+    ensures { sent.new ≡ tabulate (code_level mode code.0 at) (length sent.old) 0 }
 {
-    let Mode::Dtmf = mode else {
-        put_frame(mode, frame_of(mode, code), at, sent, from, to);
-        return;
-    };
-    put_keys(code, at, sent, from, to);
+    match mode {
+        Mode::Dtmf => put_keys(code, at, sent),
+        _ => put_frame(mode, frame_of(mode, code), at, sent),
+    }
 }
 
-// The next ms of a part, written from a place to another.
-pub fn put(mode: Mode, l: OnLine, sent: &mut [u8], from: usize, to: usize)
+// The next ms of a part.
+pub fn put(mode: Mode, l: OnLine, sent: &mut [u8])
     requires line_in { LineIn mode l }
     requires l_value { in_burst l ≡ true }
-    requires from_in_bounds { l.at + (to - from) ≤ length (part_ms mode l) }
-    requires from_lt_to { from < to }
-    requires to_in_bounds { to ≤ length sent.old }
-    ensures { sent.new ≡ sets sent.old from (tabulate (part_level mode l) (to - from) 0) }
+    requires le_sent { 1 ≤ length sent.old }
+    requires sent_in_bounds { l.at + length sent.old ≤ length (part_ms mode l) }
+    ensures { sent.new ≡ tabulate (part_level mode l) (length sent.old) 0 }
 {
     if l.part == burst::PREAMBLE {
-        fill(sent, from, to, Mode::MARK);
-        return;
+        fill(sent, Mode::MARK);
+    } else {
+        put_code(mode, l.code, l.at as usize, sent);
     }
-    put_code(mode, l.code, l.at as usize, sent, from, to);
 }

@@ -4,9 +4,9 @@ use mathlib.Core.Bool.{Bool, true, false, cond, ◌&&◌, and-true}
 use mathlib.Core.List.{List}
 use Prim.Native.Nat.{ℕ, ◌≤◌, ◌<◌}
 use native.Mathlib.Omega.{arith}
-use lib.Dec.{leb}
+use lib.Dec.{eqb, leb}
 use lib.ListN.{length}
-use borrow.Author.Tests.{leb-true, le-leb}
+use borrow.Author.Tests.{eqb-true, leb-true, le-leb}
 use lib.Seq.{sets}
 use Rattle.lists.specs.Lists.{all_at_most}
 use Rattle.lists.proofs.Lists.{sets-front, and_left, and_right, both}
@@ -16,9 +16,8 @@ use Rattle.edges.specs.Edges.{no_edge}
 use Rattle.edges.specs.Range.{report_in}
 use Rattle.edges.proofs.Range.{report-is, none_of}
 use Rattle.station.specs.declared.Measured.{Measured}
-use Rattle.station_entry.specs.declared.Ran.{Ran}
-use Rattle.station.specs.Station.{station, mode_of_station, sent_by, words_by}
-use Rattle.station.specs.Measured.{measured, station_of, measured_after, report_after}
+use Rattle.station.specs.Station.{mode_of_station, sent_by, words_by}
+use Rattle.station.specs.Measured.{station_of, measured_after, report_after}
 use Rattle.station.specs.Range.{measured_in}
 use Rattle.station.specs.Entries.{StationRan, run_answer, ran, ran_of, sent_after, words_after}
 use Rattle.station.proofs.Answers.{refused-run, refused-sent, refused-words, run-18}
@@ -35,66 +34,137 @@ pub done : (x : Measured) (r : Report) (heard : List ℕ) (sent_room word_room :
 unfolding ran_of
 done x r heard sent_room word_room a = simp a
 
--- ---- a run without a report
+-- ---- what a run leaves
 
 module _ (x : Measured) (heard sent words : List ℕ) where
-  abbrev gives : StationRan
-  gives = ran_of x no_edge heard (length sent) (length words)
+  module _ (r : Report) where
+    abbrev pub given : StationRan
+    given = ran_of x r heard (length sent) (length words)
 
-  -- the station after a run, its answer and its count; the two slices
-  abbrev pub Gives : Measured → ℕ → ℕ → List ℕ → List ℕ → Type 0
-  Gives y answer count sent' words' =
-      (y ≡ gives.station)
-      × ((answer ≡ gives.answer)
-      × ((count ≡ gives.words)
-      × ((sent' ≡ sent_after x no_edge heard (length words) sent)
-      × (words' ≡ words_after x no_edge heard (length sent) words))))
+    abbrev answer : ℕ
+    answer = run_answer x r heard (length sent) (length words)
 
-  -- a refusal leaves the station and the slices
-  pub refused : (n : ℕ) → (n ≡ 0 → ⊥) → run_answer x no_edge heard (length sent) (length words) ≡ n
-      → (q : Ran) → q ≡ record { core = x.core; edges = x.edges; answer = n; words = 0 }
-      → Gives (measured (station q.core x.chars) q.edges) q.answer q.words sent words
-  refused n z e q f =
-      let no : run_answer x no_edge heard (length sent) (length words) ≡ 0 → ⊥ = λ y. z (sym e ∙ y) in
-      let g = refused-run x no_edge heard (length sent) (length words) no ∙ ap (λ (k : ℕ). ran x no_edge k 0) e in (
-        (λ j. measured (station (f j).core x.chars) (f j).edges) ∙ sym (ap (λ (k : StationRan). k.station) g),
-        (
-          ap (λ (k : Ran). k.answer) f ∙ sym (ap (λ (k : StationRan). k.answer) g),
-          (
-            ap (λ (k : Ran). k.words) f ∙ sym (ap (λ (k : StationRan). k.words) g),
-            (
-              sym (refused-sent x no_edge heard (length words) sent no),
-              sym (refused-words x no_edge heard (length sent) words no),
-            ),
-          ),
-        ),
-      )
+    -- the answer, and what is left of the station and of the two slices
+    pub record Leaves (n : ℕ) (y : Measured) (zs ws : List ℕ) : Type 0 where
+      pub answer-is : n ≡ given.answer
+      pub station-is : y ≡ given.station
+      pub sent_is : zs ≡ sent_after x r heard (length words) sent
+      pub words_are : ws ≡ words_after x r heard (length sent) words
+
+    -- by whether the answer a is 0
+    abbrev ends : ℕ → Bool → StationRan
+    ends a b =
+        cond b (ran (measured_after x heard) (report_after x r heard) 0 (length (words_by (station_of x) heard)))
+        (ran x r a 0)
+
+    pub given-answer : given.answer ≡ answer
+    unfolding ran_of
+    given-answer = go (eqb answer 0) refl
+      where
+        go : (b : Bool) → eqb answer 0 ≡ b → (ends answer b).answer ≡ answer
+        go true e = sym (eqb-true answer 0 e)
+        go false e = refl
+
+    -- a refusal leaves the station, the report and the slices, and counts no word
+    module _ (n : ℕ) (z : n ≡ 0 → ⊥) (e : answer ≡ n) where
+      no : answer ≡ 0 → ⊥
+      no y = z (sym e ∙ y)
+
+      g : given ≡ ran x r answer 0
+      g = refused-run x r heard (length sent) (length words) no
+
+      pub refused : Leaves n x sent words
+      refused = record {
+        answer-is = sym e ∙ sym given-answer;
+        station-is = sym (ap (λ (k : StationRan). k.station) g);
+        sent_is = sym (refused-sent x r heard (length words) sent no);
+        words_are = sym (refused-words x r heard (length sent) words no);
+      }
+
+      pub refused-report : r ≡ given.report
+      refused-report = sym (ap (λ (k : StationRan). k.report) g)
+
+      pub refused-count : 0 ≡ given.words
+      refused-count = sym (ap (λ (k : StationRan). k.words) g)
 
   -- success gives the station after all the ms, one sent ms for each and the words from the slices' fronts
-  pub accepted : run_answer x no_edge heard (length sent) (length words) ≡ 0
-      → length heard ≤ length sent → length heard ≤ length words
-      → (y : Measured) → y ≡ measured_after x heard
-      → (k : ℕ) → k ≡ length (words_by (station_of x) heard)
-      → (sent' : List ℕ) → sent' ≡ sets sent 0 (sent_by (station_of x) heard)
-      → (words' : List ℕ) → words' ≡ sets words 0 (words_by (station_of x) heard)
-      → Gives y 0 k sent' words'
-  unfolding sent_after words_after
-  accepted a p q y e k f sent' g words' i =
-      let n = sent-length (station_of x) heard in
-      let m = few_words (station_of x) heard in
-      let d = done x no_edge heard (length sent) (length words) a in (
-        e ∙ sym (ap (λ (z : StationRan). z.station) d),
-        (
-          sym (ap (λ (z : StationRan). z.answer) d),
+  module _ (a : answer no_edge ≡ 0) where
+    d : given no_edge
+        ≡ ran (measured_after x heard) (report_after x no_edge heard) 0 (length (words_by (station_of x) heard))
+    d = done x no_edge heard (length sent) (length words) a
+
+    pub accepted : length heard ≤ length sent → length heard ≤ length words
+        → (y : Measured) → y ≡ measured_after x heard
+        → (sent' : List ℕ) → sent' ≡ sets sent 0 (sent_by (station_of x) heard)
+        → (words' : List ℕ) → words' ≡ sets words 0 (words_by (station_of x) heard)
+        → Leaves no_edge 0 y sent' words'
+    unfolding sent_after words_after
+    accepted p q y e sent' g words' i =
+        let n = sent-length (station_of x) heard in
+        let m = few_words (station_of x) heard in
+        record {
+          answer-is = sym (ap (λ (z : StationRan). z.answer) d);
+          station-is = e ∙ sym (ap (λ (z : StationRan). z.station) d);
+          sent_is = simp a (g ∙ sets-front sent (sent_by (station_of x) heard) (omega arith));
+          words_are = simp a (i ∙ sets-front words (words_by (station_of x) heard) (omega arith));
+        }
+
+    pub accepted-count : length (words_by (station_of x) heard) ≡ (given no_edge).words
+    accepted-count = sym (ap (λ (z : StationRan). z.words) d)
+
+  -- two runs that answer the same differ in the report alone
+  module _ (r q : Report) (e : answer r ≡ answer q) where
+    abbrev told : StationRan → (ℕ × ℕ) × Measured
+    told k = ((k.answer, k.words), k.station)
+
+    same-told : told (given q) ≡ told (given r)
+    unfolding ran_of
+    same-told = rw e (go (eqb (answer q) 0))
+      where
+        go : (b : Bool) → told (ends q (answer q) b) ≡ told (ends r (answer q) b)
+        go true = refl
+        go false = refl
+
+    same-slices : (sent_after x q heard (length words) sent ≡ sent_after x r heard (length words) sent)
+        × (words_after x q heard (length sent) words ≡ words_after x r heard (length sent) words)
+    unfolding sent_after words_after
+    same-slices = (rw e refl, rw e refl)
+
+    pub leaves-same : {n : ℕ} {y : Measured} {zs ws : List ℕ} → Leaves q n y zs ws → Leaves r n y zs ws
+    leaves-same k =
+        record {
+          answer-is = k.answer-is ∙ ap (λ (m : (ℕ × ℕ) × Measured). m.0.0) same-told;
+          station-is = k.station-is ∙ ap (λ (m : (ℕ × ℕ) × Measured). m.1) same-told;
+          sent_is = k.sent_is ∙ same-slices.0;
+          words_are = k.words_are ∙ same-slices.1;
+        }
+
+    pub count-same : (given q).words ≡ (given r).words
+    count-same = ap (λ (m : (ℕ × ℕ) × Measured). m.0.1) same-told
+
+  -- a run with the report r, whose count is not refused and gives the report p
+  module _ (r p : Report) (c : Counts x r heard (length sent) (length words) 0 p) where
+    -- the run without a report is refused
+    pub drifts-refused : (n : ℕ) → (n ≡ 0 → ⊥) → {y : Measured} {zs ws : List ℕ} → Leaves no_edge n y zs ws
+        → Leaves r n y zs ws × (r ≡ (given r).report)
+    drifts-refused n z k =
+        let e = c.as_plain refl in
+        let a = e ∙ sym (given-answer no_edge) ∙ sym k.answer-is in
+        (leaves-same r no_edge e k, refused-report r n z a)
+
+    -- it succeeds
+    pub drifts-done : {y : Measured} {zs ws : List ℕ} → Leaves no_edge 0 y zs ws
+        → (Leaves r 0 y zs ws × (p ≡ (given r).report)) × ((given no_edge).words ≡ (given r).words)
+    drifts-done k =
+        let e = c.as_plain refl in
+        let a = sym (given-answer no_edge) ∙ sym k.answer-is in (
           (
-            f ∙ sym (ap (λ (z : StationRan). z.words) d),
-            (
-              simp a (g ∙ sets-front sent (sent_by (station_of x) heard) (omega arith)),
-              simp a (i ∙ sets-front words (words_by (station_of x) heard) (omega arith)),
-            ),
+            leaves-same r no_edge e k,
+            c.counted refl a
+                ∙ sym (ap (λ (q : StationRan). q.report) (done x r heard (length sent) (length words) (e ∙ a))),
           ),
-        ),
-      )
+          count-same r no_edge e,
+        )
 
 -- ---- the answer to a run with a report, by the one without it
 

@@ -27,10 +27,7 @@ pub struct Ended {
 fn may_send(c: Core) -> bool
     ensures { result ≡ (in_burst c.line || may_begin c.waiting c.silence) }
 {
-    if c.line.part != burst::IDLE {
-        return true;
-    }
-    burst::rules::may_begin(c.waiting, c.silence)
+    c.line.part != burst::IDLE || burst::rules::may_begin(c.waiting, c.silence)
 }
 
 // The next stretch: whole codes; the ms of a part; inhibited ms; ms that the receiver hears. Of the characters so many
@@ -58,16 +55,15 @@ fn stretch(
         words.old i n result sent.new words.new }
 {
     if burst_runs::follows(c, heard.len() - i) {
-        return burst_runs::codes(c, chars, taken, heard, i, sent, n);
-    }
-    if may_send(c) {
+        burst_runs::codes(c, chars, taken, heard, i, sent, n)
+    } else if may_send(c) {
         let front = queue::front_after(chars, taken);
-        return station_stretches::begin(c, front, heard, i, sent, words, n);
+        station_stretches::begin(c, front, heard, i, sent, words, n)
+    } else if c.inhibited != 0 {
+        station_stretches::wait(c, heard, i, sent, n)
+    } else {
+        station_stretches::listen(c, heard, bound, i, sent, words, n)
     }
-    if c.inhibited != 0 {
-        return station_stretches::wait(c, heard, i, sent, n);
-    }
-    station_stretches::listen(c, heard, bound, i, sent, words, n)
 }
 
 // How many characters are taken between two cores of a run: as many as fewer wait.
@@ -79,7 +75,7 @@ fn taken_since(first: Core, c: Core) -> usize
 }
 
 // The ms of a run, one after the other, none above the bound. The characters that are taken go from the queue in the
-// end.
+// end. By index: each turn goes on behind the stretch that it passed.
 pub fn run_all(
     c: Core,
     chars: &mut [u8],

@@ -4,10 +4,13 @@ use mathlib.Core.Bool.{true, false}
 use mathlib.Core.List.{List, [], ◌∷◌, append-nil}
 use Prim.Native.Nat.{ℕ, ◌+◌, ◌-◌, ◌≤◌, ◌<◌}
 use native.Mathlib.Omega.{arith}
-use lib.ListN.{length, get_or, take, drop, set, replicate, length-drop}
+use lib.ListN.{length, get_or, take, drop, set, replicate, length-drop, length-replicate}
+use borrow.Rule.Slice.PartMut.{put_mid}
 use lib.Seq.{sets, drop-cons, length-take-le}
 use Rattle.lists.proofs.Lists.{either}
 use Rattle.lists.specs.Tables.{tabulate}
+use Rattle.lists.proofs.Tables.{tabulate-length}
+use Rattle.signal_runs.proofs.Filling.{ms-set}
 use Rattle.lists.specs.Steps.{state_after, outputs}
 use Rattle.reader.specs.declared.Reader.{Reader}
 use Rattle.reader.specs.Words.{word_of, words_of, reader_after, words}
@@ -35,6 +38,17 @@ between-one : (heard : List ℕ) (i : ℕ) → i < length heard → between i (i
 between-one heard i h =
     let e : i + 1 - i ≡ 1 = omega arith in
     ap (λ (m : ℕ). take m (drop i heard)) e ∙ ap (take 1) (drop-cons heard i 0 h)
+
+-- what is written to a part of the slice
+module _ (sent : List ℕ) (i to : ℕ) (low : i ≤ to) (high : to ≤ length sent) where
+  pub quiet-set : (new : List ℕ) → new ≡ replicate (length (between i to sent)) 0
+      → put_mid i (to - i) sent new ≡ sets sent i (replicate (to - i) 0)
+  quiet-set new e = ms-set sent i to low high (λ (n : ℕ). replicate n 0) (λ (n : ℕ). length-replicate n 0) new e
+
+  pub levels-set : (f : ℕ → ℕ) (new : List ℕ) → new ≡ tabulate f (length (between i to sent)) 0
+      → put_mid i (to - i) sent new ≡ sets sent i (tabulate f (to - i) 0)
+  levels-set f new e =
+      ms-set sent i to low high (λ (n : ℕ). tabulate f n 0) (λ (n : ℕ). tabulate-length f n 0) new e
 
 walk-to : {s : Station} {xs : List ℕ} {c d : Core} {chars : List ℕ} {levels : ℕ → ℕ}
     → Walk s xs (station c chars) levels → c ≡ d → Walk s xs (station d chars) levels

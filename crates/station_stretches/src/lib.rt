@@ -14,7 +14,8 @@ use alphabet::{Char, Mode};
 use burst::Loaded;
 use half_duplex::Core;
 
-// A core after a stretch of a run, the place behind it, and the place behind its words.
+// A core after a stretch of a run, the place behind it, and the place behind its words. Each stretch is lent the slices
+// that it writes and no others: of a struct with all of them its contract would have to say what stays.
 #[derive(Clone, Copy)]
 pub struct Stretched {
     pub core: Core,
@@ -30,9 +31,10 @@ fn free_end(waiting: u16, silence: u16, i: usize, len: usize) -> usize
     ensures { Free waiting silence i len result }
 {
     if waiting == 0 {
-        return len;
+        len
+    } else {
+        lists::places::up_to(i, (burst::rules::FREE - silence) as usize, len)
     }
-    lists::places::up_to(i, (burst::rules::FREE - silence) as usize, len)
 }
 
 // One ms by itself, after what it starts with.
@@ -55,13 +57,10 @@ fn step(
 {
     let x = half_duplex::step(c, l, heard[i]);
     sent[i] = x.sent;
-    let event = x.event;
-    let words_end = reader::words::put_word(words, n, event);
-    let core = x.core;
     Stretched {
-        core,
+        core: x.core,
         at: i + 1,
-        words: words_end,
+        words: reader::words::put_word(words, n, x.event),
     }
 }
 
@@ -84,11 +83,10 @@ fn send(
     ensures { (chars words : List ℕ) → Stretches heard.now c chars
         sent.old words i n result sent.new words }
 {
-    let l = c.line;
     let to = lists::places::up_to(i, left, heard.len());
-    signal_runs::put(mode, l, sent, i, to);
     let gone = to - i;
-    let next = burst::front_is_next(mode.alphabet(), gone == left, l);
+    signal_runs::put(mode, c.line, &mut sent[i..to]);
+    let next = burst::front_is_next(mode.alphabet(), gone == left, c.line);
     Stretched {
         core: half_duplex_runs::sent_for(c, gone, next),
         at: to,
@@ -115,14 +113,21 @@ pub fn begin(
         sent.old words.old i n result sent.new words.new }
 {
     let l = half_duplex::settle(c, front);
-    let line = l.line;
     let mode = Mode::of(c.mode);
-    let ms = burst::part_ms(mode, line);
-    if ms <= line.at {
-        return step(c, l, heard, i, sent, words, n);
+    let ms = burst::part_ms(mode, l.line);
+    if ms <= l.line.at {
+        step(c, l, heard, i, sent, words, n)
+    } else {
+        send(
+            half_duplex_runs::loaded(c, l),
+            mode,
+            (ms - l.line.at) as usize,
+            heard,
+            i,
+            sent,
+            n,
+        )
     }
-    let core = half_duplex_runs::loaded(c, l);
-    send(core, mode, (ms - line.at) as usize, heard, i, sent, n)
 }
 
 // Inhibited ms in no burst, up to one in which a burst may begin.
@@ -138,7 +143,7 @@ pub fn wait(c: Core, heard: &[u8], i: usize, sent: &mut [u8], n: usize) -> Stret
 {
     let free = free_end(c.waiting, c.silence, i, heard.len());
     let to = lists::places::up_to(i, c.inhibited as usize, free);
-    signal_runs::fill(sent, i, to, 0);
+    signal_runs::fill(&mut sent[i..to], 0);
     Stretched {
         core: half_duplex_runs::deaf_for(c, to - i),
         at: to,
@@ -169,21 +174,19 @@ pub fn listen(
         words.old i n result sent.new words.new }
 {
     let to = free_end(c.waiting, c.silence, i, heard.len());
-    signal_runs::fill(sent, i, to, 0);
-    let before = c.reader;
-    if half_duplex_runs::stays_idle(before, bound) {
+    signal_runs::fill(&mut sent[i..to], 0);
+    if half_duplex_runs::stays_idle(c.reader, bound) {
         let silence = half_duplex_runs::silence_for(c.silence, to - i);
         return Stretched {
-            core: half_duplex_runs::listened(c, silence, before),
+            core: half_duplex_runs::listened(c, silence, c.reader),
             at: to,
             words: n,
         };
     }
-    let h = reader_runs::hear_all(Mode::of(c.mode), before, &heard[i..to], bound, words, n);
+    let h = reader_runs::hear_all(Mode::of(c.mode), c.reader, &heard[i..to], bound, words, n);
     let silence = half_duplex_runs::silence_over(c.silence, &heard[i..to], bound);
-    let reader = h.reader;
     Stretched {
-        core: half_duplex_runs::listened(c, silence, reader),
+        core: half_duplex_runs::listened(c, silence, h.reader),
         at: to,
         words: h.at,
     }

@@ -1,4 +1,7 @@
 -- The ceiling on sending time is reached: for each number of characters by a text, in EDT by every text.
+use Rattle.std.specs.Prelude.{Option, Some, None}
+use Rattle.alphabet.specs.declared.CharCode.{CharCode}
+use Rattle.alphabet.specs.Codes.{char_code}
 use mathlib.Core.Path.{◌≡◌, ◌∙◌, refl, sym, ap, subst}
 use mathlib.Core.Bool.{Bool, true, false, cond, not, false≢true}
 use mathlib.Core.List.{List, [], ◌∷◌, ◌++◌, append-nil}
@@ -13,8 +16,6 @@ use Rattle.alphabet.specs.declared.Alphabet.{Alphabet}
 use Rattle.alphabet.specs.declared.Alphabet.TheVariants.{Baudot, Dtmf as dtmf, Edt as edt}
 use Rattle.alphabet.specs.declared.Mode.{Mode}
 use Rattle.alphabet.specs.declared.Mode.TheVariants.{Baudot45, Baudot50, Dtmf, Edt}
-use Rattle.alphabet.specs.declared.Sends.{Sends}
-use Rattle.alphabet.specs.declared.Sends.TheVariants.{Nothing, Code}
 use Rattle.alphabet.specs.Print.{bits, bits_from, keys, rows, left_rows, right_rows}
 use Rattle.alphabet.specs.Baudot.{printed_at, send_baudot}
 use Rattle.alphabet.specs.Dtmf.{with_mark, code_from, prefixes, keys_of, marks_then_digit, among, not_struck, remaining}
@@ -54,16 +55,16 @@ use Rattle.station_theorems.proofs.Ceiling.{most_behind, count-is, waiting-lengt
 
 -- ---- what the characters send
 
-one-sends : sends Baudot 0x31 ≡ Code 2 (record { 0 = 0b10111 })
+one-sends : sends Baudot 0x31 ≡ char_code 2 (record { 0 = 0b10111 })
 unfolding sends send_baudot printed_at rows left_rows right_rows a2 bits bits_from
 one-sends = refl
 
-a-sends : sends Baudot 0x41 ≡ Code 1 (record { 0 = 0b00011 })
+a-sends : sends Baudot 0x41 ≡ char_code 1 (record { 0 = 0b00011 })
 unfolding sends send_baudot printed_at rows left_rows right_rows a2 bits bits_from
 a-sends = refl
 
 -- ##*1: 16 times 13, the number of the prefix ##*, and 1
-a-keys : sends dtmf 0x41 ≡ Code 3 (record { 0 = 209 })
+a-keys : sends dtmf 0x41 ≡ char_code 3 (record { 0 = 209 })
 unfolding sends send_dtmf send_from send_in has_row printed_at rows left_rows right_rows b1 b2 bits bits_from keys
     with_mark
     code_from marks_then_digit among not_struck remaining names first_sign named
@@ -87,10 +88,10 @@ own-all a (c ∷ cs) w =
     go (sends a c) (and_right (leb c 0x7f) (is_code (sends a c)) v)
     (own-all a cs (and_right (waits a c) (all_wait a cs) w))
   where
-    go : (x : Sends) → is_code x ≡ true → length (own_codes a cs) ≡ length cs
+    go : (x : Option CharCode) → is_code x ≡ true → length (own_codes a cs) ≡ length cs
         → length (own_code x ++ own_codes a cs) ≡ length (c ∷ cs)
-    go Nothing e i = absurd (false≢true e)
-    go (Code own k) e i = omega arith
+    go None e i = absurd (false≢true e)
+    go (Some o) e i = omega arith
 
 -- ---- the text that takes the longest
 

@@ -1,10 +1,42 @@
-// How the test programs write and read: text and numbers, line codes and keys, rows of equal ms, and counts.
+// How the test programs write and read: keys as printed, rows of equal ms, the start of an input, pairs of bytes, and
+// counts.
 #![tactic(auto)]
 
-ghost use Rattle.std.specs.Prelude.{◌≤◌, IfOk, length};
+ghost use Rattle.std.specs.Prelude.{◌≡◌, ℕ, ◌+◌, ◌≤◌, IfOk, IfSome, IfNone, length, take, vec_len};
+ghost use Rattle.std.specs.Iterator.{at_most};
 
-use std::io;
-use std::io::{ErrorKind, Read, Write};
+use alphabet::LineCode;
+use std::alloc::Global;
+use std::io::{Read, Write};
+use std::{fmt, io, mem};
+
+// A key as printed: 10 is 0, 11 is *, 12 is #. Nothing for 0, no key.
+#[derive(Clone, Copy)]
+pub struct Key(pub u8);
+
+impl fmt::Display for Key {
+    fn fmt<W: fmt::Write>(&self, f: &mut fmt::Formatter<W>) -> fmt::Result {
+        match self.0 {
+            0 => Ok(()),
+            11 => f.write_str("*"),
+            12 => f.write_str("#"),
+            key => write!(f, "{}", key % 10),
+        }
+    }
+}
+
+// A DTMF code as its keys, up to four.
+#[derive(Clone, Copy)]
+pub struct Keys(pub LineCode);
+
+impl fmt::Display for Keys {
+    fn fmt<W: fmt::Write>(&self, f: &mut fmt::Formatter<W>) -> fmt::Result {
+        for at in 0..4 {
+            write!(f, "{}", Key(alphabet::dtmf::key(self.0, at)))?;
+        }
+        Ok(())
+    }
+}
 
 // A value, and for how many ms in a row.
 #[derive(Clone, Copy)]
@@ -13,124 +45,83 @@ pub struct Row {
     pub ms: u64,
 }
 
-// Reads until the buffer is full or the input ends; how many bytes there are.
-pub fn read_full<R: Read>(input: &mut R, buffer: &mut [u8]) -> io::Result<usize>
-    ensures { IfOk result (λ n. n ≤ length buffer.new) }
-{
-    let mut n: usize = 0;
-    for _ in 0..u64::MAX {
-        if n == buffer.len() {
-            break;
-        }
-        match input.read(&mut buffer[n..]) {
-            Ok(0) => break,
-            Ok(more) => n += more,
-            Err(e) => {
-                if e.kind() != ErrorKind::Interrupted {
-                    return Err(e);
-                }
-            }
+impl Row {
+    pub const LONGEST: u64 = 1_000_000;
+
+    // One more ms: the row goes on, or another begins, and this one has ended.
+    pub fn push(&mut self, value: u8) -> Option<Row>
+        ensures goes_on { IfNone result ((self.new.value ≡ self.old.value) × (self.new.ms ≡ self.old.ms + 1)) }
+        ensures ended { IfSome result (λ r. (r ≡ self.old) × (self.new.ms ≡ 1)) }
+        ensures value_after { self.new.value ≡ value }
+    {
+        if self.value == value && self.ms < Self::LONGEST {
+            self.ms += 1;
+            None
+        } else {
+            Some(mem::replace(self, Row { value, ms: 1 }))
         }
     }
-    Ok(n)
 }
 
-pub fn print<W: Write>(out: &mut W, s: &[u8]) -> io::Result<()> {
-    out.write_all(s)
-}
-
-pub fn print_byte<W: Write>(out: &mut W, b: u8) -> io::Result<()> {
-    let one = [b];
-    print(out, &one)
-}
-
-// A number behind a blank.
-pub fn print_number<W: Write>(out: &mut W, n: u64) -> io::Result<()> {
-    write!(out, " {n}")
-}
-
-// The end of a line.
-pub fn print_end<W: Write>(out: &mut W) -> io::Result<()> {
-    print(out, b"\n")
-}
-
-// A number below 32 in binary.
-pub fn print_five<W: Write>(out: &mut W, n: u8) -> io::Result<()> {
-    print_byte(out, 48 + n / 16 % 2)?;
-    print_byte(out, 48 + n / 8 % 2)?;
-    print_byte(out, 48 + n / 4 % 2)?;
-    print_byte(out, 48 + n / 2 % 2)?;
-    print_byte(out, 48 + n % 2)
-}
-
-// A key as printed: 10 is 0, 11 is *, 12 is #. Nothing for 0, no key.
-pub fn print_key<W: Write>(out: &mut W, k: u8) -> io::Result<()> {
-    match k {
-        0 => print(out, b""),
-        11 => print(out, b"*"),
-        12 => print(out, b"#"),
-        _ => print_byte(out, 48 + k % 10),
+// Nothing for an empty row.
+impl fmt::Display for Row {
+    fn fmt<W: fmt::Write>(&self, f: &mut fmt::Formatter<W>) -> fmt::Result {
+        if self.ms == 0 {
+            return Ok(());
+        }
+        write!(f, " {} {}", self.value, self.ms)
     }
-}
-
-// The keys of a code, up to four.
-pub fn print_keys<W: Write>(out: &mut W, a: u8, b: u8, c: u8, d: u8) -> io::Result<()> {
-    print_key(out, a)?;
-    print_key(out, b)?;
-    print_key(out, c)?;
-    print_key(out, d)
-}
-
-// A row, unless it is empty.
-pub fn print_row<W: Write>(out: &mut W, r: Row) -> io::Result<()> {
-    if 0 < r.ms {
-        print_number(out, r.value as u64)?;
-        print_number(out, r.ms)?;
-    }
-    Ok(())
 }
 
 // A row of what was sent, as a line.
-pub fn print_sent<W: Write>(out: &mut W, r: Row) -> io::Result<()> {
-    if 0 < r.ms {
-        print(out, b"sent")?;
-        print_row(out, r)?;
-        print_end(out)?;
+pub fn print_sent<W: Write>(out: &mut W, row: Row) -> io::Result<()> {
+    if row.ms == 0 {
+        return Ok(());
     }
-    Ok(())
-}
-
-// One more ms: the row goes on, or another begins, which has 1 ms.
-pub fn with_ms(r: Row, value: u8) -> Row {
-    if r.value == value {
-        if r.ms < 1_000_000 {
-            return Row {
-                value,
-                ms: r.ms + 1,
-            };
-        }
-    }
-    Row { value, ms: 1 }
-}
-
-// One more sent ms; a row that it ends is printed.
-fn with_sent<W: Write>(out: &mut W, r: Row, value: u8) -> io::Result<Row> {
-    let next = with_ms(r, value);
-    if next.ms == 1 {
-        print_sent(out, r)?;
-    }
-    Ok(next)
+    writeln!(out, "sent{row}")
 }
 
 // The sent ms of a slice; the last row is not printed yet.
-pub fn sent_all<W: Write>(out: &mut W, r: Row, sent: &[u8]) -> io::Result<Row> {
-    let mut row = r;
-    let mut i: usize = 0;
-    while i < sent.len() {
-        row = with_sent(out, row, sent[i])?;
-        i += 1;
+pub fn sent_all<W: Write>(out: &mut W, row: Row, sent: &[u8]) -> io::Result<Row> {
+    let mut row = row;
+    for value in sent {
+        if let Some(ended) = row.push(*value) {
+            print_sent(out, ended)?;
+        }
     }
     Ok(row)
+}
+
+// The first bytes of an input, up to a limit.
+pub fn read_start<R: Read + Drop>(alloc: Global, input: R, limit: usize) -> io::Result<Vec<u8>>
+    ensures within { IfOk result (λ read. vec_len read ≤ limit) }
+    ensures start { IfOk result (λ read. IfSome (R.remaining input) (λ bytes. read.items ≡ take limit bytes)) }
+{
+    let mut read = Vec::new(alloc);
+    input.take(limit as u64).read_to_end(&mut read)?;
+    read.truncate(limit);
+    Ok(read)
+}
+
+const LF: u8 = b'\n';
+
+// The pairs of bytes of a text, with LF between them anywhere. A last byte that is alone is none.
+#[derive(Drop)]
+pub struct Pairs<'a>(pub &'a [u8]);
+
+impl<'a> Iterator for Pairs<'a> {
+    type Item = (u8, u8);
+
+    ghost remaining = { λ pairs. at_most (length pairs.0.now) };
+
+    fn next(&mut self) -> Option<(u8, u8)> {
+        let start = self.0.iter().position(|b| *b != LF)?;
+        let [first, second, others @ ..] = &self.0[start..] else {
+            return None;
+        };
+        self.0 = others;
+        Some((*first, *second))
+    }
 }
 
 // The count that a byte of the input stands for: the byte less 32; 0 for a byte that is none.
@@ -138,5 +129,38 @@ pub fn count(b: u8) -> u8 {
     match b {
         b'!'..=b'~' => b - b' ',
         _ => 0,
+    }
+}
+
+#[cfg(test)]
+mod tests {
+    use super::*;
+    use std::test::Fail;
+
+    #[test]
+    fn reads_start(rt: HostRuntime) -> Result<(), Fail> {
+        let input = b"codes";
+        let front = read_start(rt.alloc(), input.as_slice(), 3)?;
+        assert_eq!(rt; front.as_slice(), b"cod".as_slice());
+        let all = read_start(rt.alloc(), input.as_slice(), 8)?;
+        assert_eq!(rt; all.as_slice(), b"codes".as_slice());
+        Ok(())
+    }
+
+    #[test]
+    fn pairs_bytes(rt: HostRuntime) -> Result<(), Fail> {
+        let pairs: Vec<(u8, u8)> = Pairs(b"\n\nm2\n3\n5~\n@").collect(rt.alloc())?;
+        let want = [(b'm', b'2'), (b'3', b'\n'), (b'5', b'~')];
+        assert_eq!(rt; pairs.as_slice(), want.as_slice());
+        Ok(())
+    }
+
+    #[test]
+    fn prints_keys_and_rows(rt: HostRuntime) -> Result<(), Fail> {
+        let keys = Keys(alphabet::dtmf::code(2, 10));
+        assert_eq!(rt; format!(in rt.alloc(); "{keys}")?.as_str(), "#0");
+        let row = Row { value: 1, ms: 22 };
+        assert_eq!(rt; format!(in rt.alloc(); "{row}")?.as_str(), " 1 22");
+        Ok(())
     }
 }

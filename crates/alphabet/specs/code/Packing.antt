@@ -1,10 +1,11 @@
 -- How the tables of this crate hold their entries. Above the crate a table is only named, to be lent to a lookup.
+use Rattle.std.specs.Prelude.{Option, Some, None}
+use Rattle.alphabet.specs.declared.CharCode.{CharCode}
+use Rattle.alphabet.specs.Codes.{char_code}
 use Rattle.std.specs.Prelude.{ℕ, ◌+◌, ◌*◌, ◌-◌, ◌/◌, ◌%◌, cond, List, [], ◌∷◌, ◌++◌, eqb, ltb, get_or}
 use Rattle.lists.specs.Tables.{tabulate}
 use Rattle.alphabet.specs.declared.Alphabet.{Alphabet}
 use Rattle.alphabet.specs.declared.Alphabet.TheVariants.{Baudot, Dtmf, Edt}
-use Rattle.alphabet.specs.declared.Sends.{Sends}
-use Rattle.alphabet.specs.declared.Sends.TheVariants.{Nothing, Code}
 use Rattle.alphabet.specs.declared.Reads.{Reads}
 use Rattle.alphabet.specs.declared.Reads.TheVariants.{Character, Shift, NoRow}
 use Rattle.alphabet.specs.Baudot.{any_shift, read_baudot}
@@ -22,24 +23,24 @@ base Edt = 256
 abbrev pub alphabet_at : ℕ → Alphabet
 alphabet_at n = cond (ltb n 128) Baudot (cond (ltb n 256) Dtmf Edt)
 
-abbrev pub sends_at : ℕ → Sends
+abbrev pub sends_at : ℕ → Option CharCode
 sends_at n = sends (alphabet_at n) (n % 128)
 
 -- an entry, a byte: 0 for a character that sends nothing. Only Baudot has shifts to hold; 0 is a code in EDT
-abbrev pub packed : Alphabet → Sends → ℕ
-packed a Nothing = 0
-packed Baudot (Code shift code) = 32 * shift + code.0
-packed Dtmf (Code shift code) = code.0
-packed Edt (Code shift code) = 128 + code.0
+abbrev pub packed : Alphabet → Option CharCode → ℕ
+packed a None = 0
+packed Baudot (Some o) = 32 * o.shift + o.code.0
+packed Dtmf (Some o) = o.code.0
+packed Edt (Some o) = 128 + o.code.0
 
 -- what an entry other than 0 says
-abbrev pub code_in : Alphabet → ℕ → Sends
-code_in Baudot e = Code (e / 32) (record { 0 = e % 32 })
-code_in Dtmf e = Code any_shift (record { 0 = e })
-code_in Edt e = Code any_shift (record { 0 = e % 128 })
+abbrev pub code_in : Alphabet → ℕ → Option CharCode
+code_in Baudot e = char_code (e / 32) (record { 0 = e % 32 })
+code_in Dtmf e = char_code any_shift (record { 0 = e })
+code_in Edt e = char_code any_shift (record { 0 = e % 128 })
 
-abbrev pub unpacked : Alphabet → ℕ → Sends
-unpacked a e = cond (eqb e 0) Nothing (code_in a e)
+abbrev pub unpacked : Alphabet → ℕ → Option CharCode
+unpacked a e = cond (eqb e 0) None (code_in a e)
 
 -- the entry of a number
 unfoldable pub entry_at : ℕ → ℕ

@@ -1,18 +1,12 @@
-use native.Mathlib.Omega.{arith}
-use Rattle.baudot_reading.proofs.ReadingRule.{shifts_left, shifts-end}
-use Rattle.baudot.proofs.CountingRule.{shifts-most}
+-- `count_block` meets its contract: the shift codes of a list are the sum over its codes.
+use mathlib.Core.Path.{◌≡◌, ◌∙◌, sym}
+use Rattle.std.specs.List.{sum_by}
+use Rattle.std.proofs.Common.{rules}
+use Rattle.baudot.specs.Counting.{shift_one}
+use Rattle.baudot_reading.proofs.ReadingRule.{shifts-sum}
 use Rattle.baudot_reading.proofs.count_block.Goals as goal
-
-pub overflow_add-n : goal.overflow_add-n
-overflow_add-n c =
-    let e = shifts_left c.args.codes.now c.loop-i.i c.loop-i-test.true in
-    omega (arith, e, c.shift_one-n.ensures, c.loop-i.invariant, shifts-most c.args.codes.now, c.requires)
-
-pub loop-i-preserved : goal.loop-i-preserved
-loop-i-preserved c =
-    let e = shifts_left c.args.codes.now c.loop-i.i c.loop-i-test.true in
-    omega (arith, e, c.shift_one-n.ensures, c.loop-i.invariant, shifts-most c.args.codes.now, c.requires)
 
 pub returns : goal.returns
 returns c =
-    omega (arith, shifts-end c.args.codes.now c.loop-i.i c.loop-i-test.false, c.loop-i.invariant)
+    let e : c.sum.result ≡ sum_by shift_one c.args.codes.now = search rules in
+    e ∙ sym (shifts-sum c.args.codes.now)

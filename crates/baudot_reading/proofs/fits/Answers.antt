@@ -13,14 +13,15 @@ pub returns-then-codes-room : goal.returns-then-codes-room
 returns-then-codes-room c =
     λ s.
     let l = text-short s c.args.codes.now in
-    sym (le-leb (length (text_of s c.args.codes.now)) c.args.room (omega (arith, c.if-codes-room.true, l)))
+    le-leb _ _ c.if-codes-room.true
+    ∙ sym (le-leb (length (text_of s c.args.codes.now)) c.args.room (omega (arith, c.if-codes-room.true, l)))
 
 pub overflow_sub-result : goal.overflow_sub-result
 overflow_sub-result c =
     omega (arith, c.count_shifts.ensures, shifts-most c.args.codes.now)
 
-pub returns : goal.returns
-returns c =
+pub returns-else-codes-room : goal.returns-else-codes-room
+returns-else-codes-room c =
     λ s.
     ap (λ (n : ℕ). leb (length c.args.codes.now - n) c.args.room) c.count_shifts.ensures
     ∙ ap (λ (n : ℕ). leb n c.args.room) (sym (text-count s c.args.codes.now))

@@ -4,7 +4,7 @@ use Rattle.alphabet.specs.declared.Alphabet.TheVariants.{Baudot}
 use Rattle.alphabet.specs.Baudot.{letters_code}
 use Rattle.alphabet.specs.Normal.{sends, is_code}
 use Rattle.baudot.specs.declared.Sender.{Sender}
-use Rattle.baudot_sending.specs.declared.Opening.{Opening}
+use Rattle.baudot_sending.specs.declared.Placed.{Placed}
 use Rattle.baudot.specs.Sending.{codes_of, sender_after, Running}
 
 -- The characters of a text ahead of the place n send nothing, and the one there sends a code.
@@ -17,10 +17,10 @@ pub record Silent (text : List ℕ) (n : ℕ) : Type 0 where
 abbrev pub opening_codes : ℕ → List ℕ
 opening_codes n = cond (eqb n 0) [] (letters_code ∷ [])
 
--- What is left to be sent from an opening, of a text and a sender.
-pub record Opened (text : List ℕ) (s : Sender) (o : Opening) : Type 0 where
-  pub at_in : o.at ≤ 1
-  pub from_in : o.from ≤ length text
-  pub running : o.from < length text → Running o.sender
-  pub codes-are : codes_of s text ≡ opening_codes o.at ++ codes_of o.sender (drop o.from text)
-  pub sender-is : sender_after s text ≡ sender_after o.sender (drop o.from text)
+-- What is left to be sent of a text by a sender: the rest, by the sender p from its place on.
+pub record Opened (text : List ℕ) (s : Sender) (rest : List ℕ) (p : Placed) : Type 0 where
+  pub at_in : p.at ≤ 1
+  pub shorter : length rest ≤ length text
+  pub running : 0 < length rest → Running p.sender
+  pub codes-are : codes_of s text ≡ opening_codes p.at ++ codes_of p.sender rest
+  pub sender-is : sender_after s text ≡ sender_after p.sender rest

@@ -21,8 +21,8 @@ level-requires c =
     let w = within-longest c.args.mode c.args.l.code.0 (search rules) in
     record { code_bound = c.requires.code-in; at_bound = omega (arith, c.if-part_ms-l.false) }
 
-pub returns : goal.returns
-returns c =
+pub returns-else-l-eq-PREAMBLE : goal.returns-else-l-eq-PREAMBLE
+returns-else-l-eq-PREAMBLE c =
     let in_code : c.args.l.part ≡ 2 = let h = c.if-part_ms-l.false in
     code-part c.args.mode c.args.l c.requires.part_in c.if-l-eq-PREAMBLE.false (omega (arith, h)) in
     c.level.ensures ∙ sym (level-code _ _ (in_code))

@@ -7,5 +7,5 @@ use Rattle.burst.proofs.one_gone.Goals as goal
 pub returns-then-part_ms-l : goal.returns-then-part_ms-l
 returns-then-part_ms-l c = sym (gone-none _ _ (omega (arith, c.if-part_ms-l.true)))
 
-pub returns : goal.returns
-returns c = sym (gone_one _ _ (omega (arith, c.if-part_ms-l.false)))
+pub returns-else-part_ms-l : goal.returns-else-part_ms-l
+returns-else-part_ms-l c = sym (gone_one _ _ (omega (arith, c.if-part_ms-l.false)))

@@ -6,5 +6,5 @@ use Rattle.burst.proofs.opening_begins.Goals as goal
 
 pub returns : goal.returns
 returns c =
-    simp c.code_at.ensures
+    simp c.code.ensures
     (shift_made _ _ c.shift_code.ensures ∙ ap shift_begins c.opening_shift-shift.ensures)

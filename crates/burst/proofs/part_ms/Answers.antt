@@ -3,17 +3,23 @@ use Rattle.burst.proofs.Laws.{code-ms}
 use mathlib.Core.Path.{◌∙◌, sym}
 use Rattle.burst.specs.Line.{part_ms}
 use lib.ListN.{length-replicate}
+use native.Mathlib.Omega.{arith}
 use borrow.Author.Tests.{ne_eqb}
 use Rattle.burst.proofs.part_ms.Goals as goal
 
-pub returns-then-l-eq-IDLE : goal.returns-then-l-eq-IDLE
+pub returns-in-0 : goal.returns-in-0
 unfolding part_ms
-returns-then-l-eq-IDLE c = simp c.if-l-eq-IDLE.true
+returns-in-0 c = simp c.in-0.is
 
-pub returns-then-l-eq-CODE : goal.returns-then-l-eq-CODE
-returns-then-l-eq-CODE c = c.duration.ensures ∙ sym (code-ms _ _ c.if-l-eq-CODE.true)
+pub returns-in-2 : goal.returns-in-2
+returns-in-2 c = c.duration.ensures ∙ sym (code-ms _ _ c.in-2.is)
 
-pub returns : goal.returns
+pub returns-in_default : goal.returns-in_default
 unfolding part_ms
-returns c =
-    simp (ne_eqb _ _ c.if-l-eq-IDLE.false, ne_eqb _ _ c.if-l-eq-CODE.false, c.preamble.ensures, length-replicate)
+returns-in_default c =
+    simp (
+      ne_eqb c.args.l.part 0 (λ e. omega arith),
+      ne_eqb c.args.l.part 2 (λ e. omega arith),
+      c.preamble.ensures,
+      length-replicate,
+    )

@@ -1,9 +1,9 @@
 -- The bounds that the functions of this crate ask for.
+use Rattle.std.specs.Prelude.{Option, Some, None}
+use Rattle.alphabet.specs.declared.CharCode.{CharCode}
 use Rattle.std.specs.Prelude.{ℕ, ◌≤◌, ◌<◌, ◌≡◌, true, length}
 use Rattle.alphabet.specs.declared.Alphabet.{Alphabet}
 use Rattle.alphabet.specs.declared.Mode.{Mode}
-use Rattle.alphabet.specs.declared.Sends.{Sends}
-use Rattle.alphabet.specs.declared.Sends.TheVariants.{Nothing, Code}
 use Rattle.alphabet.specs.Modes.{alphabet_of, codes}
 use Rattle.burst.specs.declared.OnLine.{OnLine}
 use Rattle.burst.specs.Line.{part_ms}
@@ -23,6 +23,6 @@ pub record CodeIn (a : Alphabet) (own n : ℕ) : Type 0 where
   pub own_in : own ≤ 3
   pub code_is : is_code_of a n ≡ true
 
-abbrev pub SendsIn : Alphabet → Sends → Type 0
-SendsIn a Nothing = Unit {0}
-SendsIn a (Code own k) = CodeIn a own k.0
+abbrev pub SendsIn : Alphabet → Option CharCode → Type 0
+SendsIn a None = Unit {0}
+SendsIn a (Some o) = CodeIn a o.shift o.code.0

@@ -1,4 +1,6 @@
-use mathlib.Core.Path.{◌∙◌, sym, ap}
+use lib.ListN.{length}
+use native.Mathlib.Omega.{arith}
+use mathlib.Core.Path.{◌≡◌, ◌∙◌, sym, ap}
 use mathlib.Core.Bool.{Bool}
 use Prim.Native.Nat.{ℕ, ◌+◌}
 use Rattle.half_duplex.specs.Core.{silence_after}
@@ -23,4 +25,5 @@ loop-i-preserved c =
 
 pub returns : goal.returns
 returns c =
-    sym (found-end c.loop-i.s c.args.deaf c.args.heard.now c.loop-i.i c.loop-i-test.false) ∙ c.loop-i.invariant
+    let z : length c.args.heard.now ≡ c.loop-i.i = omega arith in
+    z ∙ sym (found-end c.loop-i.s c.args.deaf c.args.heard.now c.loop-i.i (omega arith)) ∙ c.loop-i.invariant

@@ -1,7 +1,4 @@
 -- `report_after` meets its contract.
--- ---- the moments of the walk
--- ---- what is known then
--- ---- the needs
 use mathlib.Core.Path.{◌≡◌, ◌∙◌, sym, ap, subst}
 use mathlib.Core.Bool.{true}
 use mathlib.Core.List.{List}

@@ -7,10 +7,11 @@ use mir.Syntax.{w32}
 use mir.Val.{SFits, to_z, of_z}
 use mir.ValLaws.{to_z-of_z}
 use borrow.Author.Tests.{ne_eqb}
+use Rattle.std.specs.Int.{int_min, int_max}
 use Rattle.edges.specs.declared.Report.{Report}
 use Rattle.edges.specs.Edges.{report, smaller, larger, joined}
 use Rattle.edges.specs.code.Bounds.{ReportOf}
-use Rattle.edges.proofs.Integers.{fits-32, sum-size, smaller-size, larger-size}
+use Rattle.edges.proofs.Integers.{fits-32, sum-size, smaller-size, larger-size, least, most}
 use Rattle.edges.proofs.joined.Goals as goal
 
 abbrev stored : ℤ → ℤ
@@ -42,27 +43,29 @@ module _ {a b : Report} (h : ReportOf 1_000_000 a) (k : ReportOf 1_000_000 b) wh
       let s = sum-size a.sum b.sum in
       subst (SFits w32) (sym both-sum) (fits-32 (a.sum +ℤ b.sum) 22_000_000 (omega arith) (omega arith))
 
-  smallest-of : {z : ℤ} → z ≡ smaller (stored a.smallest) (stored b.smallest)
+  smallest-of : {z : ℤ} → z ≡ int_min (stored a.smallest) (stored b.smallest)
       → stored z ≡ smaller a.smallest b.smallest
   smallest-of {z} e =
       let s = smaller a.smallest b.smallest in
       let n = smaller-size 11 a.smallest b.smallest h.smallest_in k.smallest_in in
-      let p : z ≡ s = e ∙ (λ i. smaller (smallest-is h i) (smallest-is k i)) in
+      let l = least (stored a.smallest) (stored b.smallest) in
+      let p : z ≡ s = e ∙ l ∙ (λ i. smaller (smallest-is h i) (smallest-is k i)) in
       ap stored p
       ∙ to_z-of_z w32 s (fits-32 s 11 n (omega arith))
 
-  largest-of : {z : ℤ} → z ≡ larger (stored a.largest) (stored b.largest)
+  largest-of : {z : ℤ} → z ≡ int_max (stored a.largest) (stored b.largest)
       → stored z ≡ larger a.largest b.largest
   largest-of {z} e =
       let s = larger a.largest b.largest in
       let n = larger-size 11 a.largest b.largest h.largest_in k.largest_in in
-      let p : z ≡ s = e ∙ (λ i. larger (largest-is h i) (largest-is k i)) in
+      let l = most (stored a.largest) (stored b.largest) in
+      let p : z ≡ s = e ∙ l ∙ (λ i. larger (largest-is h i) (largest-is k i)) in
       ap stored p
       ∙ to_z-of_z w32 s (fits-32 s 11 n (omega arith))
 
   made : {y z : ℤ} → (a.edges ≡ 0 → ⊥) → (b.edges ≡ 0 → ⊥)
-      → y ≡ smaller (stored a.smallest) (stored b.smallest)
-      → z ≡ larger (stored a.largest) (stored b.largest)
+      → y ≡ int_min (stored a.smallest) (stored b.smallest)
+      → z ≡ int_max (stored a.largest) (stored b.largest)
       → report (a.edges + b.edges) (stored (stored a.sum +ℤ stored b.sum)) (stored y) (stored z) ≡ joined a b
   unfolding joined
   made n m e g =
@@ -83,4 +86,4 @@ overflow_add-result-2 c = sum_fits c.requires.report_of c.requires.report_of_2
 pub returns : goal.returns
 returns c =
     made c.requires.report_of c.requires.report_of_2 c.if-a-eq0.false c.if-b-eq0.false
-    c.smaller.ensures c.larger.ensures
+    c.min.ensures.value c.max.ensures.value

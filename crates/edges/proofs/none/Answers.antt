@@ -5,4 +5,4 @@ use Rattle.edges.specs.Edges.{edges}
 use Rattle.edges.proofs.none.Goals as goal
 
 pub returns : goal.returns
-returns c = ap (λ (r : Report). edges r 0) c.no_edge-seen.ensures
+returns c = ap (λ (r : Report). edges r 0) c.no_edge.ensures

@@ -1,5 +1,5 @@
 -- The edges that count, from frame to frame.
-use Rattle.std.specs.Prelude.{ℕ, ◌-◌, ◌≤◌, ◌<◌, ◌≡◌, Bool, true, false, cond, List, ltb, length, get_or}
+use Rattle.std.specs.Prelude.{ℕ, ◌-◌, ◌≤◌, ◌<◌, ◌≡◌, Bool, true, false, cond, List, Option, ltb, length, get_or, MatchOption}
 use Rattle.alphabet.specs.declared.Mode.{Mode}
 use Rattle.frames.specs.declared.Frame.{Frame}
 use Rattle.frames.specs.declared.samples.Effect.{Effect}
@@ -7,7 +7,9 @@ use Rattle.frames.specs.declared.samples.Effect.TheVariants.{On, Hunts, Breaks, 
 use Rattle.frames.specs.Samples.{samples_of}
 use Rattle.frames.specs.Frames.{frame_next, frame_found}
 use Rattle.frames.specs.code.Bounds.{FrameOf}
+use Rattle.frames_runs.specs.declared.Walk.{Walk}
 use Rattle.frames_runs.specs.code.Passing.{frame_at, FrameWalks}
+use Rattle.frames_runs.specs.code.Walking.{frame_of}
 use Rattle.edges.specs.declared.Report.{Report}
 use Rattle.edges.specs.declared.Edges.{Edges}
 use Rattle.edges.specs.Edges.{no_edge, joined, with_ms, is_code}
@@ -51,11 +53,19 @@ pub record EndsSo (mode : Mode) (f : Frame) (x : ℕ) (p : Ended) : Type 0 where
   pub next : frame_next (samples_of mode) f x ≡ frame_at p.next 0
   pub code : is_code (frame_found (samples_of mode) f x) ≡ p.code
 
--- From the place i of a list on, a reader is reached before the ms that ends a frame, or at the end of the list.
-pub record EndedAt (mode : Mode) (heard : List ℕ) (f : Frame) (i : ℕ) (p : Ended) : Type 0 where
+-- A walk comes to the ms that ends the next frame, or to the end of the list.
+pub record EndedAt (mode : Mode) (heard : List ℕ) (w : Walk) (p : Ended) : Type 0 where
   pub frame : Frame
-  pub reached : Reached mode heard f i frame p.to
-  pub ends : p.to < length heard → EndsSo mode frame (get_or heard p.to 0) p
+  pub reached : Reached mode heard (frame_of w) w.to frame p.to
+  pub inside : p.to < length heard
+  pub ends : EndsSo mode frame (get_or heard p.to 0) p
+
+pub record EndsNone (mode : Mode) (heard : List ℕ) (w : Walk) : Type 0 where
+  pub frame : Frame
+  pub reached : Reached mode heard (frame_of w) w.to frame (length heard)
+
+abbrev pub NextEnd : Mode → List ℕ → Walk → Option Ended → Type 0
+NextEnd mode heard w p = MatchOption p (EndsNone mode heard w) (λ q. EndedAt mode heard w q)
 
 -- A report with the edges of a frame at some place, with the ms x, if a code was found in it.
 abbrev pub with_code : ℕ → ℕ → Edges → ℕ → Bool → Report → Report

@@ -15,13 +15,10 @@ unfoldable pub Goes : ℕ → ℕ → Edges → List ℕ → ℕ → Edges → T
 Goes e p w [] p' w' = (p ≡ p') × (w ≡ w')
 Goes e p w (x ∷ xs) p' w' = (q : ℕ) × (v : Edges) × OneMs e p w x q v × Goes e q v xs p' w'
 
--- Ms of a list, from a place to another, that may be added to the edges of a frame of elements of e ms; the first of
--- them is ms m of the frame.
-pub record SliceOf (e m : ℕ) (w : Edges) (heard : List ℕ) (from to : ℕ) : Type 0 where
+-- Ms that may be added to the edges of a frame of elements of e ms; the first of them is ms m of the frame.
+pub record SliceOf (e m : ℕ) (w : Edges) (heard : List ℕ) : Type 0 where
   pub some : 1 ≤ e
   pub few : e ≤ 22
   pub place : m ≤ 255
-  pub low : from ≤ to
-  pub high : to ≤ length heard
   pub short : length heard ≤ 4_096
   pub report : ReportOf 900_000 w.seen

@@ -24,12 +24,12 @@ pub returns-in-On : goal.returns-in-On
 returns-in-On c =
     let d = c.in-On.digits in
     known _ _ (c.args.f.place - 1) c.args.f.digits _ c.in-On.is
-    (c.at.ensures
+    (c.nothing.ensures
     ∙ ap (λ (p : ℕ). gives (record { place = p; digits = d }) Nothing)
     (place-on c.args.f.place c.requires.in_frame.at_least))
 
 pub returns-in-Hunts : goal.returns-in-Hunts
-returns-in-Hunts c = known _ _ _ _ _ c.in-Hunts.is c.at-in-Hunts.ensures
+returns-in-Hunts c = known _ _ _ _ _ c.in-Hunts.is c.nothing-in-Hunts.ensures
 
 pub returns-in-Breaks : goal.returns-in-Breaks
 returns-in-Breaks c = known _ _ _ _ _ c.in-Breaks.is c.fault.ensures

@@ -1,31 +1,23 @@
 -- `frame_step` meets its contract: hunting, waiting, in a frame.
-use native.Mathlib.Omega.{arith}
 use borrow.Author.Tests.{ne_eqb}
 use Rattle.frames.specs.Frames.{frame_step}
 use Rattle.frames.proofs.frame_step.Goals as goal
+use Rattle.frames.proofs.frame_step.Goals.{in-0+else-heard-eq-SPACE, in-1+else-heard-eq-SPACE-2}
 
-pub returns-then-heard-eq2 : goal.returns-then-heard-eq2
+pub returns-in-0 : goal.returns-in-0
 unfolding frame_step
-returns-then-heard-eq2 c =
-    simp (c.at.ensures, c.if-f-eq-HUNTING.true, c.if-heard-eq2.true)
+returns-in-0 c = simp (c.nothing.ensures, c.in-0.is, c.if-heard-eq-SPACE.true)
 
-pub returns-then-f-eq-HUNTING : goal.returns-then-f-eq-HUNTING
+pub returns-in-1 : goal.returns-in-1
 unfolding frame_step
-returns-then-f-eq-HUNTING c =
-    simp (c.at-then-f-eq-HUNTING.ensures, c.if-f-eq-HUNTING.true, ne_eqb _ _ c.if-heard-eq2.false)
+returns-in-1 c = simp (c.nothing-in-1.ensures, c.in-1.is, c.if-heard-eq-SPACE-2.true)
 
-pub returns-then-heard-eq2-2 : goal.returns-then-heard-eq2-2
+pub returns-in-0-2 : goal.returns-in-0-2
 unfolding frame_step
-returns-then-heard-eq2-2 c =
-    simp (c.at-then-heard-eq2-2.ensures, c.if-f-eq-WAITING.true, c.if-heard-eq2-2.true)
-
-pub returns-then-f-eq-WAITING : goal.returns-then-f-eq-WAITING
-unfolding frame_step
-returns-then-f-eq-WAITING c =
-    simp (c.at-then-f-eq-WAITING.ensures, c.if-f-eq-WAITING.true, ne_eqb _ _ c.if-heard-eq2-2.false)
-
-pub in_frame-requires : goal.in_frame-requires
-in_frame-requires c =
-    let h = c.if-f-eq-HUNTING.false in
-    let w = c.if-f-eq-WAITING.false in
-    record { frame_of = c.requires; le_place = omega arith }
+returns-in-0-2 c =
+    elim c.in-0-2-1.branch [
+      | in-0+else-heard-eq-SPACE w ↦
+          simp (c.nothing-in-0-2.ensures, w.in-0.is, ne_eqb _ _ w.if-heard-eq-SPACE.false)
+      | in-1+else-heard-eq-SPACE-2 w ↦
+          simp (c.nothing-in-0-2.ensures, w.in-1.is, ne_eqb _ _ w.if-heard-eq-SPACE-2.false)
+    ]

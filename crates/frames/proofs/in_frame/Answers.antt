@@ -1,6 +1,4 @@
 -- `in_frame` meets its contract: a sample falls on a ms if the next one from there on does.
--- ---- the moments of the walk
--- ---- what each moment needs
 use mathlib.Core.Path.{◌≡◌, ◌∙◌, sym, ap, subst}
 use Prim.Native.Nat.{ℕ, ◌-◌, ◌<◌}
 use native.Mathlib.Omega.{arith}
@@ -24,14 +22,14 @@ overflow_add-f c =
     let p = place-255 c.args.mode _ c.requires.frame_of in
     omega arith
 
-pub returns-then-sample_ms-m : goal.returns-then-sample_ms-m
-returns-then-sample_ms-m c =
+pub returns-else-sample_ms-m : goal.returns-else-sample_ms-m
+returns-else-sample_ms-m c =
     let ms_is : c.sample_ms.result ≡ sample_ms c.args.mode c.number_at-j.result = c.sample_ms.ensures in
-    c.at.ensures
+    c.nothing.ensures
     ∙ sym
     (in-frame-none _ _ _ c.requires.le_place
     (not_on c.args.mode (c.args.f.place - 1)
-    (λ e. c.if-sample_ms-m.true (ms_is ∙ ap (sample_ms c.args.mode) c.number_at-j.ensures ∙ e))))
+    (λ e. c.if-sample_ms-m.false (ms_is ∙ ap (sample_ms c.args.mode) c.number_at-j.ensures ∙ e))))
 
 pub effect_of-requires : goal.effect_of-requires
 effect_of-requires c =
@@ -48,7 +46,7 @@ done-requires c =
     let done-as : sampled (sample_at (samples_of c.args.mode) (c.args.f.place - 1)) (c.args.f.place - 1) c.args.f.digits
     c.args.heard ≡ done_by c.effect_of.result (c.args.f.place - 1) c.args.f.digits = let ms_is : c.sample_ms.result
     ≡ sample_ms c.args.mode c.number_at-j.result = c.sample_ms.ensures in let m = c.args.f.place - 1 in
-    let e = sym c.if-sample_ms-m.false ∙ ms_is in ap (λ (n : ℕ). sampled (sample_at (samples_of c.args.mode) n) m
+    let e = sym c.if-sample_ms-m.true ∙ ms_is in ap (λ (n : ℕ). sampled (sample_at (samples_of c.args.mode) n) m
     c.args.f.digits c.args.heard) e ∙ c.effect_of.ensures m in
     let l = c.requires.le_place in
     record {
@@ -57,11 +55,11 @@ done-requires c =
           (digits-few _ _ c.args.heard c.requires.frame_of l);
     }
 
-pub returns : goal.returns
-returns c =
+pub returns-then-sample_ms-m : goal.returns-then-sample_ms-m
+returns-then-sample_ms-m c =
     let done-as : sampled (sample_at (samples_of c.args.mode) (c.args.f.place - 1)) (c.args.f.place - 1) c.args.f.digits
     c.args.heard ≡ done_by c.effect_of.result (c.args.f.place - 1) c.args.f.digits = let ms_is : c.sample_ms.result
     ≡ sample_ms c.args.mode c.number_at-j.result = c.sample_ms.ensures in let m = c.args.f.place - 1 in
-    let e = sym c.if-sample_ms-m.false ∙ ms_is in ap (λ (n : ℕ). sampled (sample_at (samples_of c.args.mode) n) m
+    let e = sym c.if-sample_ms-m.true ∙ ms_is in ap (λ (n : ℕ). sampled (sample_at (samples_of c.args.mode) n) m
     c.args.f.digits c.args.heard) e ∙ c.effect_of.ensures m in
     c.done.ensures ∙ sym (in_frame-step _ _ _ c.requires.le_place ∙ done-as)

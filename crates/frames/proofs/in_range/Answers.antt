@@ -15,15 +15,16 @@ overflow_add-last_sample c =
     let n = last-few mode in
     omega arith
 
-pub returns-then-last_sample-f : goal.returns-then-last_sample-f
-returns-then-last_sample-f c =
-    let l = c.last_sample.ensures ∙ last-is c.args.mode in
-    simp (lt-leb c.args.f.place (last_ms (samples_of c.args.mode) + 1) (omega (arith, c.if-last_sample-f.true)))
-
-pub returns : goal.returns
-returns c =
+pub returns-then-f-last_sample : goal.returns-then-f-last_sample
+returns-then-f-last_sample c =
     let l = c.last_sample.ensures ∙ last-is c.args.mode in
     simp (
-      le-leb c.args.f.place (last_ms (samples_of c.args.mode) + 1) (omega (arith, c.if-last_sample-f.false)),
+      le-leb c.args.f.place (last_ms (samples_of c.args.mode) + 1) (omega (arith, c.if-f-last_sample.true)),
       c.frame_codes.ensures,
     )
+
+pub returns-else-f-last_sample : goal.returns-else-f-last_sample
+returns-else-f-last_sample c =
+    let l = c.last_sample.ensures ∙ last-is c.args.mode in
+    let n = lt-leb c.args.f.place (last_ms (samples_of c.args.mode) + 1) (omega (arith, c.if-f-last_sample.false)) in
+    simp (l, n)

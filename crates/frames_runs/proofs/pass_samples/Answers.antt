@@ -1,107 +1,11 @@
-use mathlib.Core.Path.{refl, subst}
-use Prim.Native.Nat.{◌+◌, ◌≤◌}
-use native.Mathlib.Omega.{arith}
-use lib.ListN.{get_or}
-use Rattle.frames.proofs.Range.{place-255}
-use Rattle.frames.specs.code.Samples.{kind_of, Does}
-use Rattle.frames_runs.proofs.Numbered.{samples-few, next_of, ms-grows, ms-few}
-use Rattle.frames_runs.proofs.Framing.{stops, ahead-start, ahead-end, ahead-here, ahead-hunts, ahead-turn}
+use mathlib.Core.Path.{◌∙◌, ap}
+use Rattle.std.specs.Prelude.{Some}
+use Rattle.frames.specs.declared.samples.Effect.{Effect}
+use Rattle.frames_runs.proofs.Framing.{hunts-on}
 use Rattle.frames_runs.proofs.pass_samples.Goals as goal
 
-pub number_at-j-requires : goal.number_at-j-requires
-number_at-j-requires c =
-    let p = place-255 c.args.mode _ c.requires.frame_of in omega arith
-
-pub sample_ms-s-requires : goal.sample_ms-s-requires
-sample_ms-s-requires c =
-    let n = next_of c.args.mode _ _ c.requires.frame_of c.requires.le_place _ _ c.number_at-j.ensures refl in
-    let number = n.number in
-    let few = samples-few c.args.mode in
-    omega arith
-
-pub overflow_sub-at : goal.overflow_sub-at
-overflow_sub-at c =
-    let n = next_of c.args.mode _ _ c.requires.frame_of c.requires.le_place _ _ c.number_at-j.ensures
-    c.sample_ms-s.ensures in
-    n.low
-
-pub overflow_add-at : goal.overflow_add-at
-overflow_add-at c =
-    let n = next_of c.args.mode _ _ c.requires.frame_of c.requires.le_place _ _ c.number_at-j.ensures
-    c.sample_ms-s.ensures in
-    let high = n.high in
-    omega arith
-
-pub loop-at-init : goal.loop-at-init
-loop-at-init c =
-    let i = c.requires.i_in_bounds in
-    ahead-start c.args.mode c.requires.framed _ _ c.requires.frame_of _ _ _ refl c.requires.le_place (omega arith) _ _
-    c.number_at-j.ensures c.sample_ms-s.ensures
-
-pub returns-in_default-e : goal.returns-in_default-e
-returns-in_default-e c =
-    record {
-      frame_passes = ahead-here c.args.mode c.requires.framed _ _ c.requires.frame_of _ _ _ _ _
-          c.loop-at.invariant c.loop-at-test.true;
-      i_lt_to = stops _ _;
-    }
-
-pub returns-in_default : goal.returns-in_default
-returns-in_default c =
-    let x = get_or c.args.heard.now c.loop-at.at 0 in
-    let from = c.loop-at.invariant.from in
-    record {
-      frame_passes = ahead-hunts c.args.mode c.requires.framed _ _ c.requires.frame_of _ _ _ _ _
-          c.loop-at.invariant c.loop-at-test.true
-          (subst (Does (kind_of c.args.mode c.loop-at.j) c.loop-at.d x) c.in-Hunts.is c.effect_of-e.ensures);
-      i_lt_to = λ e. omega arith;
-    }
-
-pub overflow_add-j : goal.overflow_add-j
-overflow_add-j c =
-    let few-of : c.loop-at.j ≤ 10 = let n = c.loop-at.invariant.number in let few = samples-few c.args.mode in
-    omega arith in
-    let few = few-of in omega arith
-
-pub sample_ms-next-requires : goal.sample_ms-next-requires
-sample_ms-next-requires c =
-    let few-of : c.loop-at.j ≤ 10 = let n = c.loop-at.invariant.number in let few = samples-few c.args.mode in
-    omega arith in
-    let few = few-of in omega arith
-
-pub overflow_sub-at-in-loop-at : goal.overflow_sub-at-in-loop-at
-overflow_sub-at-in-loop-at c =
-    let ms = c.loop-at.invariant.ms in
-    let grows = ms-grows c.args.mode c.loop-at.j in
-    omega arith
-
-pub overflow_add-at-in-loop-at : goal.overflow_add-at-in-loop-at
-overflow_add-at-in-loop-at c =
-    let few-of : c.loop-at.j ≤ 10 = let n = c.loop-at.invariant.number in let few = samples-few c.args.mode in
-    omega arith in
-    let t = c.loop-at-test.true in
-    let n = few-of in
-    let few = ms-few c.args.mode (c.loop-at.j + 1) (omega arith) in
-    omega arith
-
-pub loop-at-smaller : goal.loop-at-smaller
-loop-at-smaller c =
-    let t = c.loop-at-test.true in
-    let ms = c.loop-at.invariant.ms in
-    let grows = ms-grows c.args.mode c.loop-at.j in
-    omega arith
-
-pub loop-at-preserved : goal.loop-at-preserved
-loop-at-preserved c =
-    let x = get_or c.args.heard.now c.loop-at.at 0 in
-    ahead-turn c.args.mode c.requires.framed _ _ c.requires.frame_of _ _ _ _ _ c.loop-at.invariant c.loop-at-test.true _
-    (subst (Does (kind_of c.args.mode c.loop-at.j) c.loop-at.d x) c.in-On.is
-    c.effect_of-e.ensures) _ _ _ refl c.sample_ms-next.ensures refl
-
-pub returns : goal.returns
-returns c =
-    record {
-      frame_passes = ahead-end c.args.mode c.requires.framed _ _ c.requires.frame_of _ _ _ _ _
-          c.loop-at.invariant c.loop-at-test.false;
-      i_lt_to = stops _ _;
-    }
+pub returns-in-Some-Hunts : goal.returns-in-Some-Hunts
+returns-in-Some-Hunts c =
+    let e = rw c.in-Some-Hunts.is at c.in-Some-Hunts.field-0-is in
+    hunts-on c.args.mode c.requires.framed _ _ c.to_stop-s.result c.to_stop-s.ensures
+    (c.in-Some-Hunts.is ∙ ap (λ (e : Effect). Some e) e)

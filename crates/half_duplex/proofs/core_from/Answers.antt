@@ -1,6 +1,4 @@
 -- `core_from` meets its contract.
--- ---- the moments of the walk
--- ---- what each moment needs
 use mathlib.Core.Path.{sym, subst}
 use Rattle.alphabet.specs.declared.Mode.{Mode}
 use Rattle.burst.specs.code.Bounds.{LineIn}

@@ -4,4 +4,4 @@ use Rattle.half_duplex.proofs.settle_by.Goals as goal
 
 pub returns : goal.returns
 returns c =
-    c.next_code.ensures ∙ simp (c.of.ensures, c.begun-line.ensures)
+    c.next_code.ensures ∙ simp (c.of.ensures, c.begun.ensures)

@@ -1,6 +1,4 @@
 -- `step_by` meets its contract.
--- ---- the moments of the walk
--- ---- what each moment needs
 use Rattle.half_duplex.proofs.step_by.Goals as goal
 
 pub level_on-sent-requires : goal.level_on-sent-requires

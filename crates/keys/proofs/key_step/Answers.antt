@@ -25,9 +25,9 @@ returns-then-ms-eq-KEY_MS c =
       c.if-ms-eq-KEY_MS.true,
     )
 
-pub returns : goal.returns
+pub returns-else-ms-eq-KEY_MS : goal.returns-else-ms-eq-KEY_MS
 unfolding key_step
-returns c =
+returns-else-ms-eq-KEY_MS c =
     simp (
       sym c.ms_after-ms.ensures,
       c.if-k-ne0.false,

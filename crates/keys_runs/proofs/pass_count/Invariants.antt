@@ -1,6 +1,4 @@
--- `pass_count` meets its contract. The invariant: no key counts up to the place.
--- ---- the moments of the walk
--- ---- what each moment needs
+-- The invariant: no key counts up to the place.
 use Prim.Native.Nat.{◌-◌}
 use lib.ListN.{length}
 use Rattle.keys.specs.Keys.{keys_at}

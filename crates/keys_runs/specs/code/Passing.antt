@@ -7,7 +7,7 @@ use Rattle.signal.specs.Signal.{quiet}
 use Rattle.keys.specs.declared.Keys.{Keys}
 use Rattle.keys.specs.Keys.{keys_at, quiet_ms, key_next, key_counts}
 use Rattle.keys.specs.code.Bounds.{KeysIn, is_key}
-use Rattle.keys_runs.specs.declared.Keyed.{Keyed}
+use Rattle.keys_runs.specs.declared.levels.Keyed.{Keyed}
 
 abbrev pub keys_of : Keyed → Keys
 keys_of k = keys_at k.key k.ms k.needed

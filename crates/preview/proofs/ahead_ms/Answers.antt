@@ -28,15 +28,15 @@ overflow_add-result c =
     let h = preamble-300 (mode_in core) in
     omega arith
 
-pub returns-then-l-eq-IDLE : goal.returns-then-l-eq-IDLE
-returns-then-l-eq-IDLE c =
+pub returns-then-c-eq-IDLE : goal.returns-then-c-eq-IDLE
+returns-then-c-eq-IDLE c =
     let core : Core = c.args.c in
     let preamble-is : c.preamble.result ≡ preamble_of (mode_in core) = c.preamble.ensures
     ∙ ap preamble_of c.of-mode.ensures in
-    rw (c.if-l-eq-IDLE.true, preamble-is) refl
+    rw (c.if-c-eq-IDLE.true, preamble-is) refl
 
-pub overflow_sub-result-2 : goal.overflow_sub-result-2
-overflow_sub-result-2 c =
+pub overflow_sub-result-else-c-eq-IDLE : goal.overflow_sub-result-else-c-eq-IDLE
+overflow_sub-result-else-c-eq-IDLE c =
     let part-core : Core = c.args.c in
     let part-is : c.part_ms.result ≡ length (part_ms (mode_in part-core) part-core.line) = c.part_ms.ensures
     ∙ ap (λ (mode : Mode). length (part_ms mode part-core.line)) c.of-mode.ensures in
@@ -44,9 +44,9 @@ overflow_sub-result-2 c =
     let h = c.requires.line-in.at_in in
     omega arith
 
-pub returns : goal.returns
-returns c =
+pub returns-else-c-eq-IDLE : goal.returns-else-c-eq-IDLE
+returns-else-c-eq-IDLE c =
     let part-core : Core = c.args.c in
     let part-is : c.part_ms.result ≡ length (part_ms (mode_in part-core) part-core.line) = c.part_ms.ensures
     ∙ ap (λ (mode : Mode). length (part_ms mode part-core.line)) c.of-mode.ensures in
-    rw (ne_eqb _ _ c.if-l-eq-IDLE.false, part-is) refl
+    rw (ne_eqb _ _ c.if-c-eq-IDLE.false, part-is) refl

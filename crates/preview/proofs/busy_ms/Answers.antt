@@ -10,6 +10,7 @@ use native.Mathlib.Omega.{arith}
 use Rattle.burst.specs.Line.{begun}
 use Rattle.half_duplex.specs.Core.{mode_in}
 use Rattle.preview.specs.code.Count.{chars_ms, behind_ms, some_ms}
+use Rattle.preview.proofs.Lowers.{max-some}
 use borrow.Author.Rules.{rules}
 use Rattle.preview.proofs.busy_ms.Goals as goal
 
@@ -24,7 +25,6 @@ codes_in-behind-requires c =
     let chars : List ℕ = c.args.own.now ++ c.args.text.now in
     let b = behind chars in
     record {
-      table_value = c.lay_out_all.ensures;
       text_value = c.requires.text_value;
       sender_in = c.opened-first.ensures.0;
       text_bound = omega arith;
@@ -50,4 +50,4 @@ returns c =
     ∙ (λ j. behind_ms (c.of-mode.ensures j) (c.begun.ensures j) c.args.c.sender cs) in
     let codes-are : c.codes_in-behind.result ≡ behind_ms (mode_in c.args.c) (begun true c.args.c.line) c.args.c.sender
     chars = c.codes_in-behind.ensures ∙ behind chars in
-    c.some_ms.ensures ∙ (λ j. some_ms (c.ahead_ms.ensures j + codes-are j))
+    c.max.ensures ∙ max-some _ ∙ (λ j. some_ms (c.ahead_ms.ensures j + codes-are j))

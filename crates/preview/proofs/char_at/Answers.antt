@@ -18,6 +18,6 @@ pub returns-then-i-own : goal.returns-then-i-own
 returns-then-i-own c =
     sym (get_or-append c.args.own.now c.args.text.now 0 c.args.i c.if-i-own.true)
 
-pub returns : goal.returns
-returns c =
+pub returns-else-i-own : goal.returns-else-i-own
+returns-else-i-own c =
     sym (behind c.args.own.now c.args.text.now c.args.i c.if-i-own.false)

@@ -21,14 +21,14 @@ loop-i-init c =
 pub char_at-requires : goal.char_at-requires
 char_at-requires c = c.loop-i-test.true
 
-pub lookup_in-sends-requires : goal.lookup_in-sends-requires
-lookup_in-sends-requires c =
+pub lookup-sends-requires : goal.lookup-sends-requires
+lookup-sends-requires c =
     let cs : List ℕ = c.args.own.now ++ c.args.text.now in
     let inside : c.loop-i.i < length cs = let h = c.loop-i-test.true in
     let e = length-append c.args.own.now c.args.text.now in omega arith in
     let low : c.char_at.result.0 < 128 = subst (λ (x : ℕ). x < 128) (sym c.char_at.ensures)
     (char-low _ _ _ c.requires.text_value _ _ _ c.loop-i.invariant inside) in
-    record { table_value = c.requires.table_value; c_bound = low }
+    low
 
 pub whole_code-next-requires : goal.whole_code-next-requires
 whole_code-next-requires c =
@@ -40,7 +40,7 @@ whole_code-next-requires c =
     record {
       sender_in = c.loop-i.invariant.sender-in;
       sends_in =
-          subst (SendsIn _) (sym c.lookup_in-sends.ensures) (sends-in _ _ low);
+          subst (SendsIn _) (sym c.lookup-sends.ensures) (sends-in _ _ low);
     }
 
 pub overflow_add-ms : goal.overflow_add-ms
@@ -50,12 +50,12 @@ overflow_add-ms c =
     let e = length-append c.args.own.now c.args.text.now in omega arith in
     let a : Alphabet = alphabet_of c.args.mode in
     let alphabet-is : c.args.a ≡ a = c.requires.a_value in
-    let sends-is : c.lookup_in-sends.result ≡ sends a (get_or cs c.loop-i.i 0) = c.lookup_in-sends.ensures
+    let sends-is : c.lookup-sends.result ≡ sends a (get_or cs c.loop-i.i 0) = c.lookup-sends.ensures
     ∙ (λ j. sends (alphabet-is j) (c.char_at.ensures j)) in
     let code_is : c.whole_code-next.result ≡ whole c.args.mode
-    (next_for a idle c.loop-i.sender c.lookup_in-sends.result) = c.whole_code-next.ensures
+    (next_for a idle c.loop-i.sender c.lookup-sends.result) = c.whole_code-next.ensures
     ∙ (λ j. whole c.args.mode (next_for (alphabet-is j) (c.idle.ensures j) c.loop-i.sender
-    c.lookup_in-sends.result)) in
+    c.lookup-sends.result)) in
     let w = within _ _ _ c.requires.text_value _ _ _ c.loop-i.invariant inside _ sends-is _
     code_is _ c.code_ms.ensures in
     omega arith
@@ -73,12 +73,12 @@ loop-i-smaller c =
     let e = length-append c.args.own.now c.args.text.now in omega arith in
     let a : Alphabet = alphabet_of c.args.mode in
     let alphabet-is : c.args.a ≡ a = c.requires.a_value in
-    let sends-is : c.lookup_in-sends.result ≡ sends a (get_or cs c.loop-i.i 0) = c.lookup_in-sends.ensures
+    let sends-is : c.lookup-sends.result ≡ sends a (get_or cs c.loop-i.i 0) = c.lookup-sends.ensures
     ∙ (λ j. sends (alphabet-is j) (c.char_at.ensures j)) in
     let code_is : c.whole_code-next.result ≡ whole c.args.mode
-    (next_for a idle c.loop-i.sender c.lookup_in-sends.result) = c.whole_code-next.ensures
+    (next_for a idle c.loop-i.sender c.lookup-sends.result) = c.whole_code-next.ensures
     ∙ (λ j. whole c.args.mode (next_for (alphabet-is j) (c.idle.ensures j) c.loop-i.sender
-    c.lookup_in-sends.result)) in
+    c.lookup-sends.result)) in
     let turns : Turned _ _ _ c.requires.text_value _ _ _ c.loop-i.invariant inside _ sends-is _ code_is _
     c.code_ms.ensures c.place_after-i.result = turned _ _ _ c.requires.text_value _ _ _ c.loop-i.invariant inside _
     sends-is _ code_is _ c.code_ms.ensures _ c.place_after-i.ensures in
@@ -91,12 +91,12 @@ loop-i-preserved c =
     let e = length-append c.args.own.now c.args.text.now in omega arith in
     let a : Alphabet = alphabet_of c.args.mode in
     let alphabet-is : c.args.a ≡ a = c.requires.a_value in
-    let sends-is : c.lookup_in-sends.result ≡ sends a (get_or cs c.loop-i.i 0) = c.lookup_in-sends.ensures
+    let sends-is : c.lookup-sends.result ≡ sends a (get_or cs c.loop-i.i 0) = c.lookup-sends.ensures
     ∙ (λ j. sends (alphabet-is j) (c.char_at.ensures j)) in
     let code_is : c.whole_code-next.result ≡ whole c.args.mode
-    (next_for a idle c.loop-i.sender c.lookup_in-sends.result) = c.whole_code-next.ensures
+    (next_for a idle c.loop-i.sender c.lookup-sends.result) = c.whole_code-next.ensures
     ∙ (λ j. whole c.args.mode (next_for (alphabet-is j) (c.idle.ensures j) c.loop-i.sender
-    c.lookup_in-sends.result)) in
+    c.lookup-sends.result)) in
     let turns : Turned _ _ _ c.requires.text_value _ _ _ c.loop-i.invariant inside _ sends-is _ code_is _
     c.code_ms.ensures c.place_after-i.result = turned _ _ _ c.requires.text_value _ _ _ c.loop-i.invariant inside _
     sends-is _ code_is _ c.code_ms.ensures _ c.place_after-i.ensures in

@@ -6,7 +6,6 @@ pub codes-requires : goal.codes-requires
 codes-requires c =
     record {
       a_value = refl;
-      table_value = c.requires.table_value;
       text_value = c.requires.text_value;
       sender_in = c.requires.sender_in;
       text_bound = rw c.in-Baudot45.is at c.requires.text_bound;
@@ -16,7 +15,6 @@ pub codes-requires-in-Baudot50 : goal.codes-requires-in-Baudot50
 codes-requires-in-Baudot50 c =
     record {
       a_value = refl;
-      table_value = c.requires.table_value;
       text_value = c.requires.text_value;
       sender_in = c.requires.sender_in;
       text_bound = rw c.in-Baudot50.is at c.requires.text_bound;
@@ -26,7 +24,6 @@ pub codes-requires-in-Dtmf : goal.codes-requires-in-Dtmf
 codes-requires-in-Dtmf c =
     record {
       a_value = refl;
-      table_value = c.requires.table_value;
       text_value = c.requires.text_value;
       sender_in = c.requires.sender_in;
       text_bound = rw c.in-Dtmf.is at c.requires.text_bound;
@@ -36,7 +33,6 @@ pub codes-requires-in-Edt : goal.codes-requires-in-Edt
 codes-requires-in-Edt c =
     record {
       a_value = refl;
-      table_value = c.requires.table_value;
       text_value = c.requires.text_value;
       sender_in = c.requires.sender_in;
       text_bound = rw c.in-Edt.is at c.requires.text_bound;

@@ -4,12 +4,11 @@ use native.Mathlib.Omega.{arith}
 use Rattle.queue.proofs.Moves.{front-none, moved-from}
 use Rattle.queue.proofs.front_after.Goals as goal
 
-pub returns-then-chars-eq0 : goal.returns-then-chars-eq0
-returns-then-chars-eq0 c = sym (front-none _ _ c.if-chars-eq0.true)
+pub returns-then-n-len : goal.returns-then-n-len
+returns-then-n-len c = sym (moved-from c.args.n c.args.chars.now 0 c.args.n (omega arith) (omega arith))
 
-pub returns-then-last-n : goal.returns-then-last-n
-returns-then-last-n c = sym (moved-from _ _ 0 _ (omega arith) (omega arith))
+pub returns-then-len-gt0 : goal.returns-then-len-gt0
+returns-then-len-gt0 c = sym (moved-from _ _ 0 _ (omega arith) (omega arith))
 
-pub returns : goal.returns
-returns c =
-    sym (moved-from c.args.n c.args.chars.now 0 c.args.n (omega arith) (omega arith))
+pub returns-else-len-gt0 : goal.returns-else-len-gt0
+returns-else-len-gt0 c = sym (front-none _ _ (omega arith))

@@ -5,15 +5,16 @@ use lib.ListN.{length-set}
 use Rattle.queue.specs.Queue.{moved_by}
 use Rattle.queue.proofs.Moves.{slid-start, slid-turn, filled-start, filled-end, filling-start, filling-turn}
 use Rattle.queue.proofs.move_up_by.Goals as goal
+use Rattle.queue.proofs.move_up_by.Goals.{then-n-eq0-via-then-n-eq0, then-n-eq0-via-else-n-eq0+then-chars-eq0}
 
 pub returns-then-n-eq0 : goal.returns-then-n-eq0
 unfolding moved_by
 returns-then-n-eq0 c =
-    ap (λ (k : ℕ). moved_by k c.args.chars.now) (sym c.if-n-eq0.true)
-
-pub returns-then-chars-eq0 : goal.returns-then-chars-eq0
-returns-then-chars-eq0 c =
-    filled-end _ _ _ 0 (filled-start _ _ _ _ (slid-start _ _)) (omega arith)
+    elim c.then-n-eq0.branch [
+      | then-n-eq0-via-then-n-eq0 w ↦ ap (λ (k : ℕ). moved_by k c.args.chars.now) (sym w.if-n-eq0.true)
+      | then-n-eq0-via-else-n-eq0+then-chars-eq0 w ↦ filled-end c.args.n _ _ 0 (filled-start _ _ _ _ (slid-start _ _))
+          (omega (arith, w.if-chars-eq0.true))
+    ]
 
 pub loop-from-init : goal.loop-from-init
 loop-from-init c =

@@ -15,7 +15,7 @@ returns-then-waits c =
     let e = waiter c.args.a c.args.c.0 (sym c.waits.ensures ∙ c.if-waits.true) in
     record { value = simp e; chars_after = simp e }
 
-pub returns : goal.returns
-returns c =
+pub returns-else-waits : goal.returns-else-waits
+returns-else-waits c =
     let e = no-waiter c.args.a c.args.c.0 (sym c.waits.ensures ∙ c.if-waits.false) in
     record { value = simp e (omega arith); chars_after = simp e }

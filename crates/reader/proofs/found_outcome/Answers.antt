@@ -16,7 +16,7 @@ returns-in-Fault c = simp c.in-Fault.is
 pub returns-in-Code : goal.returns-in-Code
 returns-in-Code c =
     simp (
-      c.event_of.ensures,
+      c.from.ensures,
       c.shift_by.ensures,
       c.reads-r.ensures,
       c.alphabet.ensures,

@@ -5,8 +5,8 @@ use Rattle.reader.proofs.Parts.{hears-frames}
 use Rattle.reader.proofs.Tags.{framed-by}
 use Rattle.reader.proofs.hear.Goals as goal
 
-pub returns : goal.returns
-returns c = hear-keys _ _ _ _ c.in-Dtmf.is c.hear_key.ensures
+pub returns-in-Dtmf : goal.returns-in-Dtmf
+returns-in-Dtmf c = hear-keys _ _ _ _ c.in-Dtmf.is c.hear_key.ensures
 
 pub returns-in_default : goal.returns-in_default
 returns-in_default c =

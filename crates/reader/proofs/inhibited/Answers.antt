@@ -4,4 +4,4 @@ use Rattle.reader.proofs.inhibited.Goals as goal
 
 pub returns : goal.returns
 unfolding inhibited
-returns c = simp c.key_step-k.ensures
+returns c = simp c.key_step.ensures

@@ -1,24 +1,19 @@
 -- `key_outcome` meets its contract: no key, a digit, a mark, a key from A to D.
+use native.Mathlib.Omega.{arith}
 use Rattle.reader.specs.Reader.{key_event, prefix_after}
-use Rattle.alphabet.specs.declared.Alphabet.TheVariants.{Dtmf}
-use Rattle.reader.proofs.Outcomes.{is-baudot, digit-outcome, mark-outcome, other-outcome}
+use Rattle.reader.proofs.Outcomes.{digit-outcome, mark-outcome, other-outcome}
 use Rattle.reader.proofs.key_outcome.Goals as goal
 
-pub returns-then-key-eq0 : goal.returns-then-key-eq0
+pub returns-in-0 : goal.returns-in-0
 unfolding key_event prefix_after
-returns-then-key-eq0 c = simp c.if-key-eq0.true
+returns-in-0 c = simp c.in-0.is
 
-pub reads-r-requires : goal.reads-r-requires
-reads-r-requires c = λ e. absurd (is-baudot Dtmf e)
+pub returns-in-1-to-10 : goal.returns-in-1-to-10
+returns-in-1-to-10 c =
+    digit-outcome _ _ _ _ _ (λ e. omega arith) (omega arith) c.code.ensures c.reads.ensures c.from-event.ensures
 
-pub returns-then-key-le10 : goal.returns-then-key-le10
-returns-then-key-le10 c =
-    digit-outcome _ _ _ _ _ c.if-key-eq0.false c.if-key-le10.true
-    c.code.ensures c.reads-r.ensures c.event_of-event.ensures
+pub returns-in-11-to-12 : goal.returns-in-11-to-12
+returns-in-11-to-12 c = mark-outcome _ _ _ (omega arith) (omega arith) c.with_mark.ensures
 
-pub returns-then-key-le12 : goal.returns-then-key-le12
-returns-then-key-le12 c =
-    mark-outcome _ _ _ c.if-key-le10.false c.if-key-le12.true c.with_mark.ensures
-
-pub returns : goal.returns
-returns c = other-outcome _ _ c.if-key-le10.false c.if-key-le12.false
+pub returns-in_default : goal.returns-in_default
+returns-in_default c = other-outcome _ _ (omega arith) (omega arith)

@@ -5,5 +5,5 @@ use Rattle.signal.proofs.frame_level.Goals as goal
 pub returns-then-bit-eq1 : goal.returns-then-bit-eq1
 returns-then-bit-eq1 c = simp c.if-bit-eq1.true
 
-pub returns : goal.returns
-returns c = simp (ne_eqb _ _ c.if-bit-eq1.false)
+pub returns-else-bit-eq1 : goal.returns-else-bit-eq1
+returns-else-bit-eq1 c = simp (ne_eqb _ _ c.if-bit-eq1.false)

@@ -9,6 +9,6 @@ pub returns-then-at-lt-KEY_ON : goal.returns-then-at-lt-KEY_ON
 returns-then-at-lt-KEY_ON c =
     c.key.ensures ∙ sym (keys_on (keys_of c.args.code.0) c.args.at c.if-at-lt-KEY_ON.true)
 
-pub returns : goal.returns
-returns c =
+pub returns-else-at-lt-KEY_ON : goal.returns-else-at-lt-KEY_ON
+returns-else-at-lt-KEY_ON c =
     sym (keys-off (keys_of c.args.code.0) c.args.at (search rules))

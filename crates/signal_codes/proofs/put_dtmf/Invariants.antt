@@ -1,11 +1,10 @@
 -- `put_dtmf` meets its contract. The invariant: the keys that are left.
-use Prim.Native.Nat.{◌-◌}
+use Rattle.std.proofs.Common.{◌*◌, drop}
 use Rattle.alphabet.specs.Dtmf.{keys_of}
-use Rattle.signal_codes.proofs.WholeCodes.{Keying}
+use Rattle.signal.specs.Signal.{keys_signal}
+use Rattle.signal_runs.proofs.Filling.{Writing}
 use Rattle.signal_codes.proofs.put_dtmf.Given as goal
 
-abbrev pub invariant-loop-i : goal.invariant-loop-i
-invariant-loop-i l = Keying (keys_of l.code.0) l.initial.sent l.from l.sent l.i l.k
-
-abbrev pub decreases-loop-i : goal.decreases-loop-i
-decreases-loop-i l = l.end - l.i
+abbrev pub invariant-loop-k : goal.invariant-loop-k
+invariant-loop-k l =
+    Writing (keys_signal (keys_of l.code.0)) l.sent (l.k * 120) (keys_signal (drop l.k (keys_of l.code.0)))

@@ -3,10 +3,7 @@ use Rattle.std.proofs.Common.{arith, rules}
 use Rattle.signal.proofs.Lengths.{within-longest}
 use Rattle.signal_tables.proofs.print_signal.Goals as goal
 
-pub level-requires : goal.level-requires
-level-requires g c =
+pub level-requires-clause-at_bound : goal.level-requires-clause-at_bound
+level-requires-clause-at_bound g c =
     let m = within-longest c.args.mode c.args.code.0 (search rules) in
-    record {
-      code_bound = c.requires;
-      at_bound = omega (arith, m, c.duration-ms.ensures, c.loop-at-test.true);
-    }
+    omega (arith, m, c.duration-at-end.ensures, c.loop-at-test.true)

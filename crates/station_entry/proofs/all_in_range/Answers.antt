@@ -6,13 +6,13 @@ use Rattle.alphabet.specs.Modes.{highest_level}
 use Rattle.station_entry.specs.code.Asking.{all_in}
 use Rattle.station_entry.proofs.all_in_range.Goals as goal
 
-pub returns-then-not-in_range : goal.returns-then-not-in_range
+pub returns-then-in_range : goal.returns-then-in_range
 unfolding all_in
-returns-then-not-in_range c = simp (sym c.in_range.ensures ∙ c.if-not-in_range.true)
-
-pub returns : goal.returns
-unfolding all_in
-returns c =
-    let highest = c.highest_level.ensures ∙ ap highest_level c.of-mode.ensures in
-    simp (sym c.in_range.ensures ∙ c.if-not-in_range.false)
+returns-then-in_range c =
+    let highest = c.highest_level.ensures ∙ ap highest_level c.of.ensures in
+    simp (sym c.in_range.ensures ∙ c.if-in_range.true)
     (c.all_at_most.ensures ∙ ap (λ (n : ℕ). all_at_most n c.args.heard.now) highest)
+
+pub returns-else-in_range : goal.returns-else-in_range
+unfolding all_in
+returns-else-in_range c = let e = c.if-in_range.false in simp (e, sym c.in_range.ensures ∙ e)

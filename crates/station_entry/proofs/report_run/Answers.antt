@@ -1,20 +1,19 @@
 -- `report_run` meets its contract.
 use mathlib.Core.Path.{◌≡◌, ◌∙◌, sym, subst}
-use lib.Dec.{T}
+use mathlib.Core.Bool.{false≢true}
 use lib.ListN.{length}
 use Rattle.station_entry.proofs.Answers.{all_in-both}
 use borrow.Author.Rules.{rules}
 use Rattle.station_entry.proofs.report_run.Goals as goal
 
-pub returns-then-not-all_in_range : goal.returns-then-not-all_in_range
-returns-then-not-all_in_range c =
-    λ i.
-    absurd (subst T (sym i ∙ sym c.all_in_range.ensures ∙ c.if-not-all_in_range.true) tt)
+pub returns-else-all_in_range : goal.returns-else-all_in_range
+returns-else-all_in_range c =
+    λ i. absurd (false≢true (sym c.if-all_in_range.false ∙ c.all_in_range.ensures ∙ i))
 
 pub report_after-requires : goal.report_after-requires
 report_after-requires c =
-    let i = all_in-both _ _ (sym c.all_in_range.ensures ∙ c.if-not-all_in_range.false) in
-    let full : length c.args.chars.now ≡ 256 = search rules in
+    let i = all_in-both _ _ (sym c.all_in_range.ensures ∙ c.if-all_in_range.true) in
+    let full : length c.args.station.now.chars ≡ 256 = search rules in
     record {
       w_value = i.0;
       chars_len = full;
@@ -23,5 +22,5 @@ report_after-requires c =
       heard_value = i.1;
     }
 
-pub returns : goal.returns
-returns c = λ i. c.report_after.ensures
+pub returns-then-all_in_range : goal.returns-then-all_in_range
+returns-then-all_in_range c = λ i. c.report_after.ensures

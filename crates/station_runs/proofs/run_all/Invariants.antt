@@ -1,6 +1,4 @@
 -- `run_all` meets its contract. The invariant: what is left, and the slices as written so far.
--- ---- the moments of the walk
--- ---- the needs
 use Prim.Native.Nat.{◌-◌}
 use lib.ListN.{length}
 use Rattle.station_runs.proofs.Fold.{Left, rest}

@@ -1,6 +1,4 @@
 -- `begin` meets its contract.
--- ---- the moments of the walk
--- ---- the needs
 use mathlib.Core.Path.{◌≡◌, ◌∙◌, sym, ap, subst}
 use mathlib.Core.List.{List}
 use Prim.Native.Nat.{ℕ, ◌<◌}
@@ -27,8 +25,8 @@ step-requires c =
       n_in_bounds = c.requires.n_in_bounds;
     }
 
-pub returns-then-ms-line : goal.returns-then-ms-line
-returns-then-ms-line c =
+pub returns-then-ms-l : goal.returns-then-ms-l
+returns-then-ms-l c =
     λ (chars : List ℕ) (e : get_or chars 0 0 ≡ c.args.front.0).
     c.step.ensures chars (c.settle-l.ensures ∙ sym (ap (settled c.args.c) e))
 
@@ -36,13 +34,10 @@ pub send-requires : goal.send-requires
 send-requires c =
     let line : OnLine = c.settle-l.result.line in
     let mode : Mode = mode_in c.args.c in
-    let part-ms-is : c.part_ms-ms.result ≡ length (part_ms mode line) = c.part_ms-ms.ensures
-    ∙ ap (λ (d : Mode). length (part_ms d line)) c.of-mode.ensures in
-    let more : line.at < length (part_ms mode line) = let m = part-ms-is in let h = c.if-ms-line.false in omega arith in
-    let s = loaded-sends _ _ c.requires.core_in c.requires.front_bound _ c.settle-l.ensures more _ c.loaded-core.ensures
+    let ms = c.part_ms-ms.ensures ∙ ap (λ (d : Mode). length (part_ms d line)) c.of-mode.ensures in
+    let more : line.at < length (part_ms mode line) = omega arith in
+    let s = loaded-sends _ _ c.requires.core_in c.requires.front_bound _ c.settle-l.ensures more _ c.loaded.ensures
     in
-    let k = part-ms-is in
-    let g = c.if-ms-line.false in
     let left = s.left in
     record {
       core_in = s.core-in;
@@ -53,13 +48,12 @@ send-requires c =
       heard_in_bounds = c.requires.heard_in_bounds;
     }
 
-pub returns : goal.returns
-returns c =
+pub returns-else-ms-l : goal.returns-else-ms-l
+returns-else-ms-l c =
     let line : OnLine = c.settle-l.result.line in
     let mode : Mode = mode_in c.args.c in
-    let part-ms-is : c.part_ms-ms.result ≡ length (part_ms mode line) = c.part_ms-ms.ensures
-    ∙ ap (λ (d : Mode). length (part_ms d line)) c.of-mode.ensures in
-    let more : line.at < length (part_ms mode line) = let m = part-ms-is in let h = c.if-ms-line.false in omega arith in
+    let ms = c.part_ms-ms.ensures ∙ ap (λ (d : Mode). length (part_ms d line)) c.of-mode.ensures in
+    let more : line.at < length (part_ms mode line) = omega arith in
     λ (chars : List ℕ) (e : get_or chars 0 0 ≡ c.args.front.0).
     begin-stretch _ _ chars _ _ _ _ _ (c.settle-l.ensures ∙ sym (ap (settled c.args.c) e))
-    more _ c.loaded-core.ensures _ _ _ (c.send.ensures _ _)
+    more _ c.loaded.ensures _ _ _ (c.send.ensures _ _)

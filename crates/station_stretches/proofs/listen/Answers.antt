@@ -1,6 +1,4 @@
 -- `listen` meets its contract.
--- ---- the moments of the walk
--- ---- the needs
 use mathlib.Core.Path.{◌≡◌, ◌∙◌, sym, ap}
 use mathlib.Core.Bool.{true, ◌&&◌}
 use mathlib.Core.List.{List}
@@ -18,7 +16,7 @@ use Rattle.half_duplex_runs.specs.code.Cores.{silence_for, is_idle}
 use Rattle.station_stretches.specs.code.Stretches.{between}
 use Rattle.half_duplex_runs.proofs.Laws.{over-quiet}
 use Rattle.station_stretches.proofs.Idle.{idles}
-use Rattle.station_stretches.proofs.Joining.{between-length, listen-stretch}
+use Rattle.station_stretches.proofs.Joining.{between-length, quiet-set, listen-stretch}
 use Rattle.station_stretches.proofs.Laws.{at-most-take}
 use borrow.Author.Tests.{eqb-true}
 use Rattle.station_stretches.proofs.listen.Goals as goal
@@ -46,7 +44,7 @@ returns-then-stays_idle c =
     listen-stretch _ _ chars _ _ _ _ _ c.free_end-to.ensures.low c.free_end-to.ensures.high _
     c.requires.core_in.silence_in c.requires.part_value c.requires.inhibited_value c.free_end-to.ensures.free
     _ (c.silence_for-silence.ensures ∙ sym (ap (silence_for c.args.c.silence) l) ∙ z)
-    _ q.after c.listened.ensures _ c.fill.ensures _ (omega arith)
+    _ q.after c.listened.ensures _ (quiet-set _ _ _ (omega arith) (omega arith) _ c.fill.ensures) _ (omega arith)
     _ (sym (ap (sets c.args.words.now c.args.n) q.none))
 
 pub hear_all-h-requires : goal.hear_all-h-requires
@@ -78,6 +76,6 @@ returns c =
     c.requires.core_in.silence_in c.requires.part_value c.requires.inhibited_value c.free_end-to.ensures.free
     _ c.silence_over-silence.ensures _ (c.hear_all-h.ensures.reader_value
     ∙ ap (λ (m : Mode). reader_after m r xs) c.of.ensures)
-    c.listened-2.ensures _ c.fill.ensures
+    c.listened-2.ensures _ (quiet-set _ _ _ (omega arith) (omega arith) _ c.fill.ensures)
     _ (c.hear_all-h.ensures.at_value ∙ ap (λ (m : Mode). n + length (words m r xs)) c.of.ensures)
     _ (c.hear_all-h.ensures.words_after ∙ ap (λ (m : Mode). sets c.args.words.now n (words m r xs)) c.of.ensures)

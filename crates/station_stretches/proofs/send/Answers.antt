@@ -1,12 +1,11 @@
 -- `send` meets its contract.
--- ---- the moments of the walk
--- ---- the needs
 use mathlib.Core.Path.{◌∙◌, ap}
 use mathlib.Core.Bool.{not, ◌&&◌}
 use mathlib.Core.List.{List}
 use Prim.Native.Nat.{ℕ, ◌-◌, ◌<◌}
 use native.Mathlib.Omega.{arith}
 use lib.ListN.{length}
+use Rattle.std.proofs.lemmas.List.Edits.{length-between}
 use lib.Seq.{sets}
 use Rattle.lists.specs.Tables.{tabulate}
 use Rattle.alphabet.specs.declared.Mode.{Mode}
@@ -16,7 +15,7 @@ use Rattle.half_duplex.specs.Core.{mode_in}
 use Rattle.signal_runs.specs.code.Levels.{part_level}
 use Rattle.signal_runs.proofs.Parts.{part-most}
 use Rattle.station_stretches.proofs.Laws.{left-burst, left_over, gone-over}
-use Rattle.station_stretches.proofs.Joining.{send-stretch}
+use Rattle.station_stretches.proofs.Joining.{levels-set, send-stretch}
 use Rattle.station_stretches.proofs.send.Goals as goal
 
 pub up_to-to-requires : goal.up_to-to-requires
@@ -29,12 +28,12 @@ put-requires c =
     let m = ap (λ (d : Mode). length (part_ms d l)) c.requires.mode_value in
     let on = further in
     let b = left-burst (mode_in c.args.c) l (omega arith) in
+    let n = length-between c.args.sent.now c.args.i c.up_to-to.result (omega arith) in
     record {
       line_in = rw c.requires.mode_value c.requires.core_in.line-in;
       l_value = b;
-      from_in_bounds = omega arith;
-      from_lt_to = omega arith;
-      to_in_bounds = omega arith;
+      le_sent = omega arith;
+      sent_in_bounds = omega arith;
     }
 
 pub sent_for-requires : goal.sent_for-requires
@@ -62,7 +61,7 @@ returns c =
     let l = c.args.c.line in
     let on = further in
     let n = c.up_to-to.result - c.args.i in
-    let w = c.put.ensures
+    let w = levels-set _ _ _ (omega arith) (omega arith) (part_level c.args.mode l) _ c.put.ensures
     ∙ ap (λ (d : Mode). sets c.args.sent.now c.args.i (tabulate (part_level d l) n 0)) c.requires.mode_value in
     λ (chars words : List ℕ).
     send-stretch _ _ chars _ words _ _ _ on c.up_to-to.ensures.high _ c.requires.core_in.silence_in

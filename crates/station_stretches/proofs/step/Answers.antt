@@ -1,6 +1,4 @@
 -- `step` meets its contract.
--- ---- the moments of the walk
--- ---- the needs
 use mathlib.Core.Path.{◌≡◌, ◌∙◌, refl, ap}
 use mathlib.Core.List.{List}
 use Prim.Native.Nat.{ℕ}
@@ -20,4 +18,4 @@ returns c =
     λ (chars : List ℕ) (e : c.args.l ≡ settled c.args.c (get_or chars 0 0)).
     step-stretch _ _ _ _ _ _ _ c.step-x.result c.requires.i_in_bounds
     (c.step-x.ensures ∙ ap (λ (l : Loaded). stepped c.args.c l heard) e)
-    _ refl _ c.put_word-words_end.ensures.value _ c.put_word-words_end.ensures.words_after
+    _ refl _ c.put_word.ensures.value _ c.put_word.ensures.words_after

@@ -1,10 +1,8 @@
 -- `wait` meets its contract.
--- ---- the moments of the walk
--- ---- the needs
 use mathlib.Core.List.{List}
 use Prim.Native.Nat.{ℕ, ◌+◌, ◌-◌, ◌≤◌, ◌<◌}
 use native.Mathlib.Omega.{arith}
-use Rattle.station_stretches.proofs.Joining.{wait-stretch}
+use Rattle.station_stretches.proofs.Joining.{quiet-set, wait-stretch}
 use Rattle.station_stretches.proofs.wait.Goals as goal
 
 pub free_end-free-requires : goal.free_end-free-requires
@@ -17,11 +15,6 @@ free_end-free-requires c =
 
 pub up_to-to-requires : goal.up_to-to-requires
 up_to-to-requires c = let h = c.free_end-free.ensures.low in omega arith
-
-pub fill-requires : goal.fill-requires
-fill-requires c =
-    let f = c.free_end-free.ensures.high in
-    record { from_le_to = omega arith; to_in_bounds = omega arith }
 
 pub overflow_sub-to : goal.overflow_sub-to
 overflow_sub-to c = omega arith
@@ -44,4 +37,4 @@ returns c =
     λ (chars words : List ℕ).
     wait-stretch _ _ chars _ words _ _ _ on (omega arith) _ c.requires.core_in.silence_in c.requires.part_value
     c.up_to-to.ensures.few g
-    c.deaf_for.ensures _ c.fill.ensures
+    c.deaf_for.ensures _ (quiet-set _ _ _ c.up_to-to.ensures.low (omega arith) _ c.fill.ensures)

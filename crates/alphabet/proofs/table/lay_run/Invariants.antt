@@ -1,10 +1,6 @@
 -- `table::lay_run` meets its contract. The invariant: what is left, written behind what stands there, is the whole.
-use Prim.Native.Nat.{◌-◌}
 use Rattle.alphabet.proofs.Storage.{Laid}
 use Rattle.alphabet.proofs.table.lay_run.Given as goal
 
 abbrev pub invariant-loop-n : goal.invariant-loop-n
 invariant-loop-n l = Laid l.initial.table l.from l.to l.table l.n
-
-abbrev pub decreases-loop-n : goal.decreases-loop-n
-decreases-loop-n l = l.to - l.n

@@ -6,6 +6,6 @@ pub returns-then-e-lt128 : goal.returns-then-e-lt128
 returns-then-e-lt128 c =
     dtmf-char c.args.code.0 _ c.dtmf_entry-e.ensures c.if-e-lt128.true
 
-pub returns : goal.returns
-returns c =
+pub returns-else-e-lt128 : goal.returns-else-e-lt128
+returns-else-e-lt128 c =
     dtmf-none c.args.code.0 _ c.dtmf_entry-e.ensures c.if-e-lt128.false

@@ -5,20 +5,11 @@ use Rattle.baudot_list.proofs.listing.put_lines.Goals as goal
 pub loop-i-init : goal.loop-i-init
 loop-i-init c = listed_start _ _
 
-pub overflow_mul-i : goal.overflow_mul-i
-overflow_mul-i c =
-    omega (arith, c.requires, c.well_formed, c.loop-i.invariant.size, c.loop-i-test.true)
-
 pub put_line-requires : goal.put_line-requires
-put_line-requires c =
-    omega (arith, c.requires, c.loop-i.invariant.size, c.loop-i-test.true)
+put_line-requires c = omega (arith, c.requires, c.loop-i.invariant.size)
 
 pub loop-i-preserved : goal.loop-i-preserved
-loop-i-preserved c =
-    listed-turn _ _ _ _ c.loop-i.invariant _ c.loop-i-test.true c.put_line.ensures
-
-pub shape_of-lines : goal.shape_of-lines
-shape_of-lines c = c.loop-i.invariant.size
+loop-i-preserved c = listed-turn _ _ _ _ c.loop-i.invariant _ (omega arith) c.put_line.ensures
 
 pub returns : goal.returns
-returns c = listed-end _ _ _ _ c.loop-i.invariant c.loop-i-test.false
+returns c = listed-end _ _ _ _ c.loop-i.invariant (omega arith)

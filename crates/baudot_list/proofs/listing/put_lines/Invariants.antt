@@ -1,11 +1,6 @@
 -- `listing::put_lines` meets its contract. The invariant: the lines left, behind those written.
-use Prim.Native.Nat.{◌-◌}
-use lib.ListN.{length}
 use Rattle.baudot_list.proofs.ListingRule.{Listed}
 use Rattle.baudot_list.proofs.listing.put_lines.Given as goal
 
 abbrev pub invariant-loop-i : goal.invariant-loop-i
 invariant-loop-i l = Listed l.codes l.initial.lines l.lines l.i
-
-abbrev pub decreases-loop-i : goal.decreases-loop-i
-decreases-loop-i l = length l.codes - l.i

@@ -13,11 +13,7 @@ returns-then-heard-eq0 c =
     quiet-breaks c.args.mode c.args.j c.args.digits c.args.heard c.if-j-eq0.false c.requires.j_in_bounds
     c.if-heard-eq0.true
 
-pub later_effect-requires : goal.later_effect-requires
-later_effect-requires c =
+pub of-requires : goal.of-requires
+of-requires c =
     let n = c.if-j-eq0.false in
-    record {
-      later = record { low = omega arith; high = c.requires.j_in_bounds };
-      digits_bound = c.requires.digits_bound;
-      fact = c.if-heard-eq0.false;
-    }
+    record { low = omega arith; high = c.requires.j_in_bounds }

@@ -1,5 +1,5 @@
 -- `number_at` meets its contract.
-use mathlib.Core.Path.{sym, ap}
+use mathlib.Core.Path.{◌∙◌, sym, ap}
 use Rattle.alphabet.specs.declared.Mode.{Mode}
 use Rattle.frames.specs.code.Samples.{number_at}
 use Rattle.frames.proofs.samples.number_at.Goals as goal
@@ -7,12 +7,12 @@ use Rattle.frames.proofs.samples.number_at.Goals as goal
 pub returns-in-Baudot45 : goal.returns-in-Baudot45
 unfolding number_at
 returns-in-Baudot45 c =
-    sym (ap (λ (d : Mode). number_at d c.args.m) c.in-Baudot45.is)
+    c.baudot_number.ensures ∙ sym (ap (λ (d : Mode). number_at d c.args.m) c.in-Baudot45.is)
 
 pub returns-in-Baudot50 : goal.returns-in-Baudot50
 unfolding number_at
 returns-in-Baudot50 c =
-    sym (ap (λ (d : Mode). number_at d c.args.m) c.in-Baudot50.is)
+    c.baudot_number-in-Baudot50.ensures ∙ sym (ap (λ (d : Mode). number_at d c.args.m) c.in-Baudot50.is)
 
 pub returns-in-Dtmf : goal.returns-in-Dtmf
 unfolding number_at

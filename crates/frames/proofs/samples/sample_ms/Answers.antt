@@ -1,5 +1,5 @@
 -- `sample_ms` meets its contract.
-use mathlib.Core.Path.{sym, ap}
+use mathlib.Core.Path.{◌∙◌, sym, ap}
 use Rattle.alphabet.specs.declared.Mode.{Mode}
 use Rattle.frames.specs.code.Samples.{sample_ms}
 use Rattle.frames.proofs.samples.sample_ms.Goals as goal
@@ -7,12 +7,12 @@ use Rattle.frames.proofs.samples.sample_ms.Goals as goal
 pub returns-in-Baudot45 : goal.returns-in-Baudot45
 unfolding sample_ms
 returns-in-Baudot45 c =
-    sym (ap (λ (d : Mode). sample_ms d c.args.j) c.in-Baudot45.is)
+    c.baudot_ms.ensures ∙ sym (ap (λ (d : Mode). sample_ms d c.args.j) c.in-Baudot45.is)
 
 pub returns-in-Baudot50 : goal.returns-in-Baudot50
 unfolding sample_ms
 returns-in-Baudot50 c =
-    sym (ap (λ (d : Mode). sample_ms d c.args.j) c.in-Baudot50.is)
+    c.baudot_ms-in-Baudot50.ensures ∙ sym (ap (λ (d : Mode). sample_ms d c.args.j) c.in-Baudot50.is)
 
 pub returns-in-Dtmf : goal.returns-in-Dtmf
 unfolding sample_ms

@@ -4,7 +4,7 @@ use mathlib.Core.List.{List}
 use Prim.Native.Nat.{ℕ, ◌-◌, ◌≤◌}
 use native.Mathlib.Omega.{arith}
 use lib.Dec.{leb}
-use lib.ListN.{length, take, drop, length-take, length-drop}
+use lib.ListN.{length, take, drop, length-drop}
 use lib.Seq.{take-take, take_all}
 use borrow.Author.Tests.{leb-true}
 use borrow.Author.Rules.{rules}
@@ -24,21 +24,7 @@ both_ends xs largest h l so m =
     = take-take 16 (length xs - j) (drop j xs) (omega arith) ∙ take_all 16 (drop j xs) (omega arith) in
     so m ∙ (rw e (at-most-ends m xs 16 j (omega arith)))
 
-pub overflow_sub-j : goal.overflow_sub-j
-overflow_sub-j c =
-    let sized : let n = length c.args.xs.now in (16 ≤ n) × (n ≤ 32) = search (rules, leb-true, and_left, and_right) in
-    (sized).0
-
-pub largest_of_fronts-requires : goal.largest_of_fronts-requires
-largest_of_fronts-requires c =
-    let sized : let n = length c.args.xs.now in (16 ≤ n) × (n ≤ 32) = search (rules, leb-true, and_left, and_right) in
-    let l = (sized).0 in record { in_bounds = l; in_bounds_2 = simp (length-take, length-drop) (omega arith) }
-
 pub returns-then-n : goal.returns-then-n
 returns-then-n c =
     let sized : let n = length c.args.xs.now in (16 ≤ n) × (n ≤ 32) = search (rules, leb-true, and_left, and_right) in
-    let t = sized in
-    both_ends _ _ t.0 t.1 c.largest_of_fronts.ensures
-
-pub returns : goal.returns
-returns c = c.largest_of_all.ensures
+    both_ends _ _ sized.0 sized.1 c.largest_of_fronts.ensures

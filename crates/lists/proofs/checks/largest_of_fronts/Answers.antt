@@ -1,25 +1,25 @@
-use mathlib.Core.Path.{◌≡◌, ◌∙◌}
+use mathlib.Core.Path.{◌∙◌}
 use mathlib.Core.Bool.{◌&&◌}
 use mathlib.Core.List.{List}
-use Prim.Native.Nat.{ℕ, ◌+◌, ◌<◌}
+use Prim.Native.Nat.{ℕ, ◌+◌, ◌<◌, max}
 use native.Mathlib.Numerals.{add-one}
 use native.Mathlib.Omega.{arith}
-use lib.Dec.{leb}
 use lib.ListN.{length, get_or, take}
 use borrow.Author.Tests.{le-leb}
 use Rattle.lists.specs.Lists.{all_at_most}
 use Rattle.lists.specs.code.Checks.{LargestOfFronts}
-use Rattle.lists.proofs.Lists.{and-across, at-most-take}
+use Rattle.lists.proofs.Lists.{and-across, larger-at-most, at-most-take}
 use Rattle.lists.proofs.checks.largest_of_fronts.Goals as goal
 
 -- one more of each
-fronts-turn : (xs ys : List ℕ) (i largest greater next : ℕ) → i < length xs → i < length ys
-    → LargestOfFronts i xs ys largest
-    → ((m : ℕ) → leb greater m ≡ (leb (get_or xs i 0) m && leb (get_or ys i 0) m))
-    → ((m : ℕ) → leb next m ≡ (leb largest m && leb greater m)) → LargestOfFronts (i + 1) xs ys next
-fronts-turn xs ys i largest greater next h l so g n m =
+fronts-turn : (xs ys : List ℕ) (i largest : ℕ) → i < length xs → i < length ys → LargestOfFronts i xs ys largest
+    → LargestOfFronts (i + 1) xs ys (max largest (max (get_or xs i 0) (get_or ys i 0)))
+fronts-turn xs ys i largest h l so m =
+    let x = get_or xs i 0 in
+    let y = get_or ys i 0 in
     rw (add-one, at-most-take m xs i h, at-most-take m ys i l)
-    (n m ∙ (λ k. so m k && g m k) ∙ and-across (all_at_most m (take i xs)) _ _ _)
+    (larger-at-most largest (max x y) m ∙ (λ k. so m k && larger-at-most x y m k)
+    ∙ and-across (all_at_most m (take i xs)) _ _ _)
 
 pub loop-i-init : goal.loop-i-init
 unfolding all_at_most
@@ -28,11 +28,6 @@ loop-i-init c = (omega arith, λ (m : ℕ). le-leb 0 m (omega arith))
 pub loop-i-preserved : goal.loop-i-preserved
 loop-i-preserved c = (
   omega arith,
-  fronts-turn c.args.xs.now c.args.ys.now c.loop-i.i _ _ _ (omega arith) (omega arith) c.loop-i.invariant.1
-      c.larger.ensures c.larger-largest.ensures,
+  rw (c.max-largest.ensures, c.max.ensures)
+      (fronts-turn c.args.xs.now c.args.ys.now c.loop-i.i _ (omega arith) (omega arith) c.loop-i.invariant.1),
 )
-
-pub returns : goal.returns
-returns c =
-    let e : c.loop-i.i ≡ 16 = omega arith in
-    rw e at c.loop-i.invariant.1

@@ -3,8 +3,5 @@ use Prim.Native.Nat.{◌≤◌}
 use Rattle.lists.specs.code.Places.{Through}
 use Rattle.lists.proofs.places.back.Given as goal
 
-abbrev pub invariant-loop-i : goal.invariant-loop-i
-invariant-loop-i l = (l.from ≤ l.i) × Through l.xs l.i l.end l.x l.end
-
-abbrev pub decreases-loop-i : goal.decreases-loop-i
-decreases-loop-i l = l.i
+abbrev pub invariant-loop-k : goal.invariant-loop-k
+invariant-loop-k l = (l.from ≤ l.k) × Through l.xs l.k l.end l.x l.end
