@@ -33,9 +33,9 @@ fn put_code(table: &ReadTable, text: &mut [u8], taken: Taken, code: LineCode) ->
     ensures text_after { text.new ≡ sets text.old taken.at (chars_of (read_baudot taken.shift code.0)) }
 {
     let Taken { at, shift } = taken;
-    if code.0 == LETTERS.0 {
+    if code == LETTERS {
         Taken { at, shift: 1 }
-    } else if code.0 == FIGURES.0 {
+    } else if code == FIGURES {
         Taken { at, shift: 2 }
     } else {
         text[at] = table.read_char(shift, code).0;
@@ -65,7 +65,7 @@ fn put_codes(table: &ReadTable, codes: &[u8], shift: u8, text: &mut [u8]) -> Tak
 fn shift_one(code: LineCode) -> u8
     ensures { result ≡ shift_one code.0 }
 {
-    (code.0 == LETTERS.0 || code.0 == FIGURES.0) as u8
+    (code == LETTERS || code == FIGURES) as u8
 }
 
 // The shift codes of a block, which are few enough to be counted in a byte.

@@ -76,14 +76,7 @@ fn least_ms(waiting: u16) -> usize
 fn frame_behind(n: usize, f: Frame) -> Frame
     ensures { result ≡ frame_behind n f }
 {
-    if n == 0 {
-        f
-    } else {
-        Frame {
-            place: 0,
-            digits: 0,
-        }
-    }
+    if n == 0 { f } else { Frame::HUNTING }
 }
 
 fn edges_behind(n: usize, w: Edges) -> Edges
