@@ -103,7 +103,7 @@ fn lay_out(table: &mut SendRoom, stored: &Stored, from: usize, to: usize, ahead:
 
 // The table of sending, laid out in the room.
 #[inline(always)]
-fn lay_out_all(table: &mut SendRoom)
+pub fn lay_out_all(table: &mut SendRoom)
     ensures { table.new ≡ send_table }
 {
     let stored = crate::stored::entries();
@@ -149,7 +149,7 @@ fn unpacked(a: Alphabet, e: u8) -> Option<CharCode>
 // The table of sending, in room of its caller's, so that it is not copied: a loop has it laid out once.
 #[derive(Clone, Copy)]
 pub struct SendTable<'a> {
-    entries: &'a SendRoom,
+    pub entries: &'a SendRoom,
     pub ghost laid_out: { entries.now ≡ send_table },
 }
 
@@ -170,6 +170,24 @@ impl<'a> SendTable<'a> {
     }
 }
 
+// The entries of the table of sending, as a value.
+pub fn send_table() -> SendRoom
+    ensures { result ≡ send_table }
+{
+    let mut entries = [0; 384];
+    lay_out_all(&mut entries);
+    entries
+}
+
+// What a character sends, by entries that are the table's.
+pub fn lookup_in(entries: &SendRoom, a: Alphabet, c: Char) -> Option<CharCode>
+    requires table_value { entries.now ≡ send_table }
+    requires c_bound { c.0 < 128 }
+    ensures { result ≡ sends a c.0 }
+{
+    SendTable { entries }.lookup(a, c)
+}
+
 // What a character sends.
 pub fn lookup(a: Alphabet, c: Char) -> Option<CharCode>
     requires { c.0 < 128 }
@@ -182,7 +200,7 @@ pub fn lookup(a: Alphabet, c: Char) -> Option<CharCode>
 // The table of reading Baudot: a loop has it built once, and lends it.
 #[derive(Clone, Copy)]
 pub struct ReadTable {
-    entries: [u8; 64],
+    pub entries: [u8; 64],
     pub ghost read: { entries ≡ read_table },
 }
 
@@ -200,9 +218,27 @@ impl ReadTable {
         requires fact { (code.0 ≡ letters_code → ⊥) × (code.0 ≡ figures_code → ⊥) }
         ensures { Character result ≡ read_baudot shift code.0 }
     {
-        let at = (shift as usize - 1) * 32 + code.0 as usize;
-        Char(self.entries[at])
+        read_char(&self.entries, shift, code)
     }
+}
+
+// The entries of the table of reading Baudot, as a value.
+pub fn read_table() -> [u8; 64]
+    ensures { result ≡ read_table }
+{
+    ReadTable::new().entries
+}
+
+// The character of such a code, by entries that are the table's.
+pub fn read_char(entries: &[u8; 64], shift: u8, code: LineCode) -> Char
+    requires table_value { entries.now ≡ read_table }
+    requires le_shift { (1 ≤ shift) × (shift ≤ 2) }
+    requires code_bound { code.0 < 32 }
+    requires fact { (code.0 ≡ letters_code → ⊥) × (code.0 ≡ figures_code → ⊥) }
+    ensures { Character result ≡ read_baudot shift code.0 }
+{
+    let at = (shift as usize - 1) * 32 + code.0 as usize;
+    Char(entries[at])
 }
 
 // Letters for any shift but figures.

@@ -3,7 +3,7 @@ use Rattle.std.specs.Prelude.{Option, Some, None}
 use Rattle.alphabet.specs.declared.CharCode.{CharCode}
 use mathlib.Core.Path.{◌≡◌, ◌∙◌, refl, sym, ap, subst}
 use mathlib.Core.Bool.{Bool, true, false, cond, not, ◌&&◌, and-false, false≢true}
-use mathlib.Core.List.{List, [], ◌∷◌, ◌++◌}
+use mathlib.Core.List.{List, [], ◌∷◌, ◌++◌, append-nil}
 use Prim.Native.Nat.{ℕ, zero, suc, ◌+◌, ◌-◌, ◌≤◌, ◌<◌}
 use native.Mathlib.Omega.{arith}
 use lib.Dec.{eqb, leb, ltb}
@@ -11,7 +11,7 @@ use lib.ListN.{length, get_or, take, drop, drop_of_length-le}
 use lib.Seq.{sets, length-sets, drop-cons, drop-drop, take-add}
 use borrow.Author.Tests.{leb-true, ltb-true, ltb-false, lt-ltb, le-leb, ne_eqb, eqb-true, eqb-false}
 use Rattle.lists.specs.Tables.{tabulate}
-use Rattle.lists.proofs.Lists.{sets-append, either, either-by, and_left, and_right}
+use Rattle.lists.proofs.Lists.{sets-append, sets-front, either, either-by, and_left, and_right}
 use Rattle.alphabet.specs.declared.Alphabet.{Alphabet}
 use Rattle.alphabet.specs.declared.Mode.{Mode}
 use Rattle.alphabet.specs.Modes.{alphabet_of, codes, longest}
@@ -50,6 +50,12 @@ use borrow.Rule.Slice.PartMut.{put_mid}
 use Rattle.signal_runs.proofs.Filling.{part-set}
 use Rattle.signal_runs.proofs.Elements.{short}
 use Rattle.station.proofs.Cuts.{after_none, sent-none, words-none}
+
+-- values that fill a list
+pub sets-whole : (xs vs : List ℕ) → length xs ≡ length vs → sets xs 0 vs ≡ vs
+sets-whole xs vs e =
+    sets-front xs vs (omega arith) ∙ ap (λ (l : List ℕ). vs ++ l) (drop_of_length-le xs (omega arith))
+    ∙ append-nil vs
 
 -- ---- the characters that wait
 
@@ -510,7 +516,8 @@ module _ (heard cs sent₀ : List ℕ) (c : Core) (from i : ℕ) (within : i ≤
         subst (λ (m : Mode). Whole m (length heard - at) q) (sym mode-is)
         (q-whole heard (moved_by from cs) sent₀ c i within ranged all-there sent₁ taken s line at d test q code-is)
 
-    pub code-turn : length heard ≤ length sent₁ → (new : List ℕ) → new ≡ signal mode q.line.code.0
+    pub code-turn : length heard ≤ length sent₁ → (new : List ℕ)
+        → new ≡ sets (between at (at + q.line.at) sent₁) 0 (signal mode q.line.code.0)
         → (taken' : ℕ) → taken' ≡ cond q.takes (taken + 1) taken
         → (line' : OnLine) → line' ≡ ended true (may_end (c.waiting - taken')) q.line
         → Coded heard (moved_by from cs) sent₀ c i (put_mid at (at + q.line.at - at) sent₁ new) taken' q.sender line'
@@ -520,6 +527,9 @@ module _ (heard cs sent₀ : List ℕ) (c : Core) (from i : ℕ) (within : i ≤
         let high = d.high in
         let fits = w.fits in
         let all = w.all_ms in
+        let size = between-length sent₁ at (at + q.line.at) (omega arith) in
+        let f = sets-whole (between at (at + q.line.at) sent₁) (signal mode q.line.code.0) (omega arith) in
         coded-turn heard (moved_by from cs) sent₀ c i within ranged all-there sent₁ taken s line at d test q code-is _
-        (part-set sent₁ at (at + q.line.at) (omega arith) (omega arith) (signal mode q.line.code.0) new (omega arith) e
+        (part-set sent₁ at (at + q.line.at) (omega arith) (omega arith) (signal mode q.line.code.0) new (omega arith)
+        (e ∙ f)
         ∙ ap (λ (m : Mode). sets sent₁ at (signal m q.line.code.0)) mode-is) taken' et line' el

@@ -2,11 +2,13 @@
 // the pause after a tone, and the refusals. The expected output is what the reference prints.
 #![tactic(auto)]
 
+ghost use Rattle.std.specs.Prelude.{◌≤◌};
+
 use calling::{Calling, CallingChosen};
 use lists::checks::MOST_MS;
-use std::alloc::Global;
 use std::io;
 use std::io::Write;
+use test_io::{Row, print_sent};
 
 // A slice for sent ms holds this before a call.
 const PATTERN: u8 = 9;
@@ -14,36 +16,44 @@ const PATTERN: u8 = 9;
 // One ms more than a call takes.
 const AREA: usize = 4_097;
 
-// The set hears a tone for a number of ms, in calls as long as they may be. A refused one leaves the pattern.
-fn hear<W: Write>(
+// One call: the set hears a tone for some ms. A refusal leaves the pattern. The last row is not printed yet.
+fn hear_call<W: Write>(
     out: &mut W,
-    alloc: Global,
     set: &mut Calling,
+    row: Row,
     tone: u8,
     ms: usize,
-) -> io::Result<()> {
+) -> io::Result<Row>
+    requires { ms ≤ 4096 }
+{
+    let tones = [tone; MOST_MS];
+    let mut sent = [PATTERN; MOST_MS];
+    let _ = set.run(&tones[..ms], &mut sent[..ms]);
+    test_io::sent_all(out, row, &sent[..ms])
+}
+
+// The set hears a tone for a number of ms, in calls as long as they may be.
+fn hear<W: Write>(out: &mut W, set: &mut Calling, tone: u8, ms: usize) -> io::Result<()> {
     writeln!(out, "heard {tone} {ms}")?;
-    let tones = vec![in alloc; tone; ms]?;
-    let mut sent = vec![in alloc; PATTERN; ms]?;
-    for (heard, said) in tones.chunks(MOST_MS).zip(sent.chunks_mut(MOST_MS)) {
-        let _ = set.run(heard, said);
+    let mut row = Row {
+        value: PATTERN,
+        ms: 0,
+    };
+    for _ in 0..ms / MOST_MS {
+        row = hear_call(out, set, row, tone, MOST_MS)?;
     }
-    for row in sent.chunk_by(|a, b| a == b) {
-        if let Some(value) = row.first() {
-            let ms = row.len();
-            writeln!(out, "sent {value} {ms}")?;
-        }
-    }
+    row = hear_call(out, set, row, tone, ms % MOST_MS)?;
+    print_sent(out, row)?;
     let choice = set.choice().unwrap_or(0);
     writeln!(out, "choice {choice}")
 }
 
 // A fresh set hears tones, each for its ms.
-fn set<W: Write>(out: &mut W, alloc: Global, heard: &[(u8, usize)]) -> io::Result<()> {
+fn set<W: Write>(out: &mut W, heard: &[(u8, usize)]) -> io::Result<()> {
     writeln!(out, "set")?;
     let mut set = Calling::fresh();
     for (tone, ms) in heard {
-        hear(out, alloc, &mut set, *tone, *ms)?;
+        hear(out, &mut set, *tone, *ms)?;
     }
     Ok(())
 }
@@ -78,7 +88,7 @@ fn call<W: Write>(out: &mut W, s: Calling, tone: u8, ms: usize, room: usize) -> 
 }
 
 // Each tone to one ms short of its length, its last ms, and what comes after the choice.
-fn tones<W: Write>(out: &mut W, alloc: Global) -> io::Result<()> {
+fn tones<W: Write>(out: &mut W) -> io::Result<()> {
     let all_but_one = [
         (1, 0),
         (2, 0),
@@ -94,26 +104,21 @@ fn tones<W: Write>(out: &mut W, alloc: Global) -> io::Result<()> {
     ];
     for (tone, short) in all_but_one {
         let next = tone % 11 + 1;
-        set(
-            out,
-            alloc,
-            &[(tone, short), (tone, 1), (0, 1_500), (next, 1_700)],
-        )?;
+        set(out, &[(tone, short), (tone, 1), (0, 1_500), (next, 1_700)])?;
     }
     Ok(())
 }
 
 // Tones that are interrupted by others and by none.
-fn interrupted<W: Write>(out: &mut W, alloc: Global) -> io::Result<()> {
-    set(out, alloc, &[(3, 499), (4, 499), (3, 499), (4, 500)])?;
-    set(out, alloc, &[(5, 1_699), (0, 1), (5, 1_699), (5, 1)])
+fn interrupted<W: Write>(out: &mut W) -> io::Result<()> {
+    set(out, &[(3, 499), (4, 499), (3, 499), (4, 500)])?;
+    set(out, &[(5, 1_699), (0, 1), (5, 1_699), (5, 1)])
 }
 
 // 399 and 400 ms of none after a tone.
-fn pauses<W: Write>(out: &mut W, alloc: Global) -> io::Result<()> {
+fn pauses<W: Write>(out: &mut W) -> io::Result<()> {
     set(
         out,
-        alloc,
         &[
             (0, 1_100),
             (6, 699),
@@ -125,7 +130,6 @@ fn pauses<W: Write>(out: &mut W, alloc: Global) -> io::Result<()> {
     )?;
     set(
         out,
-        alloc,
         &[
             (0, 8_300),
             (7, 1),
@@ -193,15 +197,15 @@ fn calls<W: Write>(out: &mut W) -> io::Result<()> {
     Ok(())
 }
 
-fn print_all<W: Write>(out: &mut W, alloc: Global) -> io::Result<()> {
-    set(out, alloc, &[(0, 22_400)])?;
-    tones(out, alloc)?;
-    interrupted(out, alloc)?;
-    pauses(out, alloc)?;
+fn print_all<W: Write>(out: &mut W) -> io::Result<()> {
+    set(out, &[(0, 22_400)])?;
+    tones(out)?;
+    interrupted(out)?;
+    pauses(out)?;
     states(out)?;
     calls(out)
 }
 
 fn main(rt: HostRuntime) -> io::Result<()> {
-    print_all(&mut rt.stdout(), rt.alloc())
+    print_all(&mut rt.stdout())
 }

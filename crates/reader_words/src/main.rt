@@ -94,6 +94,7 @@ fn read_text<W: Write>(out: &mut W, text: &[u8]) -> io::Result<()> {
 }
 
 fn main(rt: HostRuntime) -> io::Result<()> {
-    let text = test_io::read_start(rt.alloc(), rt.stdin(), MOST)?;
-    read_text(&mut rt.stdout(), &text)
+    let mut text = [0; MOST];
+    let n = test_io::read_full(&mut rt.stdin(), &mut text)?;
+    read_text(&mut rt.stdout(), &text[..n])
 }

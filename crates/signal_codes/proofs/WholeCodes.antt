@@ -1,13 +1,17 @@
 -- The levels of whole codes, element by element or key by key.
 use Rattle.std.proofs.Common.{◌≡◌, ◌∙◌, refl, sym, ap, ℕ, suc, ◌+◌, ◌-◌, ◌*◌, ◌/◌, ◌%◌, ◌^◌, ◌≤◌, ◌<◌, List, [], ◌++◌, length, get_or, take, drop, replicate, append_assoc, arith}
 use Rattle.std.specs.List.{between}
+use Rattle.std.proofs.lemmas.List.{length-take}
+use Rattle.std.proofs.lemmas.List.Edits.{sets}
 use borrow.Rule.Slice.PartMut.{put_mid}
 use mathlib.Core.List.{append-nil}
 use native.Mathlib.Numerals.{add-one}
 use lib.ListN.{drop_of_length-le}
 use lib.Seq.{drop-cons}
 use Rattle.lists.specs.Tables.{tabulate}
+use Rattle.lists.proofs.Lists.{sets-front}
 use Rattle.alphabet.specs.Dtmf.{keys_of}
+use Rattle.alphabet.specs.declared.Mode.{Mode}
 use Rattle.alphabet.specs.declared.Mode.TheVariants.{Dtmf, Edt}
 use Rattle.signal.specs.Signal.{mark, space, quiet, level_of, digits, held, baudot_signal, parity_of, edt_elements, edt_signal, held_keys, keys_signal, signal}
 use Rattle.signal.proofs.Lengths.{digits-length, held-length, baudot-length, edt-100, dtmf-120, four-keys}
@@ -121,3 +125,16 @@ module _ (ks sent : List ℕ) (k : ℕ) (w : Writing (keys_signal ks) sent (k * 
   pub keying-end : length ks ≤ k → sent ≡ keys_signal ks
   unfolding held_keys
   keying-end h = writing-end _ _ _ _ w (ap keys_signal (drop_of_length-le ks h))
+
+-- a whole code at the front of a slice
+module _ (xs : List ℕ) (mode m : Mode) (k n : ℕ) (e : mode ≡ m) (d : n ≡ length (signal mode k))
+    (h : length (signal mode k) ≤ length xs) where
+  pub front-length : length (take n xs) ≡ length (signal m k)
+  front-length =
+      let f = ap (λ (o : Mode). length (signal o k)) e in
+      omega (arith, length-take {A = ℕ})
+
+  pub front-written : (new : List ℕ) → new ≡ signal m k → new ++ drop n xs ≡ sets xs 0 (signal mode k)
+  front-written new w =
+      ap (λ (l : List ℕ). l ++ drop n xs) (w ∙ sym (ap (λ (o : Mode). signal o k) e))
+      ∙ ap (λ (j : ℕ). signal mode k ++ drop j xs) d ∙ sym (sets-front xs (signal mode k) h)

@@ -1,7 +1,8 @@
-// Whole codes: all levels of one, written to a slice of its length.
+// Whole codes: all levels of one, written to a slice.
 #![tactic(auto)]
 
-ghost use Rattle.std.specs.Prelude.{◌≡◌, ◌<◌, length};
+ghost use Rattle.std.specs.Prelude.{◌≡◌, ◌≤◌, ◌<◌, length};
+ghost use Rattle.std.proofs.lemmas.List.Edits.{sets};
 ghost use Rattle.alphabet.specs.Modes.{alphabet_of, codes};
 ghost use Rattle.alphabet.specs.declared.Mode.TheVariants as mode;
 ghost use Rattle.signal.specs.Signal.{digits, held, baudot_signal, signal};
@@ -75,17 +76,18 @@ fn put_edt(code: LineCode, sent: &mut [u8])
     fill_ms(&mut sent[EDT_STOPS..EDT_CODE], Mode::MARK);
 }
 
-// All ms of a code. Baudot has two arms: with its element a constant, the compiler makes a few stores of each level.
-#[tactic(auto, unfolding(signal::specs::Signal::signal))]
+// All ms of a code, from the front. Baudot has two arms: with its element a constant, the compiler makes a few stores
+// of each level.
 pub fn put_whole(mode: Mode, code: LineCode, sent: &mut [u8])
     requires code_bound { code.0 < codes (alphabet_of mode) }
-    requires sent_len { length sent.old ≡ length (signal mode code.0) }
-    ensures { sent.new ≡ signal mode code.0 }
+    requires code_in_bounds { length (signal mode code.0) ≤ length sent.old }
+    ensures { sent.new ≡ sets sent.old 0 (signal mode code.0) }
 {
+    let whole = &mut sent[..signal::duration(mode, code) as usize];
     match mode {
-        Mode::Baudot45 => put_baudot(BAUDOT_45_ELEMENT, code, sent),
-        Mode::Baudot50 => put_baudot(BAUDOT_50_ELEMENT, code, sent),
-        Mode::Dtmf => put_dtmf(code, sent),
-        Mode::Edt => put_edt(code, sent),
+        Mode::Baudot45 => put_baudot(BAUDOT_45_ELEMENT, code, whole),
+        Mode::Baudot50 => put_baudot(BAUDOT_50_ELEMENT, code, whole),
+        Mode::Dtmf => put_dtmf(code, whole),
+        Mode::Edt => put_edt(code, whole),
     }
 }

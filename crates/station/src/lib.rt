@@ -4,9 +4,9 @@
 ghost use Rattle.std.specs.Prelude.{◌≡◌, IfOk};
 ghost use Rattle.refusals.specs.Refusals.{answer_of};
 ghost use Rattle.half_duplex.specs.Core.{fresh_core};
-ghost use Rattle.station.specs.Station.{reader_offered, offered_to};
+ghost use Rattle.station.specs.Station.{station, reader_offered, offered_to};
 ghost use Rattle.station.specs.Measured.{station_of};
-ghost use Rattle.station.specs.Range.{measured_in};
+ghost use Rattle.station.specs.Range.{in_range, measured_in};
 ghost use Rattle.station.specs.Entries.{open_of, offer_answer, offer_of};
 
 use alphabet::{Alphabet, Mode};
@@ -58,6 +58,13 @@ fn reader_offered(a: Alphabet, text: &[u8], r: Reader) -> Reader
     }
 }
 
+// Are the numbers of a station beside its edges in range?
+pub fn station_in(c: Core, chars: &[u8; 256]) -> bool
+    ensures { result ≡ in_range (station c chars.now) }
+{
+    half_duplex::in_range(c) && queue::in_range(Mode::of(c.mode).alphabet(), c.waiting, chars)
+}
+
 impl Measured {
     // Opening it: of mode 1 to 4. A refusal opens it of mode 1.
     pub fn open(&mut self, mode: u8) -> Result<(), Refusal>
@@ -76,10 +83,8 @@ impl Measured {
     pub fn in_range(&self) -> bool
         ensures { result ≡ measured_in self.now }
     {
-        let mode = Mode::of(self.core.mode);
-        half_duplex::in_range(self.core)
-            && queue::in_range(mode.alphabet(), self.core.waiting, &self.chars)
-            && edges::in_range(mode, self.core.reader.frame, self.edges)
+        station_in(self.core, &self.chars)
+            && edges::in_range(Mode::of(self.core.mode), self.core.reader.frame, self.edges)
     }
 
     // The questions of an offer, and how many wait after it.

@@ -6,15 +6,15 @@
 // is what the reference prints.
 #![tactic(auto)]
 
-ghost use Rattle.std.specs.Prelude.{◌≤◌, ◌<◌, vec_len};
+ghost use Rattle.std.specs.Prelude.{◌≤◌, ◌<◌};
 
+use arrayvec::ArrayVec;
 use baudot::Sender;
 use burst::OnLine;
 use half_duplex::Core;
 use reader::Reader;
 use refusals::answer;
 use station::Measured;
-use std::alloc::{AllocError, Global};
 use std::io;
 use std::io::Write;
 use test_io::{Pairs, Row, count, print_sent};
@@ -57,12 +57,10 @@ fn run(station: &mut Measured, heard: &[u8], sent: &mut [u8], words: &mut [u32])
 }
 
 // So many more of a value, as far as there is room.
-fn put(values: &mut Vec<u8>, value: u8, count: u8) -> Result<(), AllocError>
-    requires { vec_len values.old ≤ 4100 }
-    ensures { vec_len values.new ≤ 4100 }
-{
-    let length = ROOM.min(values.len() + usize::from(count));
-    values.resize(length, value)
+fn put(values: &mut ArrayVec<u8, ROOM>, value: u8, count: u8) {
+    for _ in 0..count {
+        let _ = values.try_push(value);
+    }
 }
 
 // The digit of a character, that many behind 0; 0 for a byte that is none.
@@ -80,20 +78,18 @@ fn digit(b: u8) -> u8
 #[derive(Drop)]
 struct Play {
     station: Measured,
-    heard: Vec<u8>,
-    text: Vec<u8>,
+    heard: ArrayVec<u8, ROOM>,
+    text: ArrayVec<u8, ROOM>,
     high: u8,
     last: u8,
-    ghost heard_bound: { vec_len heard ≤ 4100 },
-    ghost text_bound: { vec_len text ≤ 4100 },
 }
 
 impl Play {
-    fn new(alloc: Global) -> Play {
+    fn new() -> Play {
         Play {
             station: fresh(),
-            heard: Vec::new(alloc),
-            text: Vec::new(alloc),
+            heard: ArrayVec::new(),
+            text: ArrayVec::new(),
             high: 0,
             last: 0,
         }
@@ -159,7 +155,7 @@ impl Play {
     // A pair of bytes; one that is none of these changes nothing.
     fn pair<W: Write>(&mut self, out: &mut W, first: u8, second: u8) -> io::Result<()> {
         match first {
-            b'0'..=b'Z' => put(&mut self.heard, first - b'0', count(second))?,
+            b'0'..=b'Z' => put(&mut self.heard, first - b'0', count(second)),
             b'm' => {
                 if let b'0'..=b'~' = second {
                     self.open(out, second - b'0')?;
@@ -168,11 +164,11 @@ impl Play {
             b'u' => self.high = 16 * digit(second),
             b'l' => {
                 self.last = self.high.wrapping_add(digit(second));
-                put(&mut self.text, self.last, 1)?;
+                put(&mut self.text, self.last, 1);
                 self.high = 0;
             }
             b'n' => {
-                put(&mut self.text, self.last, count(second))?;
+                put(&mut self.text, self.last, count(second));
                 self.high = 0;
             }
             b'o' => self.offer(out)?,
@@ -183,8 +179,8 @@ impl Play {
     }
 }
 
-fn play_all<W: Write>(alloc: Global, out: &mut W, input: &[u8]) -> io::Result<()> {
-    let mut play = Play::new(alloc);
+fn play_all<W: Write>(out: &mut W, input: &[u8]) -> io::Result<()> {
+    let mut play = Play::new();
     for (first, second) in Pairs(input) {
         play.pair(out, first, second)?;
     }
@@ -192,6 +188,7 @@ fn play_all<W: Write>(alloc: Global, out: &mut W, input: &[u8]) -> io::Result<()
 }
 
 fn main(rt: HostRuntime) -> io::Result<()> {
-    let input = test_io::read_start(rt.alloc(), rt.stdin(), MOST)?;
-    play_all(rt.alloc(), &mut rt.stdout(), &input)
+    let mut input = [0; MOST];
+    let n = test_io::read_full(&mut rt.stdin(), &mut input)?;
+    play_all(&mut rt.stdout(), &input[..n])
 }

@@ -2,12 +2,12 @@
 // counts.
 #![tactic(auto)]
 
-ghost use Rattle.std.specs.Prelude.{◌≡◌, ℕ, ◌+◌, ◌≤◌, IfOk, IfSome, IfNone, length, take, vec_len};
+ghost use Rattle.std.specs.Prelude.{◌≡◌, ℕ, ◌+◌, ◌≤◌, ◌<◌, IfOk, IfSome, IfNone, length, take};
+ghost use Rattle.std.specs.Io.KnownBytes.{Consumes, IsAtEnd};
 ghost use Rattle.std.specs.Iterator.{at_most};
 
 use alphabet::LineCode;
-use std::alloc::Global;
-use std::io::{Read, Write};
+use std::io::{ErrorKind, Read, Write};
 use std::{fmt, io, mem};
 
 // A key as printed: 10 is 0, 11 is *, 12 is #. Nothing for 0, no key.
@@ -92,15 +92,29 @@ pub fn sent_all<W: Write>(out: &mut W, row: Row, sent: &[u8]) -> io::Result<Row>
     Ok(row)
 }
 
-// The first bytes of an input, up to a limit.
-pub fn read_start<R: Read + Drop>(alloc: Global, input: R, limit: usize) -> io::Result<Vec<u8>>
-    ensures within { IfOk result (λ read. vec_len read ≤ limit) }
-    ensures start { IfOk result (λ read. IfSome (R.remaining input) (λ bytes. read.items ≡ take limit bytes)) }
+// Reads until the buffer is full or the input ends; how many bytes there are. They are the input's next, and all of
+// them if the buffer is not full. The programs lend arrays: with a Vec they could run out of memory.
+pub fn read_full<R: Read>(input: &mut R, buffer: &mut [u8]) -> io::Result<usize>
+    ensures within { IfOk result (λ n. n ≤ length buffer.new) }
+    ensures front { IfOk result (λ n. Consumes (R.remaining input.old) (R.remaining input.new) (take n buffer.new)) }
+    ensures ended { IfOk result (λ n. n < length buffer.new → IsAtEnd (R.remaining input.new)) }
 {
-    let mut read = Vec::new(alloc);
-    input.take(limit as u64).read_to_end(&mut read)?;
-    read.truncate(limit);
-    Ok(read)
+    let mut n = 0;
+    for _ in 0..u64::MAX {
+        if buffer.len() <= n {
+            return Ok(n);
+        }
+        match input.read(&mut buffer[n..]) {
+            Ok(0) => return Ok(n),
+            Ok(more) => n += more,
+            Err(e) => {
+                if e.kind() != ErrorKind::Interrupted {
+                    return Err(e);
+                }
+            }
+        }
+    }
+    Err(ErrorKind::Interrupted.into())
 }
 
 const LF: u8 = b'\n';
@@ -138,12 +152,13 @@ mod tests {
     use std::test::Fail;
 
     #[test]
-    fn reads_start(rt: HostRuntime) -> Result<(), Fail> {
-        let input = b"codes";
-        let front = read_start(rt.alloc(), input.as_slice(), 3)?;
-        assert_eq!(rt; front.as_slice(), b"cod".as_slice());
-        let all = read_start(rt.alloc(), input.as_slice(), 8)?;
-        assert_eq!(rt; all.as_slice(), b"codes".as_slice());
+    fn reads_until_full(rt: HostRuntime) -> Result<(), Fail> {
+        let mut input = b"codes".as_slice();
+        let mut buffer = [0; 3];
+        assert_eq!(rt; read_full(&mut input, &mut buffer)?, 3);
+        assert_eq!(rt; buffer.as_slice(), b"cod".as_slice());
+        assert_eq!(rt; read_full(&mut input, &mut buffer)?, 2);
+        assert_eq!(rt; buffer.as_slice(), b"esd".as_slice());
         Ok(())
     }
 

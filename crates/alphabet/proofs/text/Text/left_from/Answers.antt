@@ -1,6 +1,6 @@
 -- `Text::left_from` meets its contract: what is left of characters is characters.
 use mathlib.Core.Path.{sym}
-use lib.ListN.{length, drop, length-drop}
+use lib.ListN.{drop, length-drop}
 use lib.Seq.{take-length}
 use Rattle.lists.proofs.Lists.{at-most-drop}
 use Rattle.alphabet.proofs.text.Text.left_from.Goals as goal

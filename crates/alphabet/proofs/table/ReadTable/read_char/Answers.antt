@@ -1,9 +1,0 @@
--- `ReadTable::read_char` meets its contract: the table has the characters of both shifts.
-use Rattle.alphabet.proofs.Packing.{table-char}
-use Rattle.alphabet.proofs.table.ReadTable.read_char.Goals as goal
-
-pub returns : goal.returns
-returns c =
-    let n = c.requires.fact in
-    table-char c.args.shift c.args.code.0 n.0 n.1 c.args.self.now.entries
-    c.args.self.now.read c.requires.le_shift.0 c.requires.le_shift.1 c.requires.code_bound
