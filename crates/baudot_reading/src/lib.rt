@@ -21,7 +21,7 @@ pub struct Taken {
     pub shift: u8,
 }
 
-// A code, read at a place. By `==` of codes, or by `else`, a list of one shift code takes a third longer.
+// A code, read at a place.
 fn put_code(table: &ReadTable, text: &mut [u8], taken: Taken, code: LineCode) -> Taken
     requires le_shift { (1 ≤ taken.shift) × (taken.shift ≤ 2) }
     requires code_bound { code.0 < 32 }
@@ -33,14 +33,14 @@ fn put_code(table: &ReadTable, text: &mut [u8], taken: Taken, code: LineCode) ->
     ensures text_after { text.new ≡ sets text.old taken.at (chars_of (read_baudot taken.shift code.0)) }
 {
     let Taken { at, shift } = taken;
-    if code.0 == LETTERS.0 {
-        return Taken { at, shift: 1 };
+    if code == LETTERS {
+        Taken { at, shift: 1 }
+    } else if code == FIGURES {
+        Taken { at, shift: 2 }
+    } else {
+        text[at] = table.read_char(shift, code).0;
+        Taken { at: at + 1, shift }
     }
-    if code.0 == FIGURES.0 {
-        return Taken { at, shift: 2 };
-    }
-    text[at] = table.read_char(shift, code).0;
-    Taken { at: at + 1, shift }
 }
 
 // A list of codes, read from the front.
