@@ -2,11 +2,12 @@
 // counts.
 #![tactic(auto)]
 
-ghost use Rattle.std.specs.Prelude.{◌≡◌, ℕ, ◌+◌, ◌≤◌, ◌<◌, IfOk, IfSome, IfNone, length, take};
+ghost use Rattle.std.specs.Prelude.{◌≡◌, ℕ, ◌+◌, ◌≤◌, ◌<◌, IfOk, IfSome, IfNone, length, take, vec_len};
 ghost use Rattle.std.specs.Io.KnownBytes.{Consumes, IsAtEnd};
 ghost use Rattle.std.specs.Iterator.{at_most};
 
 use alphabet::LineCode;
+use std::alloc::Global;
 use std::io::{ErrorKind, Read, Write};
 use std::{fmt, io, mem};
 
@@ -117,6 +118,18 @@ pub fn read_full<R: Read>(input: &mut R, buffer: &mut [u8]) -> io::Result<usize>
     Err(ErrorKind::Interrupted.into())
 }
 
+// The first bytes of an input, up to a limit, for a caller without room for the limit: the Vec grows with what comes.
+// It can run out of memory, and loses the rest of a packet that is longer than one read: the programs use `read_full`.
+pub fn read_start<R: Read + Drop>(alloc: Global, input: R, limit: usize) -> io::Result<Vec<u8>>
+    ensures within { IfOk result (λ read. vec_len read ≤ limit) }
+    ensures start { IfOk result (λ read. IfSome (R.remaining input) (λ bytes. read.items ≡ take limit bytes)) }
+{
+    let mut read = Vec::new(alloc);
+    input.take(limit as u64).read_to_end(&mut read)?;
+    read.truncate(limit);
+    Ok(read)
+}
+
 const LF: u8 = b'\n';
 
 // The pairs of bytes of a text, with LF between them anywhere. A last byte that is alone is none.
@@ -159,6 +172,16 @@ mod tests {
         assert_eq!(rt; buffer.as_slice(), b"cod".as_slice());
         assert_eq!(rt; read_full(&mut input, &mut buffer)?, 2);
         assert_eq!(rt; buffer.as_slice(), b"esd".as_slice());
+        Ok(())
+    }
+
+    #[test]
+    fn reads_start(rt: HostRuntime) -> Result<(), Fail> {
+        let input = b"codes";
+        let front = read_start(rt.alloc(), input.as_slice(), 3)?;
+        assert_eq!(rt; front.as_slice(), b"cod".as_slice());
+        let all = read_start(rt.alloc(), input.as_slice(), 8)?;
+        assert_eq!(rt; all.as_slice(), b"codes".as_slice());
         Ok(())
     }
 
